@@ -1,5 +1,6 @@
 -- The outcomes of the calls of a reader in many calls of `next`.
 use Rattle.std.proofs.Common.{◌≡◌, ℕ, List, Option, Result, refl, subst, sym, inl, inr}
+use Rattle.mtrace_log.specs.Shown.{ReaderState}
 use Rattle.mtrace_log.specs.Trace.{HasGivenAll, HasNotFailed}
 use Rattle.mtrace_log.specs.Progress.{Progress, Stage, Reading, Ended, Faulted, ReadsLine, FindsEnd, GivesFault, CallsFor}
 use Rattle.mtrace_log.specs.declared.call.Call.{Call}
@@ -32,34 +33,34 @@ calls_of_line Ended start after left_old left_new answer taken calls = inr calls
 calls_of_line (Faulted fault) start after left_old left_new answer taken calls = absurd taken
 
 -- the end
-pub calls_to_end : {R : Type 0} (trace : R → List Call) (start : List Call) (old new : Progress) (reader_old reader_new : R) (left_old left_new : Option (List ℕ))
-    → CallsFor old.stage start (trace reader_old) → (old.stage ≡ Reading → CallsFor new.stage (trace reader_old) (trace reader_new))
-    → new.stage ≡ Ended → FindsEnd old.stage old new reader_old reader_new left_old left_new → HasGivenAll start (trace reader_new)
-calls_to_end {R} trace start old new reader_old reader_new left_old left_new first second ended found = by_stage old.stage first second found
+pub calls_to_end : {R : Type 0} (shown : R → ReaderState) (start : List Call) (old new : Progress) (reader_old reader_new : R) (left_old left_new : Option (List ℕ))
+    → CallsFor old.stage start (shown reader_old).calls → (old.stage ≡ Reading → CallsFor new.stage (shown reader_old).calls (shown reader_new).calls)
+    → new.stage ≡ Ended → FindsEnd old.stage old new reader_old reader_new left_old left_new → HasGivenAll start (shown reader_new).calls
+calls_to_end {R} shown start old new reader_old reader_new left_old left_new first second ended found = by_stage old.stage first second found
   where
-    by_stage : (stage : Stage) → CallsFor stage start (trace reader_old) → (stage ≡ Reading → CallsFor new.stage (trace reader_old) (trace reader_new))
-        → FindsEnd stage old new reader_old reader_new left_old left_new → HasGivenAll start (trace reader_new)
+    by_stage : (stage : Stage) → CallsFor stage start (shown reader_old).calls → (stage ≡ Reading → CallsFor new.stage (shown reader_old).calls (shown reader_new).calls)
+        → FindsEnd stage old new reader_old reader_new left_old left_new → HasGivenAll start (shown reader_new).calls
     by_stage Reading first second found =
-        let P : Stage → Type 0 = λ stage. CallsFor stage start (trace reader_new) in
-        subst P ended (calls_more Reading new.stage start (trace reader_old) (trace reader_new) refl first second)
+        let P : Stage → Type 0 = λ stage. CallsFor stage start (shown reader_new).calls in
+        subst P ended (calls_more Reading new.stage start (shown reader_old).calls (shown reader_new).calls refl first second)
     by_stage Ended first second found =
-        let P : R → Type 0 = λ reader. HasGivenAll start (trace reader) in
+        let P : R → Type 0 = λ reader. HasGivenAll start (shown reader).calls in
         subst P (sym found.1) first
     by_stage (Faulted fault) first second found = absurd found
 
 -- a fault
-pub calls_to_fault : {R : Type 0} (trace : R → List Call) (start : List Call) (old new : Progress) (reader_old reader_new : R) (left_old left_new : Option (List ℕ)) (fault : ReadFault)
-    → CallsFor old.stage start (trace reader_old) → (old.stage ≡ Reading → CallsFor new.stage (trace reader_old) (trace reader_new))
-    → GivesFault old.stage fault old new reader_old reader_new left_old left_new → CallsFor (Faulted fault) start (trace reader_new)
-calls_to_fault {R} trace start old new reader_old reader_new left_old left_new fault first second given = by_stage old.stage first second given
+pub calls_to_fault : {R : Type 0} (shown : R → ReaderState) (start : List Call) (old new : Progress) (reader_old reader_new : R) (left_old left_new : Option (List ℕ)) (fault : ReadFault)
+    → CallsFor old.stage start (shown reader_old).calls → (old.stage ≡ Reading → CallsFor new.stage (shown reader_old).calls (shown reader_new).calls)
+    → GivesFault old.stage fault old new reader_old reader_new left_old left_new → CallsFor (Faulted fault) start (shown reader_new).calls
+calls_to_fault {R} shown start old new reader_old reader_new left_old left_new fault first second given = by_stage old.stage first second given
   where
-    by_stage : (stage : Stage) → CallsFor stage start (trace reader_old) → (stage ≡ Reading → CallsFor new.stage (trace reader_old) (trace reader_new))
-        → GivesFault stage fault old new reader_old reader_new left_old left_new → CallsFor (Faulted fault) start (trace reader_new)
+    by_stage : (stage : Stage) → CallsFor stage start (shown reader_old).calls → (stage ≡ Reading → CallsFor new.stage (shown reader_old).calls (shown reader_new).calls)
+        → GivesFault stage fault old new reader_old reader_new left_old left_new → CallsFor (Faulted fault) start (shown reader_new).calls
     by_stage Reading first second given =
-        let P : Stage → Type 0 = λ stage. CallsFor stage start (trace reader_new) in
-        subst P given.0 (calls_more Reading new.stage start (trace reader_old) (trace reader_new) refl first second)
+        let P : Stage → Type 0 = λ stage. CallsFor stage start (shown reader_new).calls in
+        subst P given.0 (calls_more Reading new.stage start (shown reader_old).calls (shown reader_new).calls refl first second)
     by_stage Ended first second given = absurd given
     by_stage (Faulted was) first second given =
-        let P : R → Type 0 = λ reader. CallsFor (Faulted was) start (trace reader) in
-        let Q : ReadFault → Type 0 = λ f. CallsFor (Faulted f) start (trace reader_new) in
+        let P : R → Type 0 = λ reader. CallsFor (Faulted was) start (shown reader).calls in
+        let Q : ReadFault → Type 0 = λ f. CallsFor (Faulted f) start (shown reader_new).calls in
         subst Q (sym given.0) (subst P (sym given.2) first)

@@ -2,6 +2,7 @@
 use Rattle.std.proofs.Common.{◌≡◌, ℕ, List, [], ◌∷◌, ◌++◌, Option, Result, sym, ap, ◌∙◌, subst, append-nil}
 use Rattle.std.specs.Io.KnownBytes.{prepend_known, IsAtEnd}
 use Rattle.std.proofs.KnownBytes.{prepend_known-nil}
+use Rattle.mtrace_log.specs.Shown.{ReaderState}
 use Rattle.mtrace_log.specs.Bytes.{Lacks, newline}
 use Rattle.mtrace_log.specs.Lines.{lines_of, ReadAs}
 use Rattle.mtrace_log.specs.Progress.{Stage, Reading, Ended, Faulted, Progress, to_come, ReadsLine, GivesLine, FindsEnd, StopsReading, GivesFault}
@@ -95,38 +96,38 @@ HasReadSo-line start before after old new line events so_far given =
     taken_by (Faulted fault) taken reading = absurd taken
 
 -- nothing changed
-unchanged : {R : Type 0} (left : R → Option (List ℕ)) (old new : Progress) (reader_old reader_new : R) → new ≡ old → reader_new ≡ reader_old
-    → to_come old (left reader_old) ≡ to_come new (left reader_new)
-unchanged left old new reader_old reader_new lines reader =
-    ap (λ r. to_come old (left r)) (sym reader) ∙ ap (λ l. to_come l (left reader_new)) (sym lines)
+unchanged : {R : Type 0} (shown : R → ReaderState) (old new : Progress) (reader_old reader_new : R) → new ≡ old → reader_new ≡ reader_old
+    → to_come old (shown reader_old).left ≡ to_come new (shown reader_new).left
+unchanged shown old new reader_old reader_new lines reader =
+    ap (λ r. to_come old (shown r).left) (sym reader) ∙ ap (λ l. to_come l (shown reader_new).left) (sym lines)
 
 -- the end
-pub HasReadSo-end : {R : Type 0} (left : R → Option (List ℕ)) (start : Option (List ℕ)) (old new : Progress) (reader_old reader_new : R) (events : List (Result Event LineFault))
-    → HasReadSo old.stage start (to_come old (left reader_old)) events
-    → FindsEnd old.stage old new reader_old reader_new (to_come old (left reader_old)) (to_come new (left reader_new))
-    → HasReadAll start (to_come new (left reader_new)) events
-HasReadSo-end {R} left start old new reader_old reader_new events so_far found = by_stage old.stage so_far found
+pub HasReadSo-end : {R : Type 0} (shown : R → ReaderState) (start : Option (List ℕ)) (old new : Progress) (reader_old reader_new : R) (events : List (Result Event LineFault))
+    → HasReadSo old.stage start (to_come old (shown reader_old).left) events
+    → FindsEnd old.stage old new reader_old reader_new (to_come old (shown reader_old).left) (to_come new (shown reader_new).left)
+    → HasReadAll start (to_come new (shown reader_new).left) events
+HasReadSo-end {R} shown start old new reader_old reader_new events so_far found = by_stage old.stage so_far found
   where
-    by_stage : (stage : Stage) → HasReadSo stage start (to_come old (left reader_old)) events
-        → FindsEnd stage old new reader_old reader_new (to_come old (left reader_old)) (to_come new (left reader_new))
-        → HasReadAll start (to_come new (left reader_new)) events
-    by_stage Reading before end = HasRead-end start (to_come new (left reader_new)) events (subst (λ text. HasRead start text events) end.1 before) end.2
-    by_stage Ended before end = subst (λ text. HasReadAll start text events) (unchanged left old new reader_old reader_new end.0 end.1) before
+    by_stage : (stage : Stage) → HasReadSo stage start (to_come old (shown reader_old).left) events
+        → FindsEnd stage old new reader_old reader_new (to_come old (shown reader_old).left) (to_come new (shown reader_new).left)
+        → HasReadAll start (to_come new (shown reader_new).left) events
+    by_stage Reading before end = HasRead-end start (to_come new (shown reader_new).left) events (subst (λ text. HasRead start text events) end.1 before) end.2
+    by_stage Ended before end = subst (λ text. HasReadAll start text events) (unchanged shown old new reader_old reader_new end.0 end.1) before
     by_stage (Faulted fault) before end = absurd end
 
 -- a fault
-pub HasReadSo-fault : {R : Type 0} (left : R → Option (List ℕ)) (start : Option (List ℕ)) (old new : Progress) (reader_old reader_new : R) (fault : ReadFault) (events : List (Result Event LineFault))
-    → HasReadSo old.stage start (to_come old (left reader_old)) events
-    → GivesFault old.stage fault old new reader_old reader_new (to_come old (left reader_old)) (to_come new (left reader_new))
-    → HasReadBefore start (to_come new (left reader_new)) events
-HasReadSo-fault {R} left start old new reader_old reader_new fault events so_far given = by_stage old.stage so_far given
+pub HasReadSo-fault : {R : Type 0} (shown : R → ReaderState) (start : Option (List ℕ)) (old new : Progress) (reader_old reader_new : R) (fault : ReadFault) (events : List (Result Event LineFault))
+    → HasReadSo old.stage start (to_come old (shown reader_old).left) events
+    → GivesFault old.stage fault old new reader_old reader_new (to_come old (shown reader_old).left) (to_come new (shown reader_new).left)
+    → HasReadBefore start (to_come new (shown reader_new).left) events
+HasReadSo-fault {R} shown start old new reader_old reader_new fault events so_far given = by_stage old.stage so_far given
   where
-    by_stage : (stage : Stage) → HasReadSo stage start (to_come old (left reader_old)) events
-        → GivesFault stage fault old new reader_old reader_new (to_come old (left reader_old)) (to_come new (left reader_new))
-        → HasReadBefore start (to_come new (left reader_new)) events
-    by_stage Reading before stop = HasRead-fault fault old.count start (to_come old (left reader_old)) (to_come new (left reader_new)) events before stop.2
+    by_stage : (stage : Stage) → HasReadSo stage start (to_come old (shown reader_old).left) events
+        → GivesFault stage fault old new reader_old reader_new (to_come old (shown reader_old).left) (to_come new (shown reader_new).left)
+        → HasReadBefore start (to_come new (shown reader_new).left) events
+    by_stage Reading before stop = HasRead-fault fault old.count start (to_come old (shown reader_old).left) (to_come new (shown reader_new).left) events before stop.2
     by_stage Ended before stop = absurd stop
-    by_stage (Faulted first) before stop = subst (λ text. HasReadBefore start text events) (unchanged left old new reader_old reader_new stop.1 stop.2) before
+    by_stage (Faulted first) before stop = subst (λ text. HasReadBefore start text events) (unchanged shown old new reader_old reader_new stop.1 stop.2) before
 
 -- ---- the text to come and what the reader has left
 

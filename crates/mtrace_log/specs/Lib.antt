@@ -10,6 +10,7 @@ pub mod Fields
 pub mod Sixteen
 pub mod Frequent
 pub mod Lines
+pub mod Shown
 pub mod Trace
 pub mod Output
 pub mod Buffer

@@ -1,5 +1,6 @@
 -- What a clause reads of the reader and the writer over memory.
 use Rattle.std.specs.Prelude.{◌≡◌, ◌↔◌, ℕ, zero, suc, List, ◌∷◌, length, min, Bool, Option, Some, None, Result, IsErr, OnErr}
+use Rattle.mtrace_log.specs.Shown.{ReaderState, WriterState}
 use Rattle.mtrace_log.specs.declared.call.Call.{Call}
 use Rattle.mtrace_log.specs.declared.memory.memory_source.MemorySource.{MemorySource}
 use Rattle.mtrace_log.specs.declared.memory.memory_sink.MemorySink.{MemorySink}
@@ -9,17 +10,9 @@ use Rattle.mtrace_log.specs.declared.memory.memory_sink.Full.{Full as WhenFull}
 abbrev pub source_left : MemorySource → List ℕ
 source_left source = source.rest.now
 
--- those bytes, which are known
-abbrev pub known_left : MemorySource → Option (List ℕ)
-known_left source = Some (source_left source)
-
 -- the bytes from the first on
 abbrev pub source_whole : MemorySource → List ℕ
 source_whole source = source.whole.now
-
--- those bytes, which are known
-abbrev pub known_whole : MemorySource → Option (List ℕ)
-known_whole source = Some (source_whole source)
 
 -- the greatest piece that a call gives
 abbrev pub source_piece : MemorySource → ℕ
@@ -43,6 +36,10 @@ source_count source room = min (min (length (source_left source)) (source_piece 
 abbrev pub source_trace : MemorySource → List Call
 source_trace source = source.trace.calls
 
+-- what it shows: all bytes are known
+abbrev pub source_shown : MemorySource → ReaderState
+source_shown source = record { left = Some (source_left source); whole = Some (source_whole source); calls = source_trace source }
+
 -- the reader with these bytes left and in whole, of this greatest piece; after how many calls one fails, if one does; and its calls
 pub record IsSource (rest all : List ℕ) (most : ℕ) (failing : Option ℕ) (past : List Call) (source : MemorySource) : Type 0 where
   pub left : source_left source ≡ rest
@@ -53,8 +50,8 @@ pub record IsSource (rest all : List ℕ) (most : ℕ) (failing : Option ℕ) (p
 
 -- one call, which fails exactly where it is to; then no byte is lost
 pub record IsCalled {T E : Type 0} (call : Call) (result : Result T E) (old new : MemorySource) : Type 0 where
-  pub kept : OnErr result (known_left new ≡ known_left old)
-  pub whole : known_whole new ≡ known_whole old
+  pub kept : OnErr result ((source_shown new).left ≡ (source_shown old).left)
+  pub whole : (source_shown new).whole ≡ (source_shown old).whole
   pub fails : IsErr result ↔ (calls_before_failure old ≡ Some 0)
   pub calls : calls_before_failure new ≡ one_call_less (calls_before_failure old)
   pub piece : source_piece new ≡ source_piece old
@@ -83,6 +80,10 @@ flush_fails sink = sink.flush_fails
 -- the outcomes of its calls, the latest first
 abbrev pub sink_trace : MemorySink → List Call
 sink_trace sink = sink.trace.calls
+
+-- what it shows: all bytes are known
+abbrev pub sink_shown : MemorySink → WriterState
+sink_shown sink = record { taken = Some (sink_taken sink); calls = sink_trace sink }
 
 -- how many of the bytes offered a call takes
 abbrev pub sink_count : MemorySink → ℕ → ℕ

@@ -6,6 +6,7 @@ use Rattle.mtrace_log.specs.Reading.{Reads}
 use Rattle.mtrace_log.specs.Event.{Event}
 use Rattle.mtrace_log.specs.declared.event.LineFault.{LineFault}
 use Rattle.mtrace_log.specs.declared.event.LineFault.TheVariants.{TooLong}
+use Rattle.mtrace_log.specs.Shown.{Bytes, ReaderState}
 use Rattle.mtrace_log.specs.Trace.{HasGiven, HasGivenAll, HasGivenAndFailed}
 use Rattle.mtrace_log.specs.declared.call.Call.{Call}
 use Rattle.mtrace_log.specs.declared.line.Line.{Line}
@@ -32,7 +33,7 @@ Says (Some bytes) answer = Reads bytes answer
 Says None answer = answer ≡ Err TooLong
 
 -- the text to come: the bytes held, and then what the reader has left
-abbrev pub to_come : Progress → Option (List ℕ) → Option (List ℕ)
+abbrev pub to_come : Progress → Bytes → Bytes
 to_come lines left = prepend_known lines.held left
 
 -- some byte is to come
@@ -45,7 +46,7 @@ greatest_number = 2 ^ 64 - 1
 
 -- One line of the text: while reading a piece with its newline, and at the end a piece that isn't
 -- empty, behind which nothing comes. The piece reads as the answer.
-abbrev pub ReadsLine : Stage → Option (List ℕ) → Option (List ℕ) → Result Event LineFault → Type 0
+abbrev pub ReadsLine : Stage → Bytes → Bytes → Result Event LineFault → Type 0
 ReadsLine Reading before after answer = (piece : List ℕ) × Lacks newline piece × Reads piece answer
     × (before ≡ prepend_known (piece ++ newline ∷ []) after)
 ReadsLine Ended before after answer = (piece : List ℕ) × Lacks newline piece × Reads piece answer
@@ -53,32 +54,32 @@ ReadsLine Ended before after answer = (piece : List ℕ) × Lacks newline piece 
 ReadsLine (Faulted fault) before after answer = ⊥
 
 -- a call gave a line: the next one of the text, with the next number
-pub record GivesLine (old new : Progress) (before after : Option (List ℕ)) (line : Line) : Type 0 where
+pub record GivesLine (old new : Progress) (before after : Bytes) (line : Line) : Type 0 where
   pub was_reading : old.stage ≡ Reading
   pub number : line.number ≡ old.count + 1
   pub count : new.count ≡ line.number
   pub taken : ReadsLine new.stage before after line.event
 
 -- a call passed over a line: whatever that says, it is the next one of the text, with this number
-abbrev pub PassesLine : (old new : Progress) (before after : Option (List ℕ)) → ℕ → Type 0
+abbrev pub PassesLine : (old new : Progress) (before after : Bytes) → ℕ → Type 0
 PassesLine old new before after number =
     (answer : Result Event LineFault) → Says new.last answer → GivesLine old new before after (record { number = number; event = answer })
 
 -- a call that gave no line found the end of the text. Where the end was told before, it asked nothing and changed
 -- nothing
-abbrev pub FindsEnd : {R : Type 0} → Stage → (old new : Progress) → (reader_old reader_new : R) → Option (List ℕ) → Option (List ℕ) → Type 0
+abbrev pub FindsEnd : {R : Type 0} → Stage → (old new : Progress) → (reader_old reader_new : R) → Bytes → Bytes → Type 0
 FindsEnd Reading old new reader_old reader_new before after = (new.count ≡ old.count) × (before ≡ after) × IsAtEnd after
 FindsEnd Ended old new reader_old reader_new before after = (new ≡ old) × (reader_new ≡ reader_old)
 FindsEnd (Faulted fault) old new reader_old reader_new before after = ⊥
 
 -- A first fault. The reader failed in this call, within a piece that is lost. Or there are as many lines as there are
 -- numbers, and more is to come.
-abbrev pub StopsReading : ReadFault → ℕ → Option (List ℕ) → Option (List ℕ) → Type 0
+abbrev pub StopsReading : ReadFault → ℕ → Bytes → Bytes → Type 0
 StopsReading ReaderFailed count before after = (piece : List ℕ) × Lacks newline piece × (before ≡ prepend_known piece after)
 StopsReading TooManyLines count before after = (count ≡ greatest_number) × (before ≡ after) × HasMore after
 
 -- A fault: a first one, or the same one again, which asked nothing and changed nothing.
-abbrev pub GivesFault : {R : Type 0} → Stage → ReadFault → (old new : Progress) → (reader_old reader_new : R) → (before after : Option (List ℕ)) → Type 0
+abbrev pub GivesFault : {R : Type 0} → Stage → ReadFault → (old new : Progress) → (reader_old reader_new : R) → (before after : Bytes) → Type 0
 GivesFault Reading fault old new reader_old reader_new before after = (new.stage ≡ Faulted fault)
     × (new.count ≡ old.count) × StopsReading fault old.count before after
 GivesFault Ended fault old new reader_old reader_new before after = ⊥
@@ -94,30 +95,30 @@ CallsFor (Faulted ReaderFailed) old new = HasGivenAndFailed old new
 CallsFor (Faulted TooManyLines) old new = HasGiven old new
 
 -- what a call does while lines are read
-abbrev pub ReadsOn : {R : Type 0} → (left : R → Option (List ℕ)) → (trace : R → List Call) → (old new : Progress) → (reader_old reader_new : R) → Result (Option ℕ) ReadFault → Type 0
-ReadsOn left trace old new reader_old reader_new (Ok (Some number)) = PassesLine old new (to_come old (left reader_old)) (to_come new (left reader_new)) number
-    × CallsFor new.stage (trace reader_old) (trace reader_new)
-ReadsOn left trace old new reader_old reader_new (Ok None) = (new.stage ≡ Ended)
-    × FindsEnd Reading old new reader_old reader_new (to_come old (left reader_old)) (to_come new (left reader_new))
-    × CallsFor new.stage (trace reader_old) (trace reader_new)
-ReadsOn left trace old new reader_old reader_new (Err fault) = GivesFault Reading fault old new reader_old reader_new
-    (to_come old (left reader_old)) (to_come new (left reader_new))
-    × CallsFor new.stage (trace reader_old) (trace reader_new)
+abbrev pub ReadsOn : (old new : Progress) → (reader_old reader_new : ReaderState) → Result (Option ℕ) ReadFault → Type 0
+ReadsOn old new reader_old reader_new (Ok (Some number)) = PassesLine old new (to_come old reader_old.left) (to_come new reader_new.left) number
+    × CallsFor new.stage reader_old.calls reader_new.calls
+ReadsOn old new reader_old reader_new (Ok None) = (new.stage ≡ Ended)
+    × FindsEnd Reading old new reader_old reader_new (to_come old reader_old.left) (to_come new reader_new.left)
+    × CallsFor new.stage reader_old.calls reader_new.calls
+ReadsOn old new reader_old reader_new (Err fault) = GivesFault Reading fault old new reader_old reader_new
+    (to_come old reader_old.left) (to_come new reader_new.left)
+    × CallsFor new.stage reader_old.calls reader_new.calls
 
 -- a call while lines are read, after which the reader has the same bytes in whole; where it failed, nothing is held
-pub record Passes {R : Type 0} (left bytes : R → Option (List ℕ)) (trace : R → List Call) (result : Result (Option ℕ) ReadFault) (old new : Progress) (reader_old reader_new : R) : Type 0 where
-  pub reads : ReadsOn left trace old new reader_old reader_new result
+pub record Passes (result : Result (Option ℕ) ReadFault) (old new : Progress) (reader_old reader_new : ReaderState) : Type 0 where
+  pub reads : ReadsOn old new reader_old reader_new result
   pub nothing_held : IfErr result (λ fault. fault ≡ ReaderFailed → new.held ≡ [])
-  pub whole : bytes reader_new ≡ bytes reader_old
+  pub whole : reader_new.whole ≡ reader_old.whole
 
 -- A call at any stage: it gives the next line, finds the end, or gives a fault. What came of the calls of
 -- the reader is told where lines were read. Where it failed, all that it gave is taken: the text to come is what it has left.
-pub record Advances {R T : Type 0} (Gives : (old new : Progress) (before after : Option (List ℕ)) → T → Type 0) (left bytes : R → Option (List ℕ)) (trace : R → List Call)
+pub record Advances {R T : Type 0} (Gives : (old new : Progress) (before after : Bytes) → T → Type 0) (shown : R → ReaderState)
     (result : Result (Option T) ReadFault) (old new : Progress) (reader_old reader_new : R) : Type 0 where
-  pub line : IfOk result (λ found. IfSome found (λ line. Gives old new (to_come old (left reader_old)) (to_come new (left reader_new)) line))
+  pub line : IfOk result (λ found. IfSome found (λ line. Gives old new (to_come old (shown reader_old).left) (to_come new (shown reader_new).left) line))
   pub end : IfOk result (λ found. IfNone found ((new.stage ≡ Ended)
-      × FindsEnd old.stage old new reader_old reader_new (to_come old (left reader_old)) (to_come new (left reader_new))))
-  pub fault : IfErr result (λ fault. GivesFault old.stage fault old new reader_old reader_new (to_come old (left reader_old)) (to_come new (left reader_new)))
-  pub calls : old.stage ≡ Reading → CallsFor new.stage (trace reader_old) (trace reader_new)
+      × FindsEnd old.stage old new reader_old reader_new (to_come old (shown reader_old).left) (to_come new (shown reader_new).left)))
+  pub fault : IfErr result (λ fault. GivesFault old.stage fault old new reader_old reader_new (to_come old (shown reader_old).left) (to_come new (shown reader_new).left))
+  pub calls : old.stage ≡ Reading → CallsFor new.stage (shown reader_old).calls (shown reader_new).calls
   pub nothing_held : IfErr result (λ fault. fault ≡ ReaderFailed → new.held ≡ [])
-  pub whole : bytes reader_new ≡ bytes reader_old
+  pub whole : (shown reader_new).whole ≡ (shown reader_old).whole

@@ -12,9 +12,9 @@ pub trait Again: Source {
     ///
     /// `Failed` where the reader can't begin again: then what was left is left.
     fn begin(&mut self) -> Result<(), Failed>
-        ensures left { OnOk result (Self.left self.new ≡ Self.whole self.old) }
-        ensures kept { OnErr result (Self.left self.new ≡ Self.left self.old) }
-        ensures whole { Self.whole self.new ≡ Self.whole self.old }
-        ensures told { Self.trace self.new ≡ began result ∷ Self.trace self.old }
+        ensures left { OnOk result ((Self.shown self.new).left ≡ (Self.shown self.old).whole) }
+        ensures kept { OnErr result ((Self.shown self.new).left ≡ (Self.shown self.old).left) }
+        ensures whole { (Self.shown self.new).whole ≡ (Self.shown self.old).whole }
+        ensures told { (Self.shown self.new).calls ≡ began result ∷ (Self.shown self.old).calls }
         ensures kept_budget { OnErr result (Self.budget self.new ≡ Self.budget self.old) };
 }

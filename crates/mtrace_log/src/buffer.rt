@@ -112,12 +112,12 @@ impl Buffer {
     pub(crate) fn refill<R: Source>(&mut self, reader: &mut R) -> Result<usize, Failed>
         requires { self.old.unread ≡ [] }
         ensures count { IfOk result (λ count. length self.new.unread ≡ count) }
-        ensures bytes { IfOk result (λ count. R.left reader.old ≡ prepend_known self.new.unread (R.left reader.new)) }
-        ensures end { IfOk result (λ count. count ≡ 0 → IsAtEnd (R.left reader.new)) }
+        ensures bytes { IfOk result (λ count. (R.shown reader.old).left ≡ prepend_known self.new.unread (R.shown reader.new).left) }
+        ensures end { IfOk result (λ count. count ≡ 0 → IsAtEnd (R.shown reader.new).left) }
         ensures falls { IfOk result (λ count. 0 < count → R.budget reader.new < R.budget reader.old) }
-        ensures failed { OnErr result ((self.new.unread ≡ []) × (R.left reader.new ≡ R.left reader.old)) }
-        ensures whole { R.whole reader.new ≡ R.whole reader.old }
-        ensures told { R.trace reader.new ≡ pulled result ∷ R.trace reader.old }
+        ensures failed { OnErr result ((self.new.unread ≡ []) × ((R.shown reader.new).left ≡ (R.shown reader.old).left)) }
+        ensures whole { (R.shown reader.new).whole ≡ (R.shown reader.old).whole }
+        ensures told { (R.shown reader.new).calls ≡ pulled result ∷ (R.shown reader.old).calls }
     {
         let count = reader.pull(&mut self.bytes)?;
         self.start = 0;

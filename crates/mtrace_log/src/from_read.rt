@@ -2,7 +2,7 @@ ghost use Rattle.std.specs.Prelude.{◌≡◌, ◌↔◌, ℕ, ◌-◌, ◌^◌,
 ghost use Rattle.std.specs.Io.KnownBytes.{Keeps};
 ghost use Rattle.std.specs.Io.Seek.{MovesTo};
 ghost use Rattle.mtrace_log.specs.declared.call.Call.{Call};
-ghost use Rattle.mtrace_log.specs.Adapters.{reader_of, calls_left, reader_trace, IsReading, ReadsOnce};
+ghost use Rattle.mtrace_log.specs.Adapters.{reader_of, calls_left, reader_trace, reader_shown, IsReading, ReadsOnce};
 ghost use Rattle.mtrace_log.specs.Trace.{pulled, began};
 
 use crate::again::Again;
@@ -64,9 +64,7 @@ impl<R: Read> FromRead<R> {
 }
 
 impl<R: Read> Source for FromRead<R> {
-    ghost left = { λ source. None };
-
-    ghost trace = { reader_trace };
+    ghost shown = { reader_shown };
 
     ghost budget = { calls_left };
 

@@ -88,7 +88,7 @@ impl Lines {
     /// `ReaderFailed` where the reader failed in this call: the unfinished piece is lost.
     /// `TooManyLines` where there are 2^64 - 1 lines and one more would come.
     pub fn next<R: Source>(&mut self, reader: &mut R) -> Result<Option<Line>, ReadFault>
-        ensures { Advances GivesLine R.left R.whole R.trace result self.old self.new reader.old reader.new }
+        ensures { Advances GivesLine R.shown result self.old self.new reader.old reader.new }
     {
         match self.advance(reader) {
             Ok(Some(number)) => {
@@ -108,7 +108,7 @@ impl Lines {
     /// As [`Lines::next`].
     #[inline(always)]
     pub fn advance<R: Source>(&mut self, reader: &mut R) -> Result<Option<u64>, ReadFault>
-        ensures { Advances PassesLine R.left R.whole R.trace result self.old self.new reader.old reader.new }
+        ensures { Advances PassesLine R.shown result self.old self.new reader.old reader.new }
     {
         match self.stage {
             Stage::Reading => self.read_next(reader),
@@ -145,7 +145,7 @@ impl Lines {
     #[inline(always)]
     fn read_next<R: Source>(&mut self, reader: &mut R) -> Result<Option<u64>, ReadFault>
         requires { self.old.stage ≡ Reading }
-        ensures { Passes R.left R.whole R.trace result self.old self.new reader.old reader.new }
+        ensures { Passes result self.old self.new (R.shown reader.old) (R.shown reader.new) }
     {
         if self.count == u64::MAX {
             return self.read_other(reader);
@@ -163,7 +163,7 @@ impl Lines {
     #[inline(never)]
     fn read_other<R: Source>(&mut self, reader: &mut R) -> Result<Option<u64>, ReadFault>
         requires { self.old.stage ≡ Reading }
-        ensures { Passes R.left R.whole R.trace result self.old self.new reader.old reader.new }
+        ensures { Passes result self.old self.new (R.shown reader.old) (R.shown reader.new) }
     {
         if self.buffer.is_empty() {
             return self.read_filled(reader);
@@ -175,7 +175,7 @@ impl Lines {
     fn read_filled<R: Source>(&mut self, reader: &mut R) -> Result<Option<u64>, ReadFault>
         requires reading { self.old.stage ≡ Reading }
         requires none { self.old.held ≡ [] }
-        ensures { Passes R.left R.whole R.trace result self.old self.new reader.old reader.new }
+        ensures { Passes result self.old self.new (R.shown reader.old) (R.shown reader.new) }
     {
         self.frequent = None;
         match self.buffer.refill(reader) {
@@ -195,7 +195,7 @@ impl Lines {
     fn read_held<R: Source>(&mut self, reader: &mut R) -> Result<Option<u64>, ReadFault>
         requires reading { self.old.stage ≡ Reading }
         requires some { 0 < length self.old.held }
-        ensures { Passes R.left R.whole R.trace result self.old self.new reader.old reader.new }
+        ensures { Passes result self.old self.new (R.shown reader.old) (R.shown reader.new) }
     {
         self.frequent = None;
         if self.count == u64::MAX {
@@ -217,7 +217,7 @@ impl Lines {
         requires some { 0 < length self.old.held }
         requires no_newline { Lacks newline self.old.held }
         requires room { self.old.count < greatest_number }
-        ensures { Passes R.left R.whole R.trace result self.old self.new reader.old reader.new }
+        ensures { Passes result self.old self.new (R.shown reader.old) (R.shown reader.new) }
     {
         self.frequent = None;
         let (line, stop) = read_piece(&mut self.buffer, reader);

@@ -10,7 +10,7 @@ use crate::{Failed, Sink};
 ///
 /// `Failed` where the writer failed, or took no byte of some: then a beginning of the bytes is put.
 pub fn put_all<W: Sink>(writer: &mut W, bytes: &[u8]) -> Result<(), Failed>
-    ensures { Puts W.taken W.trace result bytes.now writer.old writer.new }
+    ensures { Puts result bytes.now (W.shown writer.old) (W.shown writer.new) }
 {
     let mut rest = bytes;
     while !rest.is_empty() {

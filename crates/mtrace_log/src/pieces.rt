@@ -44,9 +44,9 @@ fn take_front(buffer: &mut Buffer, line: &mut LineBuffer) -> bool
 pub(crate) fn read_piece<R: Source>(buffer: &mut Buffer, reader: &mut R) -> (LineBuffer, Stop)
     requires some { 0 < length buffer.old.unread }
     requires no_newline { Lacks newline buffer.old.unread }
-    ensures piece { TakesPiece result.0 result.1 (prepend_known buffer.old.unread (R.left reader.old)) (prepend_known buffer.new.unread (R.left reader.new)) }
-    ensures calls { CallsUpTo result.1 (R.trace reader.old) (R.trace reader.new) }
-    ensures whole { R.whole reader.new ≡ R.whole reader.old }
+    ensures piece { TakesPiece result.0 result.1 (prepend_known buffer.old.unread (R.shown reader.old).left) (prepend_known buffer.new.unread (R.shown reader.new).left) }
+    ensures calls { CallsUpTo result.1 (R.shown reader.old).calls (R.shown reader.new).calls }
+    ensures whole { (R.shown reader.new).whole ≡ (R.shown reader.old).whole }
     ensures nothing_held { result.1 ≡ PieceFailed → buffer.new.unread ≡ [] }
 {
     let mut line = LineBuffer::new();

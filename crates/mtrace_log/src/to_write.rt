@@ -1,7 +1,7 @@
 ghost use Rattle.std.specs.Prelude.{◌≡◌, ◌≤◌, List, [], ◌∷◌, length, take, Option, None, IfOk, OnErr};
 ghost use Rattle.std.specs.Io.KnownBytes.{WriteAppends, Keeps};
 ghost use Rattle.mtrace_log.specs.declared.call.Call.{Call};
-ghost use Rattle.mtrace_log.specs.Adapters.{writer_of, writer_trace};
+ghost use Rattle.mtrace_log.specs.Adapters.{writer_of, writer_trace, writer_shown};
 ghost use Rattle.mtrace_log.specs.Trace.{offered, flushed};
 
 use crate::call::Call;
@@ -34,9 +34,7 @@ impl<W: Write> ToWrite<W> {
 }
 
 impl<W: Write> Sink for ToWrite<W> {
-    ghost taken = { λ sink. None };
-
-    ghost trace = { writer_trace };
+    ghost shown = { writer_shown };
 
     /// Writes once.
     ///

@@ -18,7 +18,7 @@ use Rattle.tlsf_class.specs.Classes.{unit, greatest_size}
 use Rattle.tlsf_heap.specs.Pools.{most_records, end_of_places}
 use Rattle.mtrace_replay.specs.Settings.{are_bad}
 use Rattle.mtrace_replay.specs.Fit.{one_pool, greatest_settings, enough_records, step_of, first_number, last_number, doubled, range}
-use Rattle.mtrace_replay.specs.Run.{Bytes}
+use Rattle.mtrace_log.specs.Shown.{Bytes}
 use Rattle.mtrace_replay.specs.RunFit.{IsTried, AreVerdicts, TriesRanges, TellsSizes, TellsFit}
 use Rattle.tlsf_heap.specs.Sizing.{sure_pool}
 use Rattle.mtrace_replay.specs.Started.{started}

@@ -17,7 +17,7 @@ use Rattle.mtrace_replay.specs.Totals.{AreTotals}
 use Rattle.mtrace_replay.specs.Moment.{ReadLine}
 use Rattle.mtrace_replay.specs.History.{history, moments}
 use Rattle.mtrace_replay.specs.Replay.{Replayed, StandsFor, touched}
-use Rattle.mtrace_replay.specs.Run.{Bytes}
+use Rattle.mtrace_log.specs.Shown.{ReaderState}
 use Rattle.mtrace_replay.specs.Replaying.{IsReplaying, GoesOn}
 use Rattle.mtrace_replay.specs.Survey.{live_ends, IsSurvey}
 use Rattle.mtrace_replay.specs.Texts.{free_sizes, greatest}
@@ -40,8 +40,8 @@ point_of replay totals survey settings past same is stands =
     }
 
 -- the lines so far were read and replayed, and the points are of the first of them
-pub record Gathers (settings : Settings) (points : List Point) (progress : Progress) (replay : Replayed) (start left : Bytes) : Type 0 where
-  pub now : IsReplaying settings progress replay start left
+pub record Gathers (settings : Settings) (points : List Point) (progress : Progress) (replay : Replayed) (start reader : ReaderState) : Type 0 where
+  pub now : IsReplaying settings progress replay start reader
   pub exact : All (λ point. IsPoint (started settings) (history settings (take point.line now.lines)) point) points
 
 -- the greatest of the first numbers is the last of them, since they rise
@@ -76,9 +76,9 @@ touched_stands touches replay settings past stands = record {
   class = stands.class;
 }
 
-abbrev touched_replaying : (touches : ℕ) (settings : Settings) (progress : Progress) (replay : Replayed) (start left : Bytes) → IsReplaying settings progress replay start left
-    → IsReplaying settings progress (touched touches replay) start left
-touched_replaying touches settings progress replay start left so_far = record {
+abbrev touched_replaying : (touches : ℕ) (settings : Settings) (progress : Progress) (replay : Replayed) (start reader : ReaderState) → IsReplaying settings progress replay start reader
+    → IsReplaying settings progress (touched touches replay) start reader
+touched_replaying touches settings progress replay start reader so_far = record {
   lines = so_far.lines;
   count = so_far.count;
   no_fault = so_far.no_fault;
@@ -102,7 +102,7 @@ one_point P point is zero other inside = is
 one_point P point is (suc k) other inside = absurd (omega (arith, inside))
 
 -- lines more, and a point after them
-pub gathers_more : (settings : Settings) (points : List Point) (point : Point) (old new : Progress) (replay_old replay_read : Replayed) (touches : ℕ) (start before after : Bytes)
+pub gathers_more : (settings : Settings) (points : List Point) (point : Point) (old new : Progress) (replay_old replay_read : Replayed) (touches : ℕ) (start before after : ReaderState)
     → (so_far : Gathers settings points old replay_old start before) → GoesOn settings so_far.now.lines new replay_read start after
     → All (λ (one : Point). one.line ≤ old.count) points → point.line ≡ replay_read.totals.lines
     → ((past : List ReadLine) → StandsFor replay_read settings past → IsPoint (started settings) (moments (started settings) past) point)

@@ -4,7 +4,7 @@ use Rattle.std.specs.Prelude.{Result}
 use Rattle.std.specs.Io.KnownBytes.{prepend_known, IsAtEnd}
 use Rattle.std.proofs.lemmas.List.{reverse-append, append-nil}
 use Rattle.mtrace_log.specs.Progress.{Progress, Stage, Reading, Ended, Faulted, to_come, ReadsLine, GivesLine, FindsEnd, StopsReading, GivesFault, CallsFor}
-use Rattle.mtrace_log.specs.declared.call.Call.{Call}
+use Rattle.mtrace_log.specs.Shown.{Bytes, ReaderState}
 use Rattle.mtrace_log.specs.HasRead.{HasRead, HasReadAll, HasReadBefore, HasReadSo}
 use Rattle.mtrace_log.specs.Event.{Event}
 use Rattle.mtrace_log.specs.declared.event.LineFault.{LineFault}
@@ -14,7 +14,7 @@ use Rattle.mtrace_log.specs.declared.line.ReadFault.TheVariants.{ReaderFailed, T
 use Rattle.mtrace_log.proofs.ReadLemmas.{HasRead-none, HasReadSo-line, HasReadSo-end, HasReadSo-fault}
 use Rattle.mtrace_replay.specs.declared.settings.Settings.{Settings}
 use Rattle.mtrace_replay.specs.Replay.{Replayed, StandsFor}
-use Rattle.mtrace_replay.specs.Run.{Bytes, FailedInPiece, IsPastLastNumber}
+use Rattle.mtrace_replay.specs.Run.{with_unused, FailedInPiece, IsPastLastNumber}
 use Rattle.mtrace_replay.specs.Replaying.{IsReplaying, GoesOn}
 
 pub prepend_nothing : (known : Bytes) → prepend_known [] known ≡ known
@@ -29,13 +29,13 @@ abbrev pub no_line : Progress
 no_line = record { held = []; count = 0; stage = Reading; last = Some [] }
 
 -- before the first line
-abbrev pub replaying_start : (settings : Settings) (replay : Replayed) (left : Bytes) → StandsFor replay settings []
-    → IsReplaying settings no_line replay left left
-replaying_start settings replay left stands = record {
+abbrev pub replaying_start : (settings : Settings) (replay : Replayed) (reader : ReaderState) → StandsFor replay settings []
+    → IsReplaying settings no_line replay reader reader
+replaying_start settings replay reader stands = record {
   lines = [];
   count = refl;
   no_fault = no_fault_yet;
-  read = (let P : Bytes → Type 0 = λ text. HasRead left text [] in subst P (sym (prepend_nothing left)) (HasRead-none left));
+  read = (let P : Bytes → Type 0 = λ text. HasRead reader.left text [] in subst P (sym (prepend_nothing reader.left)) (HasRead-none reader.left));
   stands = stands;
 }
 
@@ -43,28 +43,28 @@ pub reverse-more : (lines : List (Result Event LineFault)) (line : Result Event 
 reverse-more lines line = reverse-append lines (line ∷ [])
 
 -- one line more
-abbrev pub replaying_line : (settings : Settings) (old new : Progress) (replay_old replay_new : Replayed) (start before after : Bytes) (line : Line)
+abbrev pub replaying_line : (settings : Settings) (old new : Progress) (replay_old replay_new : Replayed) (start before after : ReaderState) (line : Line)
     → (so_far : IsReplaying settings old replay_old start before)
-    → GivesLine old new (to_come old before) (to_come new after) line
+    → GivesLine old new (to_come old before.left) (to_come new after.left) line
     → StandsFor replay_new settings (line.event ∷ reverse so_far.lines)
     → IsReplaying settings new replay_new start after
 replaying_line settings old new replay_old replay_new start before after line so_far given stands = record {
   lines = so_far.lines ++ line.event ∷ [];
   count = given.count ∙ given.number ∙ omega (arith, so_far.count, length-append {A = Result Event LineFault});
-  no_fault = (λ fault is. (let T : Stage → Type 0 = λ stage. ReadsLine stage (to_come old before) (to_come new after) line.event in subst T is given.taken));
-  read = HasReadSo-line start (to_come old before) (to_come new after) old new line so_far.lines so_far.read given;
+  no_fault = (λ fault is. (let T : Stage → Type 0 = λ stage. ReadsLine stage (to_come old before.left) (to_come new after.left) line.event in subst T is given.taken));
+  read = HasReadSo-line start.left (to_come old before.left) (to_come new after.left) old new line so_far.lines so_far.read given;
   stands = (let Q : List (Result Event LineFault) → Type 0 = λ past. StandsFor replay_new settings past in subst Q (sym (reverse-more so_far.lines line.event)) stands);
 }
 
 -- so far nothing came behind
-abbrev pub going_on_none : (settings : Settings) (progress : Progress) (replay : Replayed) (start left : Bytes) (so_far : IsReplaying settings progress replay start left)
-    → GoesOn settings so_far.lines progress replay start left
-going_on_none settings progress replay start left so_far = record { now = so_far; more = []; behind = sym (append-nil so_far.lines) }
+abbrev pub going_on_none : (settings : Settings) (progress : Progress) (replay : Replayed) (start now : ReaderState) (so_far : IsReplaying settings progress replay start now)
+    → GoesOn settings so_far.lines progress replay start now
+going_on_none settings progress replay start now so_far = record { now = so_far; more = []; behind = sym (append-nil so_far.lines) }
 
 -- one line more came behind
-abbrev pub going_on : (settings : Settings) (old new : Progress) (replay_old replay_new : Replayed) (start before after : Bytes) (line : Line)
+abbrev pub going_on : (settings : Settings) (old new : Progress) (replay_old replay_new : Replayed) (start before after : ReaderState) (line : Line)
     → (so_far : IsReplaying settings old replay_old start before)
-    → GivesLine old new (to_come old before) (to_come new after) line
+    → GivesLine old new (to_come old before.left) (to_come new after.left) line
     → StandsFor replay_new settings (line.event ∷ reverse so_far.lines)
     → GoesOn settings so_far.lines new replay_new start after
 going_on settings old new replay_old replay_new start before after line so_far given stands = record {
@@ -74,7 +74,7 @@ going_on settings old new replay_old replay_new start before after line so_far g
 }
 
 -- what came behind, and then what came behind that
-abbrev pub going_on_further : (settings : Settings) (first : List (Result Event LineFault)) (old new : Progress) (replay_old replay_new : Replayed) (start before after : Bytes)
+abbrev pub going_on_further : (settings : Settings) (first : List (Result Event LineFault)) (old new : Progress) (replay_old replay_new : Replayed) (start before after : ReaderState)
     → (so_far : GoesOn settings first old replay_old start before) → GoesOn settings so_far.now.lines new replay_new start after
     → GoesOn settings first new replay_new start after
 going_on_further settings first old new replay_old replay_new start before after so_far later = record {
@@ -102,41 +102,40 @@ used_to_end held start left lines all =
     subst P (all_used held left all.at_end) all
 
 -- the end of the log
-pub replaying_end : {R : Type 0} (left : R → Bytes) (settings : Settings) (old new : Progress) (replay : Replayed) (start : Bytes) (reader_old reader_new : R)
-    → (so_far : IsReplaying settings old replay start (left reader_old))
-    → FindsEnd old.stage old new reader_old reader_new (to_come old (left reader_old)) (to_come new (left reader_new))
-    → HasReadAll start (left reader_new) so_far.lines
-replaying_end left settings old new replay start reader_old reader_new so_far found =
-    used_to_end new.held start (left reader_new) so_far.lines (HasReadSo-end left start old new reader_old reader_new so_far.lines so_far.read found)
+pub replaying_end : {R : Type 0} (reads : R → ReaderState) (settings : Settings) (old new : Progress) (replay : Replayed) (start : ReaderState) (reader_old reader_new : R)
+    → (so_far : IsReplaying settings old replay start (reads reader_old))
+    → FindsEnd old.stage old new reader_old reader_new (to_come old (reads reader_old).left) (to_come new (reads reader_new).left)
+    → HasReadAll start.left (reads reader_new).left so_far.lines
+replaying_end reads settings old new replay start reader_old reader_new so_far found =
+    used_to_end new.held start.left (reads reader_new).left so_far.lines (HasReadSo-end reads start.left old new reader_old reader_new so_far.lines so_far.read found)
 
 -- why the reading stopped
-stop_reason : (fault : ReadFault) (count : ℕ) (start before : Bytes) (held : List ℕ) (left : Bytes) (calls_start calls : List Call) (lines : List (Result Event LineFault)) → count ≡ length lines
-    → HasRead start before lines → HasReadBefore start (prepend_known held left) lines → (fault ≡ ReaderFailed → held ≡ [])
-    → StopsReading fault count before (prepend_known held left) → CallsFor (Faulted fault) calls_start calls
-    → FailedInPiece start left calls_start calls lines ⊎ ((unused : List ℕ) × IsPastLastNumber start (prepend_known unused left) calls_start calls lines)
-stop_reason ReaderFailed count start before held left calls_start calls lines same read lost nothing stop came =
-    let P : Bytes → Type 0 = λ text. HasReadBefore start text lines in
-    inl (subst P (ap (λ bytes. prepend_known bytes left) (nothing refl) ∙ prepend_nothing left) lost, came)
-stop_reason TooManyLines count start before held left calls_start calls lines same read lost nothing stop came =
-    let P : Bytes → Type 0 = λ text. HasRead start text lines in
+stop_reason : (fault : ReadFault) (count : ℕ) (start : ReaderState) (before : Bytes) (held : List ℕ) (reader : ReaderState) (lines : List (Result Event LineFault)) → count ≡ length lines
+    → HasRead start.left before lines → HasReadBefore start.left (prepend_known held reader.left) lines → (fault ≡ ReaderFailed → held ≡ [])
+    → StopsReading fault count before (prepend_known held reader.left) → CallsFor (Faulted fault) start.calls reader.calls
+    → FailedInPiece start reader lines ⊎ ((unused : List ℕ) × IsPastLastNumber start (with_unused unused reader) lines)
+stop_reason ReaderFailed count start before held reader lines same read lost nothing stop came =
+    let P : Bytes → Type 0 = λ text. HasReadBefore start.left text lines in
+    inl (subst P (ap (λ bytes. prepend_known bytes reader.left) (nothing refl) ∙ prepend_nothing reader.left) lost, came)
+stop_reason TooManyLines count start before held reader lines same read lost nothing stop came =
+    let P : Bytes → Type 0 = λ text. HasRead start.left text lines in
     inr (held, record { count = sym same ∙ stop.0; read = subst P stop.1 read; more = stop.2; given = came })
 
 -- the reader failed, or there are no numbers left
-pub replaying_fault : {R : Type 0} (left : R → Bytes) (settings : Settings) (old new : Progress) (replay : Replayed) (start : Bytes) (reader_old reader_new : R) (calls_start calls : List Call) (fault : ReadFault)
-    → (so_far : IsReplaying settings old replay start (left reader_old))
-    → GivesFault old.stage fault old new reader_old reader_new (to_come old (left reader_old)) (to_come new (left reader_new))
-    → (fault ≡ ReaderFailed → new.held ≡ []) → CallsFor (Faulted fault) calls_start calls
-    → FailedInPiece start (left reader_new) calls_start calls so_far.lines
-    ⊎ ((unused : List ℕ) × IsPastLastNumber start (prepend_known unused (left reader_new)) calls_start calls so_far.lines)
-replaying_fault {R} left settings old new replay start reader_old reader_new calls_start calls fault so_far given nothing came = reason_by old.stage refl so_far.read given
+pub replaying_fault : {R : Type 0} (reads : R → ReaderState) (settings : Settings) (old new : Progress) (replay : Replayed) (start : ReaderState) (reader_old reader_new : R) (fault : ReadFault)
+    → (so_far : IsReplaying settings old replay start (reads reader_old))
+    → GivesFault old.stage fault old new reader_old reader_new (to_come old (reads reader_old).left) (to_come new (reads reader_new).left)
+    → (fault ≡ ReaderFailed → new.held ≡ []) → CallsFor (Faulted fault) start.calls (reads reader_new).calls
+    → FailedInPiece start (reads reader_new) so_far.lines ⊎ ((unused : List ℕ) × IsPastLastNumber start (with_unused unused (reads reader_new)) so_far.lines)
+replaying_fault {R} reads settings old new replay start reader_old reader_new fault so_far given nothing came = reason_by old.stage refl so_far.read given
   where
-    lost : HasReadBefore start (to_come new (left reader_new)) so_far.lines
-    lost = HasReadSo-fault left start old new reader_old reader_new fault so_far.lines so_far.read given
+    lost : HasReadBefore start.left (to_come new (reads reader_new).left) so_far.lines
+    lost = HasReadSo-fault reads start.left old new reader_old reader_new fault so_far.lines so_far.read given
 
-    reason_by : (stage : Stage) → old.stage ≡ stage → HasReadSo stage start (to_come old (left reader_old)) so_far.lines
-        → GivesFault stage fault old new reader_old reader_new (to_come old (left reader_old)) (to_come new (left reader_new))
-        → FailedInPiece start (left reader_new) calls_start calls so_far.lines ⊎ ((unused : List ℕ) × IsPastLastNumber start (prepend_known unused (left reader_new)) calls_start calls so_far.lines)
+    reason_by : (stage : Stage) → old.stage ≡ stage → HasReadSo stage start.left (to_come old (reads reader_old).left) so_far.lines
+        → GivesFault stage fault old new reader_old reader_new (to_come old (reads reader_old).left) (to_come new (reads reader_new).left)
+        → FailedInPiece start (reads reader_new) so_far.lines ⊎ ((unused : List ℕ) × IsPastLastNumber start (with_unused unused (reads reader_new)) so_far.lines)
     reason_by Reading is read stop =
-        stop_reason fault old.count start (to_come old (left reader_old)) new.held (left reader_new) calls_start calls so_far.lines so_far.count read lost nothing stop.2 came
+        stop_reason fault old.count start (to_come old (reads reader_old).left) new.held (reads reader_new) so_far.lines so_far.count read lost nothing stop.2 came
     reason_by Ended is read stop = absurd stop
     reason_by (Faulted first) is read stop = absurd (so_far.no_fault first is)

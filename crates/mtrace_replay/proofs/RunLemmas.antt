@@ -5,7 +5,7 @@ use Rattle.std.proofs.lemmas.Grind.{flat_map-append}
 use Rattle.std.proofs.lemmas.Bool.Decides.{nat_tests}
 use Rattle.std.proofs.lemmas.List.{length-reverse}
 use Rattle.mtrace_log.specs.Progress.{Progress, Reading, Faulted, to_come, GivesLine, FindsEnd, GivesFault, CallsFor}
-use Rattle.mtrace_log.specs.declared.call.Call.{Call}
+use Rattle.mtrace_log.specs.Shown.{Bytes, ReaderState, WriterState}
 use Rattle.mtrace_log.specs.HasRead.{HasReadAll}
 use Rattle.mtrace_log.specs.Event.{Event}
 use Rattle.mtrace_log.specs.declared.event.LineFault.{LineFault}
@@ -26,26 +26,26 @@ use Rattle.mtrace_replay.specs.Replay.{Replayed, StandsFor, entries, added_diagn
 use Rattle.mtrace_replay.specs.declared.report.Report.{Report}
 use Rattle.mtrace_replay.specs.declared.report.Report.TheVariants.{Nothing}
 use Rattle.mtrace_replay.specs.declared.totals.Totals.{Totals}
-use Rattle.mtrace_replay.specs.Run.{Bytes, text_of_notes, whole_text, end_text, StopsAtRead, StopsAtWrite, Reports, Replays, EndsAt, is_some_diagnostic, is_some_entry, LineGives, LineBegins, HasReplayed}
+use Rattle.mtrace_replay.specs.Run.{text_of_notes, whole_text, end_text, StopsAtRead, StopsAtWrite, Reports, Replays, EndsAt, is_some_diagnostic, is_some_entry, LineGives, LineBegins, HasReplayed}
 use Rattle.mtrace_replay.proofs.Moments.{moments-none, moments-line}
 use Rattle.mtrace_replay.specs.Replaying.{IsReplaying}
 use Rattle.mtrace_replay.proofs.ReplayingLemmas.{prepend_nothing, replaying_start, replaying_line, replaying_end, replaying_fault, line_read, reverse-more}
 use Rattle.mtrace_log.proofs.Writing.{Wrote-nothing, Wrote-append, Begins-after, Begins-longer}
 
 -- the lines so far were read and replayed, and their diagnostics written
-pub record IsUnderWay (settings : Settings) (progress : Progress) (replay : Replayed) (has_diagnostics : Bool) (left_start left_now taken_start taken_now : Bytes) : Type 0 where
-  pub so_far : IsReplaying settings progress replay left_start left_now
-  pub wrote : Wrote taken_start taken_now (text_of_notes settings so_far.lines)
+pub record IsUnderWay (settings : Settings) (progress : Progress) (replay : Replayed) (has_diagnostics : Bool) (reader_start reader_now : ReaderState) (writer_start writer_now : WriterState) : Type 0 where
+  pub so_far : IsReplaying settings progress replay reader_start reader_now
+  pub wrote : Wrote writer_start.taken writer_now.taken (text_of_notes settings so_far.lines)
   pub has_diagnostics_is : has_diagnostics ≡ is_some_diagnostic (notes (history settings so_far.lines))
 
 -- before the first line
-pub underway_start : (settings : Settings) (replay : Replayed) (left taken : Bytes) → StandsFor replay settings []
-    → IsUnderWay settings (record { held = []; count = 0; stage = Reading; last = Some [] }) replay false left left taken taken
-underway_start settings replay left taken stands =
+pub underway_start : (settings : Settings) (replay : Replayed) (reader : ReaderState) (writer : WriterState) → StandsFor replay settings []
+    → IsUnderWay settings (record { held = []; count = 0; stage = Reading; last = Some [] }) replay false reader reader writer writer
+underway_start settings replay reader writer stands =
     let none : history settings [] ≡ [] = moments-none (started settings) in
     record {
-      so_far = replaying_start settings replay left stands;
-      wrote = (let P : List Moment → Type 0 = λ past. Wrote taken taken (diagnostics_text (notes past)) in subst P (sym none) (Wrote-nothing taken));
+      so_far = replaying_start settings replay reader stands;
+      wrote = (let P : List Moment → Type 0 = λ past. Wrote writer.taken writer.taken (diagnostics_text (notes past)) in subst P (sym none) (Wrote-nothing writer.taken));
       has_diagnostics_is = ap (λ past. is_some_diagnostic (notes past)) (sym none);
     }
 
@@ -78,19 +78,19 @@ no_diagnostic-is [] is = refl
 no_diagnostic-is (diagnostic ∷ all) is = absurd (grind (arith, nat_tests))
 
 -- one line more
-pub underway_line : (settings : Settings) (old new : Progress) (replay_old replay_new : Replayed) (had_diagnostics more : Bool) (start before after taken_start taken_old taken_new : Bytes) (line : Line)
-    → (under : IsUnderWay settings old replay_old had_diagnostics start before taken_start taken_old)
-    → GivesLine old new (to_come old before) (to_come new after) line
-    → LineGives replay_new settings line.event (reverse under.so_far.lines) taken_old taken_new more
-    → IsUnderWay settings new replay_new (had_diagnostics || more) start after taken_start taken_new
-underway_line settings old new replay_old replay_new had_diagnostics more start before after taken_start taken_old taken_new line under given gives =
+pub underway_line : (settings : Settings) (old new : Progress) (replay_old replay_new : Replayed) (had_diagnostics more : Bool) (start before after : ReaderState) (writer_start writer_old writer_new : WriterState) (line : Line)
+    → (under : IsUnderWay settings old replay_old had_diagnostics start before writer_start writer_old)
+    → GivesLine old new (to_come old before.left) (to_come new after.left) line
+    → LineGives replay_new settings line.event (reverse under.so_far.lines) writer_old writer_new more
+    → IsUnderWay settings new replay_new (had_diagnostics || more) start after writer_start writer_new
+underway_line settings old new replay_old replay_new had_diagnostics more start before after writer_start writer_old writer_new line under given gives =
     let lines = under.so_far.lines in
     let added = added_diagnostics settings line.event (reverse lines) in
     let whole = history-more settings lines line.event in
     record {
       so_far = replaying_line settings old new replay_old replay_new start before after line under.so_far given gives.stands;
-      wrote = (let Q : List ℕ → Type 0 = λ text. Wrote taken_start taken_new text in
-          subst Q (sym (diagnostics_text-more settings lines line.event)) (Wrote-append taken_start taken_old taken_new (text_of_notes settings lines) (diagnostics_text added) under.wrote gives.wrote));
+      wrote = (let Q : List ℕ → Type 0 = λ text. Wrote writer_start.taken writer_new.taken text in
+          subst Q (sym (diagnostics_text-more settings lines line.event)) (Wrote-append writer_start.taken writer_old.taken writer_new.taken (text_of_notes settings lines) (diagnostics_text added) under.wrote gives.wrote));
       has_diagnostics_is = ap (λ b. b || more) under.has_diagnostics_is ∙ ap (λ b. is_some_diagnostic (notes (history settings lines)) || b) gives.has_diagnostics_is
           ∙ sym (ap (λ past. is_some_diagnostic (notes past)) whole ∙ some_diagnostic-append (notes (history settings lines)) added);
     }
@@ -124,24 +124,24 @@ end_is report settings replay lines stands =
     ∙ ap (λ content. diagnostics_text (half (length lines) (pending (reverse lines))) ++ report_text report (entries replay) replay.totals content) stands.content_is
 
 -- the writer failed at a line's diagnostics
-pub underway_write : (report : Report) (settings : Settings) (old new : Progress) (replay_old replay_new : Replayed) (had_diagnostics : Bool) (start before after taken_start taken_old taken_new : Bytes) (line : Line)
-    → (under : IsUnderWay settings old replay_old had_diagnostics start before taken_start taken_old)
-    → GivesLine old new (to_come old before) (to_come new after) line
-    → LineBegins replay_new settings line.event (reverse under.so_far.lines) taken_old taken_new
-    → StopsAtWrite report settings start after taken_start taken_new
-underway_write report settings old new replay_old replay_new had_diagnostics start before after taken_start taken_old taken_new line under given begins =
+pub underway_write : (report : Report) (settings : Settings) (old new : Progress) (replay_old replay_new : Replayed) (had_diagnostics : Bool) (start before after : ReaderState) (writer_start writer_old writer_new : WriterState) (line : Line)
+    → (under : IsUnderWay settings old replay_old had_diagnostics start before writer_start writer_old)
+    → GivesLine old new (to_come old before.left) (to_come new after.left) line
+    → LineBegins replay_new settings line.event (reverse under.so_far.lines) writer_old writer_new
+    → StopsAtWrite report settings start after writer_start writer_new
+underway_write report settings old new replay_old replay_new had_diagnostics start before after writer_start writer_old writer_new line under given begins =
     let was = under.so_far.lines in
     let now = replaying_line settings old new replay_old replay_new start before after line under.so_far given begins.stands in
     let lines = now.lines in
-    let Q : List ℕ → Type 0 = λ text. Begins taken_start taken_new text in
-    let begun : Begins taken_start taken_new (text_of_notes settings lines) =
+    let Q : List ℕ → Type 0 = λ text. Begins writer_start.taken writer_new.taken text in
+    let begun : Begins writer_start.taken writer_new.taken (text_of_notes settings lines) =
     subst Q (sym (diagnostics_text-more settings was line.event))
-    (Begins-after taken_start taken_old taken_new (text_of_notes settings was) (diagnostics_text (added_diagnostics settings line.event (reverse was))) under.wrote begins.begun) in
+    (Begins-after writer_start.taken writer_old.taken writer_new.taken (text_of_notes settings was) (diagnostics_text (added_diagnostics settings line.event (reverse was))) under.wrote begins.begun) in
     let last = last_text report settings lines replay_new.given replay_new.totals in
     record {
       lines = lines;
       unused = new.held;
-      begun = elim (line_read new.stage start (to_come old before) (to_come new after) lines line.event given.taken now.read) [
+      begun = elim (line_read new.stage start.left (to_come old before.left) (to_come new after.left) lines line.event given.taken now.read) [
         | inl reading ↦ inl (reading, begun)
         | inr all ↦ inr (record {
           read = all;
@@ -149,33 +149,33 @@ underway_write report settings old new replay_old replay_new had_diagnostics sta
           held = now.stands.held;
           totals = replay_new.totals;
           summed = now.stands.totals;
-          begun = subst Q (sym (whole_is report settings lines replay_new.given replay_new.totals)) (Begins-longer taken_start taken_new (text_of_notes settings lines) last begun);
+          begun = subst Q (sym (whole_is report settings lines replay_new.given replay_new.totals)) (Begins-longer writer_start.taken writer_new.taken (text_of_notes settings lines) last begun);
         })
       ];
     }
 
 -- the end of the log
-pub underway_end : {R : Type 0} (left : R → Bytes) (settings : Settings) (old new : Progress) (replay : Replayed) (has_diagnostics : Bool) (start : Bytes) (reader_old reader_new : R) (taken_start taken : Bytes)
-    → IsUnderWay settings old replay has_diagnostics start (left reader_old) taken_start taken
-    → FindsEnd old.stage old new reader_old reader_new (to_come old (left reader_old)) (to_come new (left reader_new))
-    → HasReplayed settings replay has_diagnostics start (left reader_new) taken_start taken
-underway_end left settings old new replay has_diagnostics start reader_old reader_new taken_start taken under found = record {
+pub underway_end : {R : Type 0} (reads : R → ReaderState) (settings : Settings) (old new : Progress) (replay : Replayed) (has_diagnostics : Bool) (start : ReaderState) (reader_old reader_new : R) (writer_start writer : WriterState)
+    → IsUnderWay settings old replay has_diagnostics start (reads reader_old) writer_start writer
+    → FindsEnd old.stage old new reader_old reader_new (to_come old (reads reader_old).left) (to_come new (reads reader_new).left)
+    → HasReplayed settings replay has_diagnostics start (reads reader_new) writer_start writer
+underway_end reads settings old new replay has_diagnostics start reader_old reader_new writer_start writer under found = record {
   lines = under.so_far.lines;
-  read = replaying_end left settings old new replay start reader_old reader_new under.so_far found;
+  read = replaying_end reads settings old new replay start reader_old reader_new under.so_far found;
   stands = under.so_far.stands;
   wrote = under.wrote;
   has_diagnostics_is = under.has_diagnostics_is;
 }
 
 -- the reader failed, or there are no numbers left
-pub underway_fault : {R : Type 0} (left : R → Bytes) (settings : Settings) (old new : Progress) (replay : Replayed) (has_diagnostics : Bool) (start : Bytes) (reader_old reader_new : R) (taken_start taken : Bytes) (calls_start calls : List Call) (fault : ReadFault)
-    → IsUnderWay settings old replay has_diagnostics start (left reader_old) taken_start taken
-    → GivesFault old.stage fault old new reader_old reader_new (to_come old (left reader_old)) (to_come new (left reader_new))
-    → (fault ≡ ReaderFailed → new.held ≡ []) → CallsFor (Faulted fault) calls_start calls
-    → StopsAtRead settings start (left reader_new) calls_start calls taken_start taken
-underway_fault left settings old new replay has_diagnostics start reader_old reader_new taken_start taken calls_start calls fault under given nothing came = record {
+pub underway_fault : {R : Type 0} (reads : R → ReaderState) (settings : Settings) (old new : Progress) (replay : Replayed) (has_diagnostics : Bool) (start : ReaderState) (reader_old reader_new : R) (writer_start writer : WriterState) (fault : ReadFault)
+    → IsUnderWay settings old replay has_diagnostics start (reads reader_old) writer_start writer
+    → GivesFault old.stage fault old new reader_old reader_new (to_come old (reads reader_old).left) (to_come new (reads reader_new).left)
+    → (fault ≡ ReaderFailed → new.held ≡ []) → CallsFor (Faulted fault) start.calls (reads reader_new).calls
+    → StopsAtRead settings start (reads reader_new) writer_start writer
+underway_fault reads settings old new replay has_diagnostics start reader_old reader_new writer_start writer fault under given nothing came = record {
   lines = under.so_far.lines;
-  reason = replaying_fault left settings old new replay start reader_old reader_new calls_start calls fault under.so_far given nothing came;
+  reason = replaying_fault reads settings old new replay start reader_old reader_new fault under.so_far given nothing came;
   wrote = under.wrote;
 }
 
@@ -184,26 +184,26 @@ pub same_error : {E : Type 0} (T U : Type 0) (first second : E) → IsErrOf {T =
 same_error T U first second is = let same : first ≡ second = cc in ap Err same
 
 -- the writer failed at the end
-pub report_write : (report : Report) (settings : Settings) (replay : Replayed) (has_diagnostics : Bool) (left_old left_new taken_old taken_middle taken_new : Bytes)
-    → HasReplayed settings replay has_diagnostics left_old left_new taken_old taken_middle
-    → Begins taken_middle taken_new (end_text report replay)
-    → StopsAtWrite report settings left_old left_new taken_old taken_new
-report_write report settings replay has_diagnostics left_old left_new taken_old taken_middle taken_new done begins =
-    let P : Bytes → Type 0 = λ after. HasReadAll left_old after done.lines in
-    let Q : List ℕ → Type 0 = λ text. Begins taken_old taken_new text in
-    let R : List ℕ → Type 0 = λ text. Begins taken_middle taken_new text in
+pub report_write : (report : Report) (settings : Settings) (replay : Replayed) (has_diagnostics : Bool) (reader_old reader_new : ReaderState) (writer_old writer_middle writer_new : WriterState)
+    → HasReplayed settings replay has_diagnostics reader_old reader_new writer_old writer_middle
+    → Begins writer_middle.taken writer_new.taken (end_text report replay)
+    → StopsAtWrite report settings reader_old reader_new writer_old writer_new
+report_write report settings replay has_diagnostics reader_old reader_new writer_old writer_middle writer_new done begins =
+    let P : Bytes → Type 0 = λ after. HasReadAll reader_old.left after done.lines in
+    let Q : List ℕ → Type 0 = λ text. Begins writer_old.taken writer_new.taken text in
+    let R : List ℕ → Type 0 = λ text. Begins writer_middle.taken writer_new.taken text in
     let last = last_text report settings done.lines replay.given replay.totals in
     record {
       lines = done.lines;
       unused = [];
       begun = inr (record {
-        read = subst P (sym (prepend_nothing left_new)) done.read;
+        read = subst P (sym (prepend_nothing reader_new.left)) done.read;
         all = replay.given;
         held = done.stands.held;
         totals = replay.totals;
         summed = done.stands.totals;
         begun = subst Q (sym (whole_is report settings done.lines replay.given replay.totals))
-            (Begins-after taken_old taken_middle taken_new (text_of_notes settings done.lines) last done.wrote (subst R (end_is report settings replay done.lines done.stands) begins));
+            (Begins-after writer_old.taken writer_middle.taken writer_new.taken (text_of_notes settings done.lines) last done.wrote (subst R (end_is report settings replay done.lines done.stands) begins));
       });
     }
 
@@ -216,14 +216,14 @@ status-is [] [] (one ∷ all) = refl
 status-is [] [] [] = refl
 
 -- all was written
-abbrev pub report_all : (report : Report) (settings : Settings) (replay : Replayed) (has_diagnostics : Bool) (status : Status) (left_old left_new taken_old taken_middle taken_new : Bytes)
-    → HasReplayed settings replay has_diagnostics left_old left_new taken_old taken_middle
-    → Wrote taken_middle taken_new (end_text report replay)
+abbrev pub report_all : (report : Report) (settings : Settings) (replay : Replayed) (has_diagnostics : Bool) (status : Status) (reader_old reader_new : ReaderState) (writer_old writer_middle writer_new : WriterState)
+    → HasReplayed settings replay has_diagnostics reader_old reader_new writer_old writer_middle
+    → Wrote writer_middle.taken writer_new.taken (end_text report replay)
     → status ≡ (if has_diagnostics || (is_some_diagnostic (half replay.totals.lines replay.pending) || is_some_entry (entries replay)) then Found else Clean)
-    → Reports report settings status left_old left_new taken_old taken_new
-report_all report settings replay has_diagnostics status left_old left_new taken_old taken_middle taken_new done wrote is =
-    let Q : List ℕ → Type 0 = λ text. Wrote taken_old taken_new text in
-    let R : List ℕ → Type 0 = λ text. Wrote taken_middle taken_new text in
+    → Reports report settings status reader_old reader_new writer_old writer_new
+report_all report settings replay has_diagnostics status reader_old reader_new writer_old writer_middle writer_new done wrote is =
+    let Q : List ℕ → Type 0 = λ text. Wrote writer_old.taken writer_new.taken text in
+    let R : List ℕ → Type 0 = λ text. Wrote writer_middle.taken writer_new.taken text in
     let last = half (length done.lines) (pending (reverse done.lines)) in
     let told = last_text report settings done.lines replay.given replay.totals in
     record {
@@ -234,7 +234,7 @@ report_all report settings replay has_diagnostics status left_old left_new taken
       totals = replay.totals;
       summed = done.stands.totals;
       wrote = subst Q (sym (whole_is report settings done.lines replay.given replay.totals))
-          (Wrote-append taken_old taken_middle taken_new (text_of_notes settings done.lines) told done.wrote (subst R (end_is report settings replay done.lines done.stands) wrote));
+          (Wrote-append writer_old.taken writer_middle.taken writer_new.taken (text_of_notes settings done.lines) told done.wrote (subst R (end_is report settings replay done.lines done.stands) wrote));
       status_is = is
           ∙ ap (λ b. if b || (is_some_diagnostic (half replay.totals.lines replay.pending) || is_some_entry (entries replay)) then Found else Clean) done.has_diagnostics_is
           ∙ ap (λ more. if is_some_diagnostic (notes (history settings done.lines)) || (is_some_diagnostic more || is_some_entry (entries replay)) then Found else Clean) (half-is settings replay done.lines done.stands)
@@ -242,19 +242,19 @@ report_all report settings replay has_diagnostics status left_old left_new taken
     }
 
 -- all was written of a run that makes no report, and the replay in the end
-pub ends_at : (settings : Settings) (replay end : Replayed) (has_diagnostics : Bool) (status : Status) (left_old left_new taken_old taken_middle taken_new : Bytes)
-    → HasReplayed settings replay has_diagnostics left_old left_new taken_old taken_middle
-    → Wrote taken_middle taken_new (end_text Nothing replay)
+pub ends_at : (settings : Settings) (replay end : Replayed) (has_diagnostics : Bool) (status : Status) (reader_old reader_new : ReaderState) (writer_old writer_middle writer_new : WriterState)
+    → HasReplayed settings replay has_diagnostics reader_old reader_new writer_old writer_middle
+    → Wrote writer_middle.taken writer_new.taken (end_text Nothing replay)
     → status ≡ (if has_diagnostics || (is_some_diagnostic (half replay.totals.lines replay.pending) || is_some_entry (entries replay)) then Found else Clean)
     → end ≡ replay → replay.content.records ≡ settings.records
-    → EndsAt settings status end left_old left_new taken_old taken_new
-ends_at settings replay end has_diagnostics status left_old left_new taken_old taken_middle taken_new done wrote is kept records = record {
-  reports = report_all Nothing settings replay has_diagnostics status left_old left_new taken_old taken_middle taken_new done wrote is;
+    → EndsAt settings status end reader_old reader_new writer_old writer_new
+ends_at settings replay end has_diagnostics status reader_old reader_new writer_old writer_middle writer_new done wrote is kept records = record {
+  reports = report_all Nothing settings replay has_diagnostics status reader_old reader_new writer_old writer_middle writer_new done wrote is;
   stands = subst (λ (r : Replayed). StandsFor r settings (reverse done.lines)) (sym kept) done.stands;
   records = ap (λ (r : Replayed). r.content.records) kept ∙ records;
 }
 
 -- and what its heap holds
-pub replays_by : (settings : Settings) (status : Status) (replay : Replayed) (left_old left_new taken_old taken_new : Bytes)
-    → EndsAt settings status replay left_old left_new taken_old taken_new → Replays settings status replay.content left_old left_new taken_old taken_new
-replays_by settings status replay left_old left_new taken_old taken_new ends = record { reports = ends.reports; content_is = ends.stands.content_is }
+pub replays_by : (settings : Settings) (status : Status) (replay : Replayed) (reader_old reader_new : ReaderState) (writer_old writer_new : WriterState)
+    → EndsAt settings status replay reader_old reader_new writer_old writer_new → Replays settings status replay.content reader_old reader_new writer_old writer_new
+replays_by settings status replay reader_old reader_new writer_old writer_new ends = record { reports = ends.reports; content_is = ends.stands.content_is }

@@ -1,20 +1,20 @@
 -- What a run leaves, by its answer. What other answers promise is no matter of this one.
-use Rattle.std.proofs.Common.{List, refl}
+use Rattle.std.proofs.Common.{refl}
 use Rattle.std.specs.Prelude.{Ok, Err, IsTrue}
 use Rattle.mtrace_log.specs.Trace.{HasGivenAll, HasNotFailed, HasTakenAndFlushed, HasFailedToWrite, FlushWasAsked}
-use Rattle.mtrace_log.specs.declared.call.Call.{Call}
+use Rattle.mtrace_log.specs.Shown.{ReaderState, WriterState}
 use Rattle.mtrace_replay.specs.declared.report.Report.{Report}
 use Rattle.mtrace_replay.specs.declared.settings.Settings.{Settings}
 use Rattle.mtrace_replay.specs.declared.status.Status.{Status}
 use Rattle.mtrace_replay.specs.declared.status.RunFault.TheVariants.{Read, Write, OutOfMemory, BadSettings}
 use Rattle.mtrace_replay.specs.Settings.{are_bad}
-use Rattle.mtrace_replay.specs.Run.{Bytes, Runs, Reports, StopsAtRead, StopsAtWrite}
+use Rattle.mtrace_replay.specs.Run.{Runs, Reports, StopsAtRead, StopsAtWrite}
 
-module _ {R W : Type 0} (report : Report) (settings : Settings) (left : R → Bytes) (pulls : R → List Call) (taken : W → Bytes) (puts : W → List Call) where
+module _ {R W : Type 0} (report : Report) (settings : Settings) (reads : R → ReaderState) (writes : W → WriterState) where
   pub runs_to_status : (status : Status) (reader_old reader_new : R) (writer_old writer_new : W)
-      → Reports report settings status (left reader_old) (left reader_new) (taken writer_old) (taken writer_new)
-      → HasGivenAll (pulls reader_old) (pulls reader_new) → HasTakenAndFlushed (puts writer_old) (puts writer_new) → HasNotFailed (pulls reader_old) (pulls reader_new)
-      → (IsTrue (are_bad settings) → ⊥) → Runs report settings left pulls taken puts (Ok status) reader_old reader_new writer_old writer_new
+      → Reports report settings status (reads reader_old) (reads reader_new) (writes writer_old) (writes writer_new)
+      → HasGivenAll (reads reader_old).calls (reads reader_new).calls → HasTakenAndFlushed (writes writer_old).calls (writes writer_new).calls → HasNotFailed (reads reader_old).calls (reads reader_new).calls
+      → (IsTrue (are_bad settings) → ⊥) → Runs report settings reads writes (Ok status) reader_old reader_new writer_old writer_new
   runs_to_status status reader_old reader_new writer_old writer_new reports given flushed not_failed good = record {
     finished = reports;
     reader_ended = given;
@@ -31,9 +31,9 @@ module _ {R W : Type 0} (report : Report) (settings : Settings) (left : R → By
   }
 
   pub runs_to_read : (reader_old reader_new : R) (writer_old writer_new : W)
-      → StopsAtRead settings (left reader_old) (left reader_new) (pulls reader_old) (pulls reader_new) (taken writer_old) (taken writer_new)
-      → FlushWasAsked (puts writer_old) (puts writer_new)
-      → (IsTrue (are_bad settings) → ⊥) → Runs report settings left pulls taken puts (Err Read) reader_old reader_new writer_old writer_new
+      → StopsAtRead settings (reads reader_old) (reads reader_new) (writes writer_old) (writes writer_new)
+      → FlushWasAsked (writes writer_old).calls (writes writer_new).calls
+      → (IsTrue (are_bad settings) → ⊥) → Runs report settings reads writes (Err Read) reader_old reader_new writer_old writer_new
   runs_to_read reader_old reader_new writer_old writer_new stops asked good = record {
     finished = tt;
     reader_ended = tt;
@@ -50,9 +50,9 @@ module _ {R W : Type 0} (report : Report) (settings : Settings) (left : R → By
   }
 
   pub runs_to_write : (reader_old reader_new : R) (writer_old writer_new : W)
-      → StopsAtWrite report settings (left reader_old) (left reader_new) (taken writer_old) (taken writer_new)
-      → HasFailedToWrite (puts writer_old) (puts writer_new) → HasNotFailed (pulls reader_old) (pulls reader_new)
-      → (IsTrue (are_bad settings) → ⊥) → Runs report settings left pulls taken puts (Err Write) reader_old reader_new writer_old writer_new
+      → StopsAtWrite report settings (reads reader_old) (reads reader_new) (writes writer_old) (writes writer_new)
+      → HasFailedToWrite (writes writer_old).calls (writes writer_new).calls → HasNotFailed (reads reader_old).calls (reads reader_new).calls
+      → (IsTrue (are_bad settings) → ⊥) → Runs report settings reads writes (Err Write) reader_old reader_new writer_old writer_new
   runs_to_write reader_old reader_new writer_old writer_new stops failed not_failed good = record {
     finished = tt;
     reader_ended = tt;
@@ -68,8 +68,8 @@ module _ {R W : Type 0} (report : Report) (settings : Settings) (left : R → By
     no_image_fault = λ e. cc;
   }
 
-  pub runs_without_memory : (reader : R) (writer : W) → HasNotFailed (pulls reader) (pulls reader)
-      → (IsTrue (are_bad settings) → ⊥) → Runs report settings left pulls taken puts (Err OutOfMemory) reader reader writer writer
+  pub runs_without_memory : (reader : R) (writer : W) → HasNotFailed (reads reader).calls (reads reader).calls
+      → (IsTrue (are_bad settings) → ⊥) → Runs report settings reads writes (Err OutOfMemory) reader reader writer writer
   runs_without_memory reader writer not_failed good = record {
     finished = tt;
     reader_ended = tt;
@@ -85,8 +85,8 @@ module _ {R W : Type 0} (report : Report) (settings : Settings) (left : R → By
     no_image_fault = λ e. cc;
   }
 
-  pub runs_by_bad_settings : (reader : R) (writer : W) → HasNotFailed (pulls reader) (pulls reader)
-      → IsTrue (are_bad settings) → Runs report settings left pulls taken puts (Err BadSettings) reader reader writer writer
+  pub runs_by_bad_settings : (reader : R) (writer : W) → HasNotFailed (reads reader).calls (reads reader).calls
+      → IsTrue (are_bad settings) → Runs report settings reads writes (Err BadSettings) reader reader writer writer
   runs_by_bad_settings reader writer not_failed bad = record {
     finished = tt;
     reader_ended = tt;

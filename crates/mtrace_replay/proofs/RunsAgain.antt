@@ -1,22 +1,22 @@
 -- A run that reads its log again.
 use Rattle.std.proofs.Common.{◌≡◌, ℕ, List, refl, subst}
 use Rattle.std.specs.Prelude.{Result, Ok, Err}
-use Rattle.mtrace_log.specs.declared.call.Call.{Call}
+use Rattle.mtrace_log.specs.Shown.{Bytes, ReaderState, WriterState}
 use Rattle.mtrace_replay.specs.declared.report.Report.TheVariants.{Nothing}
 use Rattle.mtrace_replay.specs.declared.settings.Settings.{Settings}
 use Rattle.mtrace_replay.specs.declared.status.Status.{Status}
 use Rattle.mtrace_replay.specs.declared.status.RunFault.{RunFault}
 use Rattle.mtrace_replay.specs.declared.status.RunFault.TheVariants.{Read}
 use Rattle.mtrace_replay.specs.Moment.{ReadLine}
-use Rattle.mtrace_replay.specs.Run.{Bytes, Runs}
+use Rattle.mtrace_replay.specs.Run.{Runs}
 use Rattle.mtrace_replay.specs.Again.{Follows, EndsAgain, RunsAgain}
 use Rattle.mtrace_replay.proofs.RunLemmas.{same_error}
 
-module _ {R W : Type 0} (Tells : Bytes → List ℕ → Type 0) (HasWorked : List Call → List Call → Type 0) (Fails : Bytes → Bytes → List Call → List Call → Type 0)
-    (left : R → Bytes) (pulls : R → List Call) (taken : W → Bytes) (puts : W → List Call) (reader_old reader_new : R) (writer_old writer_new : W) where
+module _ {R W : Type 0} (Tells : Bytes → List ℕ → Type 0) (HasWorked Fails : ReaderState → ReaderState → Type 0)
+    (reads : R → ReaderState) (writes : W → WriterState) (reader_old reader_new : R) (writer_old writer_new : W) where
   -- what a call leaves that answers nothing but a fault is what one leaves that answers a status, and that fault
-  pub follows_ok : (status : Status) → Follows {T = Unit {0}} Tells HasWorked Fails left pulls taken puts (Ok tt) reader_old reader_new writer_old writer_new
-      → Follows {T = Status} Tells HasWorked Fails left pulls taken puts (Ok status) reader_old reader_new writer_old writer_new
+  pub follows_ok : (status : Status) → Follows {T = Unit {0}} Tells HasWorked Fails reads writes (Ok tt) reader_old reader_new writer_old writer_new
+      → Follows {T = Status} Tells HasWorked Fails reads writes (Ok status) reader_old reader_new writer_old writer_new
   follows_ok status follow = record {
     faults = tt;
     told = λ other. follow.told (λ e. cc);
@@ -25,8 +25,8 @@ module _ {R W : Type 0} (Tells : Bytes → List ℕ → Type 0) (HasWorked : Lis
     nothing_put = λ e. absurd (cc);
   }
 
-  pub follows_err : (fault : RunFault) → Follows {T = Unit {0}} Tells HasWorked Fails left pulls taken puts (Err fault) reader_old reader_new writer_old writer_new
-      → Follows {T = Status} Tells HasWorked Fails left pulls taken puts (Err fault) reader_old reader_new writer_old writer_new
+  pub follows_err : (fault : RunFault) → Follows {T = Unit {0}} Tells HasWorked Fails reads writes (Err fault) reader_old reader_new writer_old writer_new
+      → Follows {T = Status} Tells HasWorked Fails reads writes (Err fault) reader_old reader_new writer_old writer_new
   follows_err fault follow = record {
     faults = follow.faults;
     told = λ other. follow.told (λ e. other (same_error (Unit {0}) Status fault Read e));
@@ -38,10 +38,10 @@ module _ {R W : Type 0} (Tells : Bytes → List ℕ → Type 0) (HasWorked : Lis
 same_answer : (first second : Status) → (let one : Result Status RunFault = Ok first in one ≡ Ok second) → first ≡ second
 same_answer first second is = cc
 
-module _ {R W : Type 0} (settings : Settings) (After : List ReadLine → Result Status RunFault → R → R → W → W → Type 0) (left whole : R → Bytes) (pulls : R → List Call) (taken : W → Bytes) (puts : W → List Call) where
+module _ {R W : Type 0} (settings : Settings) (After : List ReadLine → Result Status RunFault → R → R → W → W → Type 0) (reads : R → ReaderState) (writes : W → WriterState) where
   -- the first reading ended early
-  pub again_fault : (fault : RunFault) (reader_old reader_new : R) (writer_old writer_new : W) → Runs Nothing settings left pulls taken puts (Err fault) reader_old reader_new writer_old writer_new
-      → RunsAgain settings After left whole pulls taken puts (Err fault) reader_old reader_new writer_old writer_new
+  pub again_fault : (fault : RunFault) (reader_old reader_new : R) (writer_old writer_new : W) → Runs Nothing settings reads writes (Err fault) reader_old reader_new writer_old writer_new
+      → RunsAgain settings After reads writes (Err fault) reader_old reader_new writer_old writer_new
   again_fault fault reader_old reader_new writer_old writer_new runs = record {
     run = Err fault;
     reader_middle = reader_new;
@@ -53,11 +53,11 @@ module _ {R W : Type 0} (settings : Settings) (After : List ReadLine → Result 
 
   -- it reached the end of the log, and then the log was read again
   pub again_ended : (status : Status) (result : Result Status RunFault) (reader_old reader_middle reader_new : R) (writer_old writer_middle writer_new : W)
-      → Runs Nothing settings left pulls taken puts (Ok status) reader_old reader_middle writer_old writer_middle
-      → EndsAgain settings After status left whole taken result reader_old reader_middle reader_new writer_old writer_middle writer_new
-      → RunsAgain settings After left whole pulls taken puts result reader_old reader_new writer_old writer_new
+      → Runs Nothing settings reads writes (Ok status) reader_old reader_middle writer_old writer_middle
+      → EndsAgain settings After status reads writes result reader_old reader_middle reader_new writer_old writer_middle writer_new
+      → RunsAgain settings After reads writes result reader_old reader_new writer_old writer_new
   again_ended status result reader_old reader_middle reader_new writer_old writer_middle writer_new runs ends =
-      let E : Status → Type 0 = λ s. EndsAgain settings After s left whole taken result reader_old reader_middle reader_new writer_old writer_middle writer_new in
+      let E : Status → Type 0 = λ s. EndsAgain settings After s reads writes result reader_old reader_middle reader_new writer_old writer_middle writer_new in
       record {
         run = Ok status;
         reader_middle = reader_middle;

@@ -5,7 +5,7 @@ use Rattle.mtrace_replay.specs.declared.settings.Settings.{Settings}
 use Rattle.mtrace_replay.specs.declared.totals.Totals.{Totals}
 use Rattle.mtrace_replay.specs.Moment.{ReadLine, Given}
 use Rattle.mtrace_replay.specs.Replay.{Replayed, StandsFor, entries}
-use Rattle.mtrace_replay.specs.Run.{Bytes}
+use Rattle.mtrace_log.specs.Shown.{Bytes}
 use Rattle.mtrace_replay.specs.Sites.{Site, AreSites}
 use Rattle.mtrace_replay.specs.Texts.{total_size, section, peak_words, end_words, refused_line}
 use Rattle.mtrace_replay.specs.Again.{HasReplayedFirst}

@@ -2,7 +2,6 @@
 use Rattle.std.proofs.Common.{◌≡◌, ◌<◌, ◌≤◌, ℕ, List, reverse, refl, sym, subst, arith}
 use Rattle.std.specs.List.{All}
 use Rattle.mtrace_log.specs.Progress.{greatest_number}
-use Rattle.mtrace_log.specs.declared.call.Call.{Call}
 use Rattle.mtrace_replay.specs.declared.point.Point.{Point}
 use Rattle.mtrace_replay.specs.declared.settings.Settings.{Settings}
 use Rattle.mtrace_replay.specs.declared.totals.Totals.{Totals}
@@ -11,7 +10,7 @@ use Rattle.mtrace_replay.specs.Totals.{AreTotals}
 use Rattle.mtrace_replay.specs.Moment.{ReadLine}
 use Rattle.mtrace_replay.specs.History.{history}
 use Rattle.mtrace_replay.specs.Replay.{Replayed, StandsFor}
-use Rattle.mtrace_replay.specs.Run.{Bytes}
+use Rattle.mtrace_log.specs.Shown.{Bytes, ReaderState}
 use Rattle.mtrace_replay.specs.Again.{HasReadFirst, FailsAgain}
 use Rattle.mtrace_replay.specs.Texts.{timeline_text}
 use Rattle.mtrace_replay.specs.Timeline.{AreTold}
@@ -45,11 +44,11 @@ tells_timeline settings parts lines replay totals numbers points whole left some
     }
 
 -- the reader failed before the last line
-pub fails_before : (settings : Settings) (parts : ℕ) (lines : List ReadLine) (replay : Replayed) (totals : Totals) (numbers : List ℕ) (whole left_old left_new : Bytes) (calls_old calls_new : List Call) → 0 < parts
+pub fails_before : (settings : Settings) (parts : ℕ) (lines : List ReadLine) (replay : Replayed) (totals : Totals) (numbers : List ℕ) (reader_old reader_new : ReaderState) → 0 < parts
     → StandsFor replay settings (reverse lines) → totals ≡ replay.totals → (totals.peak_line ≤ totals.lines → AreTold totals.lines totals.peak_line parts numbers) → totals.lines ≤ greatest_number
-    → (All (λ number. number ≤ totals.lines) numbers → totals.lines ≤ greatest_number → FailsAgain totals.lines whole left_old left_new calls_old calls_new)
-    → FailsAgainBefore settings lines whole left_old left_new calls_old calls_new
-fails_before settings parts lines replay totals numbers whole left_old left_new calls_old calls_new some stands same told few fails =
+    → (All (λ number. number ≤ totals.lines) numbers → totals.lines ≤ greatest_number → FailsAgain totals.lines reader_old reader_new)
+    → FailsAgainBefore settings lines reader_old reader_new
+fails_before settings parts lines replay totals numbers reader_old reader_new some stands same told few fails =
     let summed = totals_of settings lines replay totals stands same in
     let within = peak_within settings lines totals summed in
     (totals, summed, fails (told_within totals.lines totals.peak_line parts numbers some within (told within)) few)

@@ -6,7 +6,7 @@ use Rattle.mtrace_log.specs.HasRead.{whole_lines, HasReadAll}
 use Rattle.mtrace_log.proofs.LineLemmas.{lines_of-whole_lines}
 use Rattle.mtrace_log.proofs.SpellingLemmas.{Reads-same}
 use Rattle.mtrace_replay.specs.Moment.{ReadLine}
-use Rattle.mtrace_replay.specs.Run.{Bytes}
+use Rattle.mtrace_log.specs.Shown.{Bytes}
 use Rattle.mtrace_replay.specs.Again.{HasReadFirst}
 
 -- lines read as one list of answers, and the first of them as its beginning

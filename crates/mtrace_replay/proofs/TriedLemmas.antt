@@ -8,23 +8,23 @@ use Rattle.mtrace_log.specs.declared.call.Call.{Call}
 use Rattle.mtrace_log.specs.declared.call.Call.TheVariants.{Gave, Failed, Began, Ended as ToldEnd}
 use Rattle.mtrace_replay.specs.declared.settings.Settings.{Settings}
 use Rattle.mtrace_replay.specs.Replay.{Replayed}
-use Rattle.mtrace_replay.specs.Run.{Bytes}
-use Rattle.mtrace_replay.specs.Again.{HasReadFirst, StopsEarly, FailsAgain}
+use Rattle.mtrace_log.specs.Shown.{ReaderState}
+use Rattle.mtrace_replay.specs.Again.{HasReadFirst, begun_again, StopsEarly, FailsAgain}
 use Rattle.mtrace_replay.specs.RunFit.{IsTried, NoneFailed}
 use Rattle.mtrace_replay.specs.Replaying.{IsReplaying}
 use Rattle.mtrace_replay.proofs.AgainLemmas.{read_first}
 
 -- no line is refused
-pub tried_served : (many : ℕ) (settings : Settings) (progress : Progress) (replay : Replayed) (start left : Bytes) → (so_far : IsReplaying settings progress replay start left)
-    → progress.count ≡ many → replay.totals.refused ≡ 0 → IsTried settings many true start left
-tried_served many settings progress replay start left so_far all none =
-    (so_far.lines, subst (λ n. HasReadFirst n start left so_far.lines) all (read_first settings progress replay start left so_far), sym so_far.stands.totals.refused ∙ none)
+pub tried_served : (many : ℕ) (settings : Settings) (progress : Progress) (replay : Replayed) (start now : ReaderState) → (so_far : IsReplaying settings progress replay start now)
+    → progress.count ≡ many → replay.totals.refused ≡ 0 → IsTried settings many true start.left now.left
+tried_served many settings progress replay start now so_far all none =
+    (so_far.lines, subst (λ n. HasReadFirst n start.left now.left so_far.lines) all (read_first settings progress replay start now so_far), sym so_far.stands.totals.refused ∙ none)
 
 -- a line is refused
-pub tried_refused : (many : ℕ) (settings : Settings) (progress : Progress) (replay : Replayed) (start left : Bytes) → IsReplaying settings progress replay start left
-    → progress.count ≤ many → 0 < replay.totals.refused → IsTried settings many false start left
-tried_refused many settings progress replay start left so_far few some =
-    (so_far.lines, progress.count, few, read_first settings progress replay start left so_far, subst (λ n. 0 < n) so_far.stands.totals.refused some)
+pub tried_refused : (many : ℕ) (settings : Settings) (progress : Progress) (replay : Replayed) (start now : ReaderState) → IsReplaying settings progress replay start now
+    → progress.count ≤ many → 0 < replay.totals.refused → IsTried settings many false start.left now.left
+tried_refused many settings progress replay start now so_far few some =
+    (so_far.lines, progress.count, few, read_first settings progress replay start now so_far, subst (λ n. 0 < n) so_far.stands.totals.refused some)
 
 gave_no_failure : (counts : List ℕ) → AllByRecursion (λ call. call ≢ Failed) (map Gave counts)
 gave_no_failure [] = tt
@@ -60,10 +60,11 @@ none_failed-began old middle new began then =
     none_failed-then old middle new (record { more = Began ∷ []; none = ((λ is. cc), tt); calls = began }) then
 
 -- it began again, and then stopped
-pub fails_again : (many : ℕ) (whole left_old left_middle left_new : Bytes) (calls_old calls_middle calls_new : List Call) → left_middle ≡ whole → calls_middle ≡ Began ∷ calls_old
-    → StopsEarly many left_middle left_new calls_middle calls_new → FailsAgain many whole left_old left_new calls_old calls_new
-fails_again many whole left_old left_middle left_new calls_old calls_middle calls_new left_is calls_are failed =
-    inr (subst (λ calls. StopsEarly many whole left_new calls calls_new) calls_are (subst (λ left. StopsEarly many left left_new calls_middle calls_new) left_is failed))
+pub fails_again : (many : ℕ) (reader_old reader_middle reader_new : ReaderState) → reader_middle.left ≡ reader_old.whole → reader_middle.whole ≡ reader_old.whole → reader_middle.calls ≡ Began ∷ reader_old.calls
+    → StopsEarly many reader_middle reader_new → FailsAgain many reader_old reader_new
+fails_again many reader_old reader_middle reader_new left_is whole_is calls_are failed =
+    let is : reader_middle ≡ begun_again reader_old = λ i. record { left = left_is i; whole = whole_is i; calls = calls_are i } in
+    inr (subst (λ reader. StopsEarly many reader reader_new) is failed)
 
 -- what follows where a call succeeds, or fails
 pub on_ok : {T E A B : Type 0} → (result : Result T E) → OnOk result A → (A → B) → OnOk result B

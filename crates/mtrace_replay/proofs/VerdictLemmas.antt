@@ -9,7 +9,7 @@ use Rattle.mtrace_replay.specs.declared.settings.Settings.{Settings}
 use Rattle.mtrace_replay.specs.Moment.{ReadLine, Moment}
 use Rattle.mtrace_replay.specs.History.{history}
 use Rattle.mtrace_replay.specs.Totals.{is_refused}
-use Rattle.mtrace_replay.specs.Run.{Bytes}
+use Rattle.mtrace_log.specs.Shown.{Bytes}
 use Rattle.mtrace_replay.specs.RunFit.{refusals, IsTried}
 use Rattle.mtrace_replay.proofs.RunLemmas.{next_moment, history-more}
 use Rattle.mtrace_replay.proofs.ToldLemmas.{told_first}

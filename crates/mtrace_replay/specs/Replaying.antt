@@ -1,51 +1,50 @@
 -- Lines that are read and replayed one after the other.
 use Rattle.std.specs.Prelude.{◌≡◌, ◌≢◌, ℕ, ◌+◌, ◌<◌, ◌≤◌, List, ◌++◌, length, reverse, Result, OnOk, OnErr}
 use Rattle.mtrace_log.specs.Progress.{Progress, Faulted, to_come, CallsFor, greatest_number}
+use Rattle.mtrace_log.specs.Shown.{ReaderState}
 use Rattle.mtrace_log.specs.Trace.{HasNotFailed}
 use Rattle.mtrace_log.specs.HasRead.{HasReadSo}
 use Rattle.mtrace_log.specs.Event.{Event}
-use Rattle.mtrace_log.specs.declared.call.Call.{Call}
 use Rattle.mtrace_log.specs.declared.event.LineFault.{LineFault}
 use Rattle.mtrace_log.specs.declared.line.ReadFault.{ReadFault}
 use Rattle.mtrace_replay.specs.declared.settings.Settings.{Settings}
 use Rattle.mtrace_replay.specs.Replay.{Replayed, StandsFor}
-use Rattle.mtrace_replay.specs.Run.{Bytes}
 use Rattle.mtrace_replay.specs.Again.{StopsEarly}
 
 -- the lines so far were read and replayed
-pub record IsReplaying (settings : Settings) (progress : Progress) (replay : Replayed) (left_start left_now : Bytes) : Type 0 where
+pub record IsReplaying (settings : Settings) (progress : Progress) (replay : Replayed) (reader_start reader_now : ReaderState) : Type 0 where
   pub lines : List (Result Event LineFault)
   pub count : progress.count ≡ length lines
   pub no_fault : (fault : ReadFault) → progress.stage ≢ Faulted fault
-  pub read : HasReadSo progress.stage left_start (to_come progress left_now) lines
+  pub read : HasReadSo progress.stage reader_start.left (to_come progress reader_now.left) lines
   pub stands : StandsFor replay settings (reverse lines)
 
 -- the lines so far, and more behind these, were read and replayed
-pub record GoesOn (settings : Settings) (before : List (Result Event LineFault)) (progress : Progress) (replay : Replayed) (left_start left_now : Bytes) : Type 0 where
-  pub now : IsReplaying settings progress replay left_start left_now
+pub record GoesOn (settings : Settings) (before : List (Result Event LineFault)) (progress : Progress) (replay : Replayed) (reader_start reader_now : ReaderState) : Type 0 where
+  pub now : IsReplaying settings progress replay reader_start reader_now
   pub more : List (Result Event LineFault)
   pub behind : now.lines ≡ before ++ more
 
 -- What a call leaves that reads and replays one line more. With that line what was so is so. Or the reader failed, or has no
 -- more lines.
-pub record ReplaysNext {R E : Type 0} (left bytes : R → Bytes) (pulls : R → List Call) (result : Result (Unit {0}) E) (old new : Progress) (replay_old replay_new : Replayed) (reader_old reader_new : R) : Type 0 where
+pub record ReplaysNext {E : Type 0} (result : Result (Unit {0}) E) (old new : Progress) (replay_old replay_new : Replayed) (reader_old reader_new : ReaderState) : Type 0 where
   pub counted : OnOk result (replay_new.totals.lines ≡ new.count)
   pub one_more : OnOk result (new.count ≡ old.count + 1)
-  pub replaying : OnOk result ((settings : Settings) (start : Bytes) (so_far : IsReplaying settings old replay_old start (left reader_old)) → GoesOn settings so_far.lines new replay_new start (left reader_new))
-  pub gave : OnOk result ((calls : List Call) → CallsFor old.stage calls (pulls reader_old) → CallsFor new.stage calls (pulls reader_new) × HasNotFailed calls (pulls reader_new))
-  pub stops : OnErr result ((settings : Settings) (start : Bytes) (calls : List Call) (many : ℕ) → IsReplaying settings old replay_old start (left reader_old) → CallsFor old.stage calls (pulls reader_old)
-      → old.count < many → many ≤ greatest_number → StopsEarly many start (left reader_new) calls (pulls reader_new))
-  pub whole : bytes reader_new ≡ bytes reader_old
+  pub replaying : OnOk result ((settings : Settings) (start : ReaderState) (so_far : IsReplaying settings old replay_old start reader_old) → GoesOn settings so_far.lines new replay_new start reader_new)
+  pub gave : OnOk result ((start : ReaderState) → CallsFor old.stage start.calls reader_old.calls → CallsFor new.stage start.calls reader_new.calls × HasNotFailed start.calls reader_new.calls)
+  pub stops : OnErr result ((settings : Settings) (start : ReaderState) (many : ℕ) → IsReplaying settings old replay_old start reader_old → CallsFor old.stage start.calls reader_old.calls
+      → old.count < many → many ≤ greatest_number → StopsEarly many start reader_new)
+  pub whole : reader_new.whole ≡ reader_old.whole
   pub records : replay_new.content.records ≡ replay_old.content.records
 
 -- What a call leaves that reads and replays the lines up to one. With them what was so is so. Or the reader failed, or has fewer lines.
-pub record ReplaysUpTo {R E : Type 0} (left bytes : R → Bytes) (pulls : R → List Call) (number : ℕ) (result : Result (Unit {0}) E) (old new : Progress) (replay_old replay_new : Replayed)
-    (reader_old reader_new : R) : Type 0 where
+pub record ReplaysUpTo {E : Type 0} (number : ℕ) (result : Result (Unit {0}) E) (old new : Progress) (replay_old replay_new : Replayed)
+    (reader_old reader_new : ReaderState) : Type 0 where
   pub counted : OnOk result (replay_new.totals.lines ≡ new.count)
   pub reached : OnOk result (new.count ≡ number)
-  pub replaying : OnOk result ((settings : Settings) (start : Bytes) (so_far : IsReplaying settings old replay_old start (left reader_old)) → GoesOn settings so_far.lines new replay_new start (left reader_new))
-  pub gave : OnOk result ((calls : List Call) → CallsFor old.stage calls (pulls reader_old) → HasNotFailed calls (pulls reader_old) → CallsFor new.stage calls (pulls reader_new) × HasNotFailed calls (pulls reader_new))
-  pub stops : OnErr result ((settings : Settings) (start : Bytes) (calls : List Call) (many : ℕ) → IsReplaying settings old replay_old start (left reader_old) → CallsFor old.stage calls (pulls reader_old)
-      → number ≤ many → many ≤ greatest_number → StopsEarly many start (left reader_new) calls (pulls reader_new))
-  pub whole : bytes reader_new ≡ bytes reader_old
+  pub replaying : OnOk result ((settings : Settings) (start : ReaderState) (so_far : IsReplaying settings old replay_old start reader_old) → GoesOn settings so_far.lines new replay_new start reader_new)
+  pub gave : OnOk result ((start : ReaderState) → CallsFor old.stage start.calls reader_old.calls → HasNotFailed start.calls reader_old.calls → CallsFor new.stage start.calls reader_new.calls × HasNotFailed start.calls reader_new.calls)
+  pub stops : OnErr result ((settings : Settings) (start : ReaderState) (many : ℕ) → IsReplaying settings old replay_old start reader_old → CallsFor old.stage start.calls reader_old.calls
+      → number ≤ many → many ≤ greatest_number → StopsEarly many start reader_new)
+  pub whole : reader_new.whole ≡ reader_old.whole
   pub records : replay_new.content.records ≡ replay_old.content.records

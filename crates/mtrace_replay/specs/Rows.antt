@@ -1,6 +1,6 @@
 -- What a reading of a heap's rows gives.
-use Rattle.std.specs.Prelude.{◌≡◌, ℕ, List, [], Option, Result, Ok, Err}
-use Rattle.mtrace_log.specs.declared.call.Call.{Call}
+use Rattle.std.specs.Prelude.{◌≡◌, ℕ, List, [], Result, Ok, Err}
+use Rattle.mtrace_log.specs.Shown.{WriterState}
 use Rattle.mtrace_log.specs.Output.{Puts}
 use Rattle.tlsf_heap.specs.declared.refusal.Refusal.{Refusal}
 use Rattle.tlsf_heap.specs.declared.row.Row.{Row}
@@ -16,7 +16,7 @@ abbrev pub rows_at : {A : Type 0} → List (Pool A) → ℕ → List Row
 rows_at pools base = or_none (rows_from base pools)
 
 -- a text is put of what is read of a heap, which stays as it is
-pub record PutsOf {H W T E : Type 0} (content : H → Content ℕ) (taken : W → Option (List ℕ)) (trace : W → List Call) (result : Result T E) (text : List ℕ)
-    (writer_old writer_new : W) (heap_old heap_new : H) : Type 0 where
-  pub puts : Puts taken trace result text writer_old writer_new
+pub record PutsOf {H T E : Type 0} (content : H → Content ℕ) (result : Result T E) (text : List ℕ)
+    (writer_old writer_new : WriterState) (heap_old heap_new : H) : Type 0 where
+  pub puts : Puts result text writer_old writer_new
   pub unchanged : content heap_new ≡ content heap_old

@@ -1,10 +1,10 @@
 -- What a run read and wrote, by its answer.
-use Rattle.std.specs.Prelude.{◌≡◌, ◌≢◌, ◌⊎◌, ◌↔◌, ℕ, Bool, true, false, List, [], ◌∷◌, ◌++◌, length, reverse, Option, Result, Ok, Err, IsTrue, IfOk, OnOk, OnErr, IsErrOf, ◌||◌, if◌then◌else◌}
+use Rattle.std.specs.Prelude.{◌≡◌, ◌≢◌, ◌⊎◌, ◌↔◌, ℕ, Bool, true, false, List, [], ◌∷◌, ◌++◌, length, reverse, Result, Ok, Err, IsTrue, IfOk, OnOk, OnErr, IsErrOf, ◌||◌, if◌then◌else◌}
 use Rattle.std.specs.Io.KnownBytes.{prepend_known}
 use Rattle.mtrace_log.specs.HasRead.{HasRead, HasReadAll, HasReadBefore}
 use Rattle.mtrace_log.specs.Progress.{HasMore, greatest_number}
+use Rattle.mtrace_log.specs.Shown.{ReaderState, WriterState}
 use Rattle.mtrace_log.specs.Trace.{HasGiven, HasGivenAll, HasGivenAndFailed, HasNotFailed, HasTaken, HasTakenAndFlushed, HasTakenAndFailed, HasFailedToWrite, FlushWasAsked}
-use Rattle.mtrace_log.specs.declared.call.Call.{Call}
 use Rattle.mtrace_replay.specs.Entry.{Entry}
 use Rattle.mtrace_replay.specs.declared.report.Report.{Report}
 use Rattle.mtrace_replay.specs.declared.report.Report.TheVariants.{Nothing}
@@ -27,8 +27,9 @@ use Rattle.mtrace_replay.specs.declared.diagnostic.Diagnostic.{Diagnostic}
 use Rattle.mtrace_replay.specs.Texts.{diagnostics_text, report_text, clean_or_found}
 use Rattle.mtrace_log.specs.Output.{Wrote, Begins, Puts}
 
-abbrev pub Bytes : Type 0
-Bytes = Option (List ℕ)
+-- the reader, with bytes that were asked of it and belong to no line put back in front
+abbrev pub with_unused : List ℕ → ReaderState → ReaderState
+with_unused unused reader = record reader { left = prepend_known unused reader.left }
 
 -- the text of the diagnostics of lines, the first line first
 abbrev pub text_of_notes : Settings → List ReadLine → List ℕ
@@ -41,91 +42,91 @@ whole_text report settings lines all totals =
     ++ report_text report (entries_of all) totals (content_after (started settings) (history settings lines))
 
 -- all of the log was read, and the whole text of its history was written; the status is that text's
-pub record Reports (report : Report) (settings : Settings) (status : Status) (left_old left_new taken_old taken_new : Bytes) : Type 0 where
+pub record Reports (report : Report) (settings : Settings) (status : Status) (reader_old reader_new : ReaderState) (writer_old writer_new : WriterState) : Type 0 where
   pub lines : List ReadLine
-  pub read : HasReadAll left_old left_new lines
+  pub read : HasReadAll reader_old.left reader_new.left lines
   pub all : List Given
   pub held : AreHeld all (history settings lines)
   pub totals : Totals
   pub summed : AreTotals (started settings) (history settings lines) totals
-  pub wrote : Wrote taken_old taken_new (whole_text report settings lines all totals)
+  pub wrote : Wrote writer_old.taken writer_new.taken (whole_text report settings lines all totals)
   pub status_is : status ≡ clean_or_found (diagnostics settings lines) (entries_of all)
 
 -- a run without a report, and what its heap holds in the end
-pub record Replays (settings : Settings) (status : Status) (content : Bare) (left_old left_new taken_old taken_new : Bytes) : Type 0 where
-  pub reports : Reports Nothing settings status left_old left_new taken_old taken_new
+pub record Replays (settings : Settings) (status : Status) (content : Bare) (reader_old reader_new : ReaderState) (writer_old writer_new : WriterState) : Type 0 where
+  pub reports : Reports Nothing settings status reader_old reader_new writer_old writer_new
   pub content_is : content ≡ content_after (started settings) (history settings reports.lines)
 
 -- a run without a report, and the replay in the end
-pub record EndsAt (settings : Settings) (status : Status) (replay : Replayed) (left_old left_new taken_old taken_new : Bytes) : Type 0 where
-  pub reports : Reports Nothing settings status left_old left_new taken_old taken_new
+pub record EndsAt (settings : Settings) (status : Status) (replay : Replayed) (reader_old reader_new : ReaderState) (writer_old writer_new : WriterState) : Type 0 where
+  pub reports : Reports Nothing settings status reader_old reader_new writer_old writer_new
   pub stands : StandsFor replay settings (reverse reports.lines)
   pub records : replay.content.records ≡ settings.records
 
 -- as many lines were read as there are numbers, more is to come, and the reader has not failed
-pub record IsPastLastNumber (left_old left_new : Bytes) (calls_old calls_new : List Call) (lines : List ReadLine) : Type 0 where
+pub record IsPastLastNumber (reader_old reader_new : ReaderState) (lines : List ReadLine) : Type 0 where
   pub count : length lines ≡ greatest_number
-  pub read : HasRead left_old left_new lines
-  pub more : HasMore left_new
-  pub given : HasGiven calls_old calls_new
+  pub read : HasRead reader_old.left reader_new.left lines
+  pub more : HasMore reader_new.left
+  pub given : HasGiven reader_old.calls reader_new.calls
 
 -- all of the log was read, and a beginning of the whole text was written
-pub record BeginsWhole (report : Report) (settings : Settings) (left_old left_new taken_old taken_new : Bytes) (lines : List ReadLine) : Type 0 where
-  pub read : HasReadAll left_old left_new lines
+pub record BeginsWhole (report : Report) (settings : Settings) (reader_old reader_new : ReaderState) (writer_old writer_new : WriterState) (lines : List ReadLine) : Type 0 where
+  pub read : HasReadAll reader_old.left reader_new.left lines
   pub all : List Given
   pub held : AreHeld all (history settings lines)
   pub totals : Totals
   pub summed : AreTotals (started settings) (history settings lines) totals
-  pub begun : Begins taken_old taken_new (whole_text report settings lines all totals)
+  pub begun : Begins writer_old.taken writer_new.taken (whole_text report settings lines all totals)
 
 -- the reader failed, once and last: whole lines were read, and perhaps a piece of the next one, which is lost
-abbrev pub FailedInPiece : (left_old left_new : Bytes) (calls_old calls_new : List Call) → List ReadLine → Type 0
-FailedInPiece left_old left_new calls_old calls_new lines = HasReadBefore left_old left_new lines × HasGivenAndFailed calls_old calls_new
+abbrev pub FailedInPiece : (reader_old reader_new : ReaderState) → List ReadLine → Type 0
+FailedInPiece reader_old reader_new lines = HasReadBefore reader_old.left reader_new.left lines × HasGivenAndFailed reader_old.calls reader_new.calls
 
 -- The reader failed, or a line past the last number would come. In the second case unused are the bytes that were
 -- asked of the reader and belong to no line that was read. The diagnostics of the lines read were written, and no
 -- report.
-pub record StopsAtRead (settings : Settings) (left_old left_new : Bytes) (calls_old calls_new : List Call) (taken_old taken_new : Bytes) : Type 0 where
+pub record StopsAtRead (settings : Settings) (reader_old reader_new : ReaderState) (writer_old writer_new : WriterState) : Type 0 where
   pub lines : List ReadLine
-  pub reason : FailedInPiece left_old left_new calls_old calls_new lines
-      ⊎ ((unused : List ℕ) × IsPastLastNumber left_old (prepend_known unused left_new) calls_old calls_new lines)
-  pub wrote : Wrote taken_old taken_new (text_of_notes settings lines)
+  pub reason : FailedInPiece reader_old reader_new lines
+      ⊎ ((unused : List ℕ) × IsPastLastNumber reader_old (with_unused unused reader_new) lines)
+  pub wrote : Wrote writer_old.taken writer_new.taken (text_of_notes settings lines)
 
 -- a beginning of the diagnostics of the lines read, or of the whole text where the log had ended
-abbrev pub BeginsText : Report → Settings → (left_old left_new taken_old taken_new : Bytes) → List ReadLine → Type 0
-BeginsText report settings left_old left_new taken_old taken_new lines =
-    (HasRead left_old left_new lines × Begins taken_old taken_new (text_of_notes settings lines))
-    ⊎ BeginsWhole report settings left_old left_new taken_old taken_new lines
+abbrev pub BeginsText : Report → Settings → (reader_old reader_new : ReaderState) (writer_old writer_new : WriterState) → List ReadLine → Type 0
+BeginsText report settings reader_old reader_new writer_old writer_new lines =
+    (HasRead reader_old.left reader_new.left lines × Begins writer_old.taken writer_new.taken (text_of_notes settings lines))
+    ⊎ BeginsWhole report settings reader_old reader_new writer_old writer_new lines
 
 -- The writer failed, after a beginning of what was to be written. Unused are the bytes that were asked of
 -- the reader and belong to no line that was read.
-pub record StopsAtWrite (report : Report) (settings : Settings) (left_old left_new taken_old taken_new : Bytes) : Type 0 where
+pub record StopsAtWrite (report : Report) (settings : Settings) (reader_old reader_new : ReaderState) (writer_old writer_new : WriterState) : Type 0 where
   pub lines : List ReadLine
   pub unused : List ℕ
-  pub begun : BeginsText report settings left_old (prepend_known unused left_new) taken_old taken_new lines
+  pub begun : BeginsText report settings reader_old (with_unused unused reader_new) writer_old writer_new lines
 
 -- What a run leaves, by what it answers. Where it answers a status, all of the log was read, what was written is its
 -- whole text, and the status is that text's. Bad settings come exactly where they are bad, and then nothing is done.
-pub record Runs {R W : Type 0} (report : Report) (settings : Settings) (left : R → Bytes) (pulls : R → List Call) (taken : W → Bytes) (puts : W → List Call)
+pub record Runs {R W : Type 0} (report : Report) (settings : Settings) (reads : R → ReaderState) (writes : W → WriterState)
     (result : Result Status RunFault) (reader_old reader_new : R) (writer_old writer_new : W) : Type 0 where
-  pub finished : IfOk result (λ status. Reports report settings status (left reader_old) (left reader_new) (taken writer_old) (taken writer_new))
-  pub reader_ended : OnOk result (HasGivenAll (pulls reader_old) (pulls reader_new))
-  pub writer_flushed : OnOk result (HasTakenAndFlushed (puts writer_old) (puts writer_new))
-  pub read_fault : IsErrOf result Read → StopsAtRead settings (left reader_old) (left reader_new) (pulls reader_old) (pulls reader_new) (taken writer_old) (taken writer_new)
-  pub flush_asked : IsErrOf result Read → FlushWasAsked (puts writer_old) (puts writer_new)
-  pub write_fault : IsErrOf result Write → StopsAtWrite report settings (left reader_old) (left reader_new) (taken writer_old) (taken writer_new)
-  pub writer_failed : IsErrOf result Write → HasFailedToWrite (puts writer_old) (puts writer_new)
+  pub finished : IfOk result (λ status. Reports report settings status (reads reader_old) (reads reader_new) (writes writer_old) (writes writer_new))
+  pub reader_ended : OnOk result (HasGivenAll (reads reader_old).calls (reads reader_new).calls)
+  pub writer_flushed : OnOk result (HasTakenAndFlushed (writes writer_old).calls (writes writer_new).calls)
+  pub read_fault : IsErrOf result Read → StopsAtRead settings (reads reader_old) (reads reader_new) (writes writer_old) (writes writer_new)
+  pub flush_asked : IsErrOf result Read → FlushWasAsked (writes writer_old).calls (writes writer_new).calls
+  pub write_fault : IsErrOf result Write → StopsAtWrite report settings (reads reader_old) (reads reader_new) (writes writer_old) (writes writer_new)
+  pub writer_failed : IsErrOf result Write → HasFailedToWrite (writes writer_old).calls (writes writer_new).calls
   pub no_memory : IsErrOf result OutOfMemory → (reader_new ≡ reader_old) × (writer_new ≡ writer_old)
-  pub reader_not_failed : result ≢ Err Read → HasNotFailed (pulls reader_old) (pulls reader_new)
+  pub reader_not_failed : result ≢ Err Read → HasNotFailed (reads reader_old).calls (reads reader_new).calls
   pub bad_settings : IsErrOf result BadSettings ↔ IsTrue (are_bad settings)
   pub nothing_done : IsErrOf result BadSettings → (reader_new ≡ reader_old) × (writer_new ≡ writer_old)
   pub no_image_fault : result ≢ Err Image
 
 -- a run as `Runs` tells it, after which the reader has the same bytes in whole
-pub record RunsOnce {R W : Type 0} (report : Report) (settings : Settings) (left bytes : R → Bytes) (pulls : R → List Call) (taken : W → Bytes) (puts : W → List Call)
+pub record RunsOnce {R W : Type 0} (report : Report) (settings : Settings) (reads : R → ReaderState) (writes : W → WriterState)
     (result : Result Status RunFault) (reader_old reader_new : R) (writer_old writer_new : W) : Type 0 where
-  pub runs : Runs report settings left pulls taken puts result reader_old reader_new writer_old writer_new
-  pub whole : bytes reader_new ≡ bytes reader_old
+  pub runs : Runs report settings reads writes result reader_old reader_new writer_old writer_new
+  pub whole : (reads reader_new).whole ≡ (reads reader_old).whole
 
 -- what a replay writes at the end: the diagnostic of the last line, and the report
 abbrev pub end_text : Report → Replayed → List ℕ
@@ -143,68 +144,68 @@ is_some_entry [] = false
 is_some_entry (first ∷ entries) = true
 
 -- one line more was replayed, and its diagnostics were written
-pub record LineGives (new : Replayed) (settings : Settings) (line : ReadLine) (past : List ReadLine) (taken_old taken_new : Bytes) (has_diagnostics : Bool) : Type 0 where
+pub record LineGives (new : Replayed) (settings : Settings) (line : ReadLine) (past : List ReadLine) (writer_old writer_new : WriterState) (has_diagnostics : Bool) : Type 0 where
   pub stands : StandsFor new settings (line ∷ past)
-  pub wrote : Wrote taken_old taken_new (diagnostics_text (added_diagnostics settings line past))
+  pub wrote : Wrote writer_old.taken writer_new.taken (diagnostics_text (added_diagnostics settings line past))
   pub has_diagnostics_is : has_diagnostics ≡ is_some_diagnostic (added_diagnostics settings line past)
 
 -- one line more was replayed, and its diagnostics were begun
-pub record LineBegins (new : Replayed) (settings : Settings) (line : ReadLine) (past : List ReadLine) (taken_old taken_new : Bytes) : Type 0 where
+pub record LineBegins (new : Replayed) (settings : Settings) (line : ReadLine) (past : List ReadLine) (writer_old writer_new : WriterState) : Type 0 where
   pub stands : StandsFor new settings (line ∷ past)
-  pub begun : Begins taken_old taken_new (diagnostics_text (added_diagnostics settings line past))
+  pub begun : Begins writer_old.taken writer_new.taken (diagnostics_text (added_diagnostics settings line past))
 
 -- all lines of the log were read and replayed, and their diagnostics were written
-pub record HasReplayed (settings : Settings) (replay : Replayed) (has_diagnostics : Bool) (left_old left_new taken_old taken_new : Bytes) : Type 0 where
+pub record HasReplayed (settings : Settings) (replay : Replayed) (has_diagnostics : Bool) (reader_old reader_new : ReaderState) (writer_old writer_new : WriterState) : Type 0 where
   pub lines : List ReadLine
-  pub read : HasReadAll left_old left_new lines
+  pub read : HasReadAll reader_old.left reader_new.left lines
   pub stands : StandsFor replay settings (reverse lines)
-  pub wrote : Wrote taken_old taken_new (text_of_notes settings lines)
+  pub wrote : Wrote writer_old.taken writer_new.taken (text_of_notes settings lines)
   pub has_diagnostics_is : has_diagnostics ≡ is_some_diagnostic (notes (history settings lines))
 
 -- What a call leaves that replays one line and puts what is wrong with it, for all lines before it.
-pub record ReplaysLine {W E : Type 0} (taken : W → Bytes) (puts : W → List Call) (number : ℕ) (line : ReadLine) (result : Result Bool E)
-    (replay_old replay_new : Replayed) (findings : List Diagnostic) (writer_old writer_new : W) : Type 0 where
+pub record ReplaysLine {E : Type 0} (number : ℕ) (line : ReadLine) (result : Result Bool E)
+    (replay_old replay_new : Replayed) (findings : List Diagnostic) (writer_old writer_new : WriterState) : Type 0 where
   pub done : IfOk result (λ has_diagnostics. (settings : Settings) (past : List ReadLine) → StandsFor replay_old settings past
-      → LineGives replay_new settings line past (taken writer_old) (taken writer_new) has_diagnostics)
+      → LineGives replay_new settings line past writer_old writer_new has_diagnostics)
   pub counted : OnOk result (replay_new.totals.lines ≡ number)
   pub cleared : OnOk result (findings ≡ [])
   pub records : replay_new.content.records ≡ replay_old.content.records
-  pub took : OnOk result (HasTaken (puts writer_old) (puts writer_new))
+  pub took : OnOk result (HasTaken writer_old.calls writer_new.calls)
   pub write : OnErr result ((settings : Settings) (past : List ReadLine) → StandsFor replay_old settings past
-      → LineBegins replay_new settings line past (taken writer_old) (taken writer_new))
-  pub failed : OnErr result (HasTakenAndFailed (puts writer_old) (puts writer_new))
+      → LineBegins replay_new settings line past writer_old writer_new)
+  pub failed : OnErr result (HasTakenAndFailed writer_old.calls writer_new.calls)
 
 -- What a call leaves that reads and replays all lines and puts what is wrong with each, unless the reader or the writer fails.
-pub record ReplaysLines {R W : Type 0} (left bytes : R → Bytes) (pulls : R → List Call) (taken : W → Bytes) (puts : W → List Call) (result : Result Bool Failing)
-    (replay_old replay_new : Replayed) (reader_old reader_new : R) (writer_old writer_new : W) : Type 0 where
+pub record ReplaysLines (result : Result Bool Failing)
+    (replay_old replay_new : Replayed) (reader_old reader_new : ReaderState) (writer_old writer_new : WriterState) : Type 0 where
   pub done : IfOk result (λ has_diagnostics. (settings : Settings) → StandsFor replay_old settings []
-      → HasReplayed settings replay_new has_diagnostics (left reader_old) (left reader_new) (taken writer_old) (taken writer_new))
+      → HasReplayed settings replay_new has_diagnostics reader_old reader_new writer_old writer_new)
   pub records : replay_new.content.records ≡ replay_old.content.records
-  pub whole : bytes reader_new ≡ bytes reader_old
-  pub reader_ended : OnOk result (HasGivenAll (pulls reader_old) (pulls reader_new))
-  pub reader_not_failed : result ≢ Err Reader → HasNotFailed (pulls reader_old) (pulls reader_new)
-  pub writer_took : result ≢ Err Writer → HasTaken (puts writer_old) (puts writer_new)
-  pub writer_failed : IsErrOf result Writer → HasTakenAndFailed (puts writer_old) (puts writer_new)
+  pub whole : reader_new.whole ≡ reader_old.whole
+  pub reader_ended : OnOk result (HasGivenAll reader_old.calls reader_new.calls)
+  pub reader_not_failed : result ≢ Err Reader → HasNotFailed reader_old.calls reader_new.calls
+  pub writer_took : result ≢ Err Writer → HasTaken writer_old.calls writer_new.calls
+  pub writer_failed : IsErrOf result Writer → HasTakenAndFailed writer_old.calls writer_new.calls
   pub read : IsErrOf result Reader → (settings : Settings) → StandsFor replay_old settings []
-      → StopsAtRead settings (left reader_old) (left reader_new) (pulls reader_old) (pulls reader_new) (taken writer_old) (taken writer_new)
+      → StopsAtRead settings reader_old reader_new writer_old writer_new
   pub write : IsErrOf result Writer → (settings : Settings) → StandsFor replay_old settings []
-      → (report : Report) → StopsAtWrite report settings (left reader_old) (left reader_new) (taken writer_old) (taken writer_new)
+      → (report : Report) → StopsAtWrite report settings reader_old reader_new writer_old writer_new
 
 -- what a call leaves that puts this text with the report in it
-pub record PutsReport {W T E : Type 0} (taken : W → Bytes) (puts : W → List Call) (result : Result T E) (report : Report) (text : List ℕ)
-    (replay_old replay_new : Replayed) (writer_old writer_new : W) : Type 0 where
-  pub put : Puts taken puts result text writer_old writer_new
+pub record PutsReport {T E : Type 0} (result : Result T E) (report : Report) (text : List ℕ)
+    (replay_old replay_new : Replayed) (writer_old writer_new : WriterState) : Type 0 where
+  pub put : Puts result text writer_old writer_new
   pub kept : report ≡ Nothing → replay_new ≡ replay_old
 
 -- What a call leaves that puts all that is written at the end, and flushes. It answers the status, by whether a line had a diagnostic.
-pub record Finishes {W E : Type 0} (taken : W → Bytes) (puts : W → List Call) (report : Report) (has_diagnostics : Bool) (result : Result Status E)
-    (replay_old replay_new : Replayed) (writer_old writer_new : W) : Type 0 where
-  pub all : OnOk result (Wrote (taken writer_old) (taken writer_new) (end_text report replay_old))
+pub record Finishes {E : Type 0} (report : Report) (has_diagnostics : Bool) (result : Result Status E)
+    (replay_old replay_new : Replayed) (writer_old writer_new : WriterState) : Type 0 where
+  pub all : OnOk result (Wrote writer_old.taken writer_new.taken (end_text report replay_old))
   pub status : IfOk result (λ status. status
       ≡ (if has_diagnostics || (is_some_diagnostic (half replay_old.totals.lines replay_old.pending) || is_some_entry (entries replay_old)) then Found else Clean))
-  pub flushed : OnOk result (HasTakenAndFlushed (puts writer_old) (puts writer_new))
-  pub beginning : OnErr result (Begins (taken writer_old) (taken writer_new) (end_text report replay_old))
-  pub failed : OnErr result (HasFailedToWrite (puts writer_old) (puts writer_new))
+  pub flushed : OnOk result (HasTakenAndFlushed writer_old.calls writer_new.calls)
+  pub beginning : OnErr result (Begins writer_old.taken writer_new.taken (end_text report replay_old))
+  pub failed : OnErr result (HasFailedToWrite writer_old.calls writer_new.calls)
   pub kept : report ≡ Nothing → replay_new ≡ replay_old
 
 -- the status of a run with its replay

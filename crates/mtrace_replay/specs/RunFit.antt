@@ -2,6 +2,7 @@
 use Rattle.std.specs.Prelude.{◌≡◌, ◌≢◌, ◌⊎◌, ◌↔◌, ℕ, zero, suc, ◌<◌, ◌≤◌, Bool, true, false, List, [], ◌++◌, map, length, reverse, count_by, Option, None, IsSome, Result, IfOk, OnOk, OnErr, IsErrOf, IsTrue}
 use Rattle.std.specs.List.{AllByRecursion}
 use Rattle.tlsf_heap.specs.Sizing.{sure_pool}
+use Rattle.mtrace_log.specs.Shown.{Bytes, ReaderState, WriterState}
 use Rattle.mtrace_log.specs.declared.call.Call.{Call}
 use Rattle.mtrace_log.specs.declared.call.Call.TheVariants.{Failed}
 use Rattle.mtrace_replay.specs.declared.settings.Settings.{Settings}
@@ -16,7 +17,6 @@ use Rattle.mtrace_replay.specs.Asked.{greatest_class}
 use Rattle.mtrace_replay.specs.History.{history}
 use Rattle.mtrace_replay.specs.Fit.{one_pool, greatest_settings, enough_records, is_bad_step, step_of, first_number, range, ranges, Verdict, least_size, fitted}
 use Rattle.mtrace_replay.specs.Texts.{greatest_line, most_line, fitted_lines, untried_lines, refused_line}
-use Rattle.mtrace_replay.specs.Run.{Bytes}
 use Rattle.mtrace_replay.specs.Replay.{Replayed}
 use Rattle.mtrace_replay.specs.Again.{HasReadFirst, FailsAgain, Follows, RunsAgain}
 
@@ -75,39 +75,38 @@ pub record NoneFailed (old new : List Call) : Type 0 where
   pub calls : new ≡ more ++ old
 
 -- the reader failed in a later reading, or has fewer lines then, after readings that didn't fail
-pub record FailsLater (many : ℕ) (whole left_old left_new : Bytes) (calls_old calls_new : List Call) : Type 0 where
-  pub left_middle : Bytes
-  pub calls_middle : List Call
-  pub none_failed : NoneFailed calls_old calls_middle
-  pub fails : FailsAgain many whole left_middle left_new calls_middle calls_new
+pub record FailsLater (many : ℕ) (reader_old reader_new : ReaderState) : Type 0 where
+  pub reader_middle : ReaderState
+  pub whole : reader_middle.whole ≡ reader_old.whole
+  pub none_failed : NoneFailed reader_old.calls reader_middle.calls
+  pub fails : FailsAgain many reader_middle reader_new
 
 -- What a call leaves that tries a log on the heap of a replay, with this many records: what it found, or the reader failed.
-pub record TriesLog {R E : Type 0} (Tried : Bool → Type 0) (Fails : Type 0) (bytes : R → Bytes) (pulls : R → List Call) (many : ℕ)
-    (result : Result Bool E) (reader_old reader_new : R) (replay : Replayed) : Type 0 where
+pub record TriesLog {E : Type 0} (Tried : Bool → Type 0) (Fails : Type 0) (many : ℕ) (result : Result Bool E) (reader_old reader_new : ReaderState) (replay : Replayed) : Type 0 where
   pub tried : IfOk result Tried
-  pub not_failed : OnOk result (NoneFailed (pulls reader_old) (pulls reader_new))
+  pub not_failed : OnOk result (NoneFailed reader_old.calls reader_new.calls)
   pub read : OnErr result Fails
-  pub whole : bytes reader_new ≡ bytes reader_old
+  pub whole : reader_new.whole ≡ reader_old.whole
   pub records : replay.content.records ≡ many
 
 -- What a call leaves that reads the log again, once for each size: what it tells of that, or the reader failed.
-pub record ReadsAgain {R T E : Type 0} (many : ℕ) (Tells : T → Type 0) (left whole : R → Bytes) (pulls : R → List Call) (result : Result T E) (old new : R) : Type 0 where
+pub record ReadsAgain {T E : Type 0} (many : ℕ) (Tells : T → Type 0) (result : Result T E) (old new : ReaderState) : Type 0 where
   pub tells : IfOk result Tells
-  pub not_failed : OnOk result (NoneFailed (pulls old) (pulls new))
-  pub read : OnErr result (FailsLater many (whole old) (left old) (left new) (pulls old) (pulls new))
+  pub not_failed : OnOk result (NoneFailed old.calls new.calls)
+  pub read : OnErr result (FailsLater many old new)
 
 -- the log whose lines these are was read again for each size, and what they tell was written
-abbrev pub FitFollows : {R W T : Type 0} → (step : Option ℕ) (lines : List ReadLine) (left whole : R → Bytes) (pulls : R → List Call) (taken : W → Bytes) (puts : W → List Call)
+abbrev pub FitFollows : {R W T : Type 0} → (step : Option ℕ) (lines : List ReadLine) (reads : R → ReaderState) (writes : W → WriterState)
     → Result T RunFault → (reader_old reader_new : R) (writer_old writer_new : W) → Type 0
-FitFollows step lines left whole pulls taken puts result reader_old reader_new writer_old writer_new =
-    Follows (λ left_new. TellsFit step lines (whole reader_old)) NoneFailed (FailsLater (length lines) (whole reader_old)) left pulls taken puts result reader_old reader_new writer_old writer_new
+FitFollows step lines reads writes result reader_old reader_new writer_old writer_new =
+    Follows (λ left_new. TellsFit step lines (reads reader_old).whole) (λ old new. NoneFailed old.calls new.calls) (FailsLater (length lines)) reads writes result reader_old reader_new writer_old writer_new
 
 -- What a run leaves that tells how large a pool a log needs. `BadSettings` comes exactly where the step is bad, and
 -- then nothing is done. Else there is first a run without a report on the greatest pool, and then the log is read
 -- again.
-pub record RunsFit {R W : Type 0} (step : Option ℕ) (left whole : R → Bytes) (pulls : R → List Call) (taken : W → Bytes) (puts : W → List Call)
+pub record RunsFit {R W : Type 0} (step : Option ℕ) (reads : R → ReaderState) (writes : W → WriterState)
     (result : Result Status RunFault) (reader_old reader_new : R) (writer_old writer_new : W) : Type 0 where
   pub bad_step : IsErrOf result BadSettings ↔ IsTrue (is_bad_step step)
   pub nothing_done : IsErrOf result BadSettings → (reader_new ≡ reader_old) × (writer_new ≡ writer_old)
   pub runs : is_bad_step step ≡ false
-      → RunsAgain greatest_settings (λ lines. FitFollows step lines left whole pulls taken puts) left whole pulls taken puts result reader_old reader_new writer_old writer_new
+      → RunsAgain greatest_settings (λ lines. FitFollows step lines reads writes) reads writes result reader_old reader_new writer_old writer_new

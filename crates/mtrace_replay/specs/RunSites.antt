@@ -1,7 +1,6 @@
 -- What a run leaves that tells who holds the memory of a log.
-use Rattle.std.specs.Prelude.{◌≡◌, ℕ, ◌≤◌, List, [], ◌∷◌, ◌++◌, length, Result}
-use Rattle.mtrace_log.specs.declared.call.Call.{Call}
-use Rattle.mtrace_log.specs.declared.call.Call.TheVariants.{Began}
+use Rattle.std.specs.Prelude.{◌≡◌, ℕ, ◌≤◌, List, [], ◌++◌, length, Result}
+use Rattle.mtrace_log.specs.Shown.{Bytes, ReaderState, WriterState}
 use Rattle.mtrace_log.specs.Trace.{HasNotFailed}
 use Rattle.mtrace_replay.specs.declared.settings.Settings.{Settings}
 use Rattle.mtrace_replay.specs.declared.status.Status.{Status}
@@ -17,8 +16,7 @@ use Rattle.mtrace_replay.specs.Entry.{Entry}
 use Rattle.mtrace_replay.specs.Gather.{Grouped}
 use Rattle.mtrace_replay.specs.Replay.{Replayed, StandsFor}
 use Rattle.mtrace_replay.specs.Texts.{total_size, section, peak_words, end_words, refused_line}
-use Rattle.mtrace_replay.specs.Run.{Bytes}
-use Rattle.mtrace_replay.specs.Again.{HasReadFirst, FailsAgain, Follows, RunsAgain}
+use Rattle.mtrace_replay.specs.Again.{HasReadFirst, begun_again, FailsAgain, Follows, RunsAgain}
 
 -- how many entries there are, of how many bytes, and their sites
 pub record Groups (entries : List Entry) (sum : Sum) (grouped : Grouped) : Type 0 where
@@ -57,20 +55,20 @@ pub record TellsSites (settings : Settings) (lines : List ReadLine) (whole left 
   pub text_is : text ≡ section_of (peak_words totals.peak_line) at_peak ++ section_of end_words at_end ++ refused_line totals.refused
 
 -- the reader failed in the second reading, or has fewer lines then than the peak's number
-abbrev pub FailsAgainAtPeak : (settings : Settings) (lines : List ReadLine) (whole left_old left_new : Bytes) (calls_old calls_new : List Call) → Type 0
-FailsAgainAtPeak settings lines whole left_old left_new calls_old calls_new =
-    (totals : Totals) × AreTotals (started settings) (history settings lines) totals × FailsAgain totals.peak_line whole left_old left_new calls_old calls_new
+abbrev pub FailsAgainAtPeak : (settings : Settings) (lines : List ReadLine) (reader_old reader_new : ReaderState) → Type 0
+FailsAgainAtPeak settings lines reader_old reader_new =
+    (totals : Totals) × AreTotals (started settings) (history settings lines) totals × FailsAgain totals.peak_line reader_old reader_new
 
 -- the log whose lines these are was read again, and who holds its memory was written
-abbrev pub SitesFollow : {R W T : Type 0} → (settings : Settings) (lines : List ReadLine) (left whole : R → Bytes) (pulls : R → List Call) (taken : W → Bytes) (puts : W → List Call)
+abbrev pub SitesFollow : {R W T : Type 0} → (settings : Settings) (lines : List ReadLine) (reads : R → ReaderState) (writes : W → WriterState)
     → Result T RunFault → (reader_old reader_new : R) (writer_old writer_new : W) → Type 0
-SitesFollow settings lines left whole pulls taken puts result reader_old reader_new writer_old writer_new =
-    Follows (TellsSites settings lines (whole reader_old)) (λ calls_old. HasNotFailed (Began ∷ calls_old)) (FailsAgainAtPeak settings lines (whole reader_old)) left pulls taken puts
+SitesFollow settings lines reads writes result reader_old reader_new writer_old writer_new =
+    Follows (TellsSites settings lines (reads reader_old).whole) (λ old new. HasNotFailed (begun_again old).calls new.calls) (FailsAgainAtPeak settings lines) reads writes
     result reader_old reader_new writer_old writer_new
 
 -- What a run leaves that tells who holds the memory of a log. There is first a run without a report, and then the log
 -- is read again.
-abbrev pub RunsSites : {R W : Type 0} → (settings : Settings) (left whole : R → Bytes) (pulls : R → List Call) (taken : W → Bytes) (puts : W → List Call)
+abbrev pub RunsSites : {R W : Type 0} → (settings : Settings) (reads : R → ReaderState) (writes : W → WriterState)
     → Result Status RunFault → (reader_old reader_new : R) (writer_old writer_new : W) → Type 0
-RunsSites settings left whole pulls taken puts result reader_old reader_new writer_old writer_new =
-    RunsAgain settings (λ lines. SitesFollow settings lines left whole pulls taken puts) left whole pulls taken puts result reader_old reader_new writer_old writer_new
+RunsSites settings reads writes result reader_old reader_new writer_old writer_new =
+    RunsAgain settings (λ lines. SitesFollow settings lines reads writes) reads writes result reader_old reader_new writer_old writer_new

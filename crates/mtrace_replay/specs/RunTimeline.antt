@@ -1,8 +1,7 @@
 -- What a run leaves that tells what is held over the lines of a log.
-use Rattle.std.specs.Prelude.{◌≡◌, ℕ, ◌+◌, ◌≤◌, true, false, List, [], ◌∷◌, take, Vec, vec_capacity, Result, Err, OnOk, OnErr}
+use Rattle.std.specs.Prelude.{◌≡◌, ℕ, ◌+◌, ◌≤◌, true, false, List, [], take, Vec, vec_capacity, Result, Err, OnOk, OnErr}
 use Rattle.std.specs.List.{All}
-use Rattle.mtrace_log.specs.declared.call.Call.{Call}
-use Rattle.mtrace_log.specs.declared.call.Call.TheVariants.{Began}
+use Rattle.mtrace_log.specs.Shown.{Bytes, ReaderState, WriterState}
 use Rattle.mtrace_log.specs.Trace.{HasNotFailed}
 use Rattle.mtrace_log.specs.Progress.{greatest_number}
 use Rattle.mtrace_replay.specs.declared.point.Point.{Point}
@@ -18,8 +17,7 @@ use Rattle.mtrace_replay.specs.History.{history}
 use Rattle.mtrace_replay.specs.Replay.{Replayed, StandsFor}
 use Rattle.mtrace_replay.specs.Texts.{greatest, timeline_text}
 use Rattle.mtrace_replay.specs.Timeline.{is_bad_parts, AreTold, IsPoint, lines_of}
-use Rattle.mtrace_replay.specs.Run.{Bytes}
-use Rattle.mtrace_replay.specs.Again.{HasReadFirst, FailsAgain, Follows, RunsAgain}
+use Rattle.mtrace_replay.specs.Again.{HasReadFirst, begun_again, FailsAgain, Follows, RunsAgain}
 
 -- The text of what is held over the lines of a log. As many lines as it has are read again, from the first byte on. Each point
 -- is of the first of them.
@@ -34,24 +32,24 @@ pub record TellsTimeline (settings : Settings) (parts : ℕ) (lines : List ReadL
   pub text_is : text ≡ timeline_text points totals.refused
 
 -- the reader failed in the second reading, or has fewer lines then
-abbrev pub FailsAgainBefore : (settings : Settings) (lines : List ReadLine) (whole left_old left_new : Bytes) (calls_old calls_new : List Call) → Type 0
-FailsAgainBefore settings lines whole left_old left_new calls_old calls_new =
-    (totals : Totals) × AreTotals (started settings) (history settings lines) totals × FailsAgain totals.lines whole left_old left_new calls_old calls_new
+abbrev pub FailsAgainBefore : (settings : Settings) (lines : List ReadLine) (reader_old reader_new : ReaderState) → Type 0
+FailsAgainBefore settings lines reader_old reader_new =
+    (totals : Totals) × AreTotals (started settings) (history settings lines) totals × FailsAgain totals.lines reader_old reader_new
 
 -- the log whose lines these are was read again, and what is held over its lines was written
-abbrev pub TimelineFollows : {R W T : Type 0} → (settings : Settings) (parts : ℕ) (lines : List ReadLine) (left whole : R → Bytes) (pulls : R → List Call) (taken : W → Bytes) (puts : W → List Call)
+abbrev pub TimelineFollows : {R W T : Type 0} → (settings : Settings) (parts : ℕ) (lines : List ReadLine) (reads : R → ReaderState) (writes : W → WriterState)
     → Result T RunFault → (reader_old reader_new : R) (writer_old writer_new : W) → Type 0
-TimelineFollows settings parts lines left whole pulls taken puts result reader_old reader_new writer_old writer_new =
-    Follows (TellsTimeline settings parts lines (whole reader_old)) (λ calls_old. HasNotFailed (Began ∷ calls_old)) (FailsAgainBefore settings lines (whole reader_old)) left pulls taken puts
+TimelineFollows settings parts lines reads writes result reader_old reader_new writer_old writer_new =
+    Follows (TellsTimeline settings parts lines (reads reader_old).whole) (λ old new. HasNotFailed (begun_again old).calls new.calls) (FailsAgainBefore settings lines) reads writes
     result reader_old reader_new writer_old writer_new
 
 -- What a run leaves that tells what is held over the lines of a log. Where the log can't be cut in so many parts, nothing is done.
 -- Else there is first a run without a report, and then the log is read again.
-pub record RunsTimeline {R W : Type 0} (settings : Settings) (parts : ℕ) (left whole : R → Bytes) (pulls : R → List Call) (taken : W → Bytes) (puts : W → List Call)
+pub record RunsTimeline {R W : Type 0} (settings : Settings) (parts : ℕ) (reads : R → ReaderState) (writes : W → WriterState)
     (result : Result Status RunFault) (reader_old reader_new : R) (writer_old writer_new : W) : Type 0 where
   pub bad_parts : is_bad_parts parts ≡ true → (result ≡ Err BadSettings) × (reader_new ≡ reader_old) × (writer_new ≡ writer_old)
   pub runs : is_bad_parts parts ≡ false
-      → RunsAgain settings (λ lines. TimelineFollows settings parts lines left whole pulls taken puts) left whole pulls taken puts result reader_old reader_new writer_old writer_new
+      → RunsAgain settings (λ lines. TimelineFollows settings parts lines reads writes) reads writes result reader_old reader_new writer_old writer_new
 
 -- room for as many numbers and points as are told of so many parts, none of which are there
 pub record HasRoom {N P : Type 0} (parts : ℕ) (numbers : Vec ℕ N) (points : Vec Point P) : Type 0 where
@@ -69,9 +67,9 @@ pub record HasPoints (settings : Settings) (numbers : List ℕ) (points : List P
 
 -- What a call leaves that reads the log again, and gathers a point for each of these numbers. Or the reader failed, or has fewer
 -- lines than one of them.
-pub record ReadsPoints {R E : Type 0} (left whole : R → Bytes) (pulls : R → List Call) (numbers : List ℕ) (result : Result (Unit {0}) E) (points : List Point) (replay_old : Replayed)
-    (reader_old reader_new : R) : Type 0 where
-  pub done : OnOk result ((settings : Settings) → StandsFor replay_old settings [] → HasPoints settings numbers points (whole reader_old) (left reader_new))
-  pub not_failed : OnOk result (HasNotFailed (Began ∷ pulls reader_old) (pulls reader_new))
+pub record ReadsPoints {E : Type 0} (numbers : List ℕ) (result : Result (Unit {0}) E) (points : List Point) (replay_old : Replayed)
+    (reader_old reader_new : ReaderState) : Type 0 where
+  pub done : OnOk result ((settings : Settings) → StandsFor replay_old settings [] → HasPoints settings numbers points reader_old.whole reader_new.left)
+  pub not_failed : OnOk result (HasNotFailed (begun_again reader_old).calls reader_new.calls)
   pub fails : OnErr result ((settings : Settings) (many : ℕ) → StandsFor replay_old settings [] → All (λ number. number ≤ many) numbers → many ≤ greatest_number
-      → FailsAgain many (whole reader_old) (left reader_old) (left reader_new) (pulls reader_old) (pulls reader_new))
+      → FailsAgain many reader_old reader_new)

@@ -1,6 +1,6 @@
 -- What a run leaves that saves its heap.
 use Rattle.std.specs.Prelude.{◌≡◌, ◌⊎◌, ℕ, List, Result, Ok, Err}
-use Rattle.mtrace_log.specs.declared.call.Call.{Call}
+use Rattle.mtrace_log.specs.Shown.{ReaderState, WriterState}
 use Rattle.mtrace_log.specs.Output.{Wrote, Begins}
 use Rattle.mtrace_log.specs.Trace.{HasTakenAndFlushed, HasFailedToWrite}
 use Rattle.tlsf_heap.specs.Content.{Content}
@@ -12,41 +12,41 @@ use Rattle.mtrace_replay.specs.declared.status.Status.{Status}
 use Rattle.mtrace_replay.specs.declared.status.RunFault.{RunFault}
 use Rattle.mtrace_replay.specs.declared.status.RunFault.TheVariants.{Image}
 use Rattle.mtrace_replay.specs.Started.{Bare}
-use Rattle.mtrace_replay.specs.Run.{Bytes, Runs, Replays}
+use Rattle.mtrace_replay.specs.Run.{Runs, Replays}
 
 -- what a call leaves that saves a heap of which this is the content, slots left out
-pub record PutsImage {W T E : Type 0} (taken : W → Bytes) (trace : W → List Call) (result : Result T E) (content : Bare) (old new : W) : Type 0 where
+pub record PutsImage {T E : Type 0} (result : Result T E) (content : Bare) (old new : WriterState) : Type 0 where
   pub whole : Content ℕ
   pub content_is : bare whole ≡ content
-  pub saves : Saves taken trace result whole old new
+  pub saves : Saves result whole old new
 
 -- what a call leaves that puts a text and flushes: both are done, or, where it fails, a beginning is put
-abbrev pub PutsAndFlushes : {W T E : Type 0} → (taken : W → Bytes) (trace : W → List Call) → Result T E → (text : List ℕ) (old new : W) → Type 0
-PutsAndFlushes taken trace (Ok done) text old new = Wrote (taken old) (taken new) text × HasTakenAndFlushed (trace old) (trace new)
-PutsAndFlushes taken trace (Err failure) text old new = Begins (taken old) (taken new) text × HasFailedToWrite (trace old) (trace new)
+abbrev pub PutsAndFlushes : {T E : Type 0} → Result T E → (text : List ℕ) (old new : WriterState) → Type 0
+PutsAndFlushes (Ok done) text old new = Wrote old.taken new.taken text × HasTakenAndFlushed old.calls new.calls
+PutsAndFlushes (Err failure) text old new = Begins old.taken new.taken text × HasFailedToWrite old.calls new.calls
 
 -- what a call leaves that puts an image of this content, slots left out, and flushes
-pub record SavesLast {W T E : Type 0} (taken : W → Bytes) (trace : W → List Call) (result : Result T E) (content : Bare) (old new : W) : Type 0 where
+pub record SavesLast {T E : Type 0} (result : Result T E) (content : Bare) (old new : WriterState) : Type 0 where
   pub whole : Content ℕ
   pub content_is : bare whole ≡ content
   pub image : List ℕ
   pub is_image : IsImageOf whole image
-  pub put : PutsAndFlushes taken trace result image old new
+  pub put : PutsAndFlushes result image old new
 
 -- the log was replayed to its end, and the last content was saved, or the image's writer failed
-pub record EndsWithImage {I : Type 0} (settings : Settings) (status : Status) (left_old left_new taken_old taken_new : Bytes) (taken : I → Bytes) (trace : I → List Call)
-    (result : Result Status RunFault) (image_old image_new : I) : Type 0 where
+pub record EndsWithImage (settings : Settings) (status : Status) (reader_old reader_new : ReaderState) (writer_old writer_new : WriterState)
+    (result : Result Status RunFault) (image_old image_new : WriterState) : Type 0 where
   pub content : Bare
-  pub replays : Replays settings status content left_old left_new taken_old taken_new
-  pub saves : SavesLast taken trace result content image_old image_new
+  pub replays : Replays settings status content reader_old reader_new writer_old writer_new
+  pub saves : SavesLast result content image_old image_new
   pub answer : (result ≡ Ok status) ⊎ (result ≡ Err Image)
 
 -- What a run that saves its heap leaves: first a run without a report. Where that fails, this is the answer, and nothing was asked of the
 -- image's writer; else the last content is saved.
-pub record RunsAndSaves {R W I : Type 0} (settings : Settings) (left : R → Bytes) (pulls : R → List Call) (taken : W → Bytes) (puts : W → List Call)
-    (image_taken : I → Bytes) (image_puts : I → List Call) (result : Result Status RunFault) (reader_old reader_new : R) (writer_old writer_new : W) (image_old image_new : I) : Type 0 where
+pub record RunsAndSaves {R W I : Type 0} (settings : Settings) (reads : R → ReaderState) (writes : W → WriterState)
+    (saves : I → WriterState) (result : Result Status RunFault) (reader_old reader_new : R) (writer_old writer_new : W) (image_old image_new : I) : Type 0 where
   pub run : Result Status RunFault
-  pub runs : Runs Nothing settings left pulls taken puts run reader_old reader_new writer_old writer_new
+  pub runs : Runs Nothing settings reads writes run reader_old reader_new writer_old writer_new
   pub run_fault : (fault : RunFault) → run ≡ Err fault → (result ≡ Err fault) × (image_new ≡ image_old)
   pub finished : (status : Status) → run ≡ Ok status
-      → EndsWithImage settings status (left reader_old) (left reader_new) (taken writer_old) (taken writer_new) image_taken image_puts result image_old image_new
+      → EndsWithImage settings status (reads reader_old) (reads reader_new) (writes writer_old) (writes writer_new) result (saves image_old) (saves image_new)

@@ -1,6 +1,6 @@
 -- How much memory is always enough for a program that keeps to bounds told beforehand.
 use Rattle.std.specs.Prelude.{◌≡◌, ◌≢◌, ◌⊎◌, ◌↔◌, ℕ, ◌*◌, Bool, not, List, ◌++◌, Option, Some, None, unwrap_or, Result, Err, IfOk, IfErr, IsErrOf, IsTrue, codes}
-use Rattle.mtrace_log.specs.declared.call.Call.{Call}
+use Rattle.mtrace_log.specs.Shown.{WriterState}
 use Rattle.tlsf_heap.specs.Memalign.{is_alignment}
 use Rattle.tlsf_heap.specs.Sizing.{class_size, sure_records, sure_pool}
 use Rattle.mtrace_replay.specs.declared.size.Bounds.{Bounds}
@@ -9,7 +9,6 @@ use Rattle.mtrace_replay.specs.declared.status.Status.TheVariants.{Clean}
 use Rattle.mtrace_replay.specs.declared.status.RunFault.{RunFault}
 use Rattle.mtrace_replay.specs.declared.status.RunFault.TheVariants.{Write, BadSettings}
 use Rattle.mtrace_replay.specs.Moment.{rounded_bytes}
-use Rattle.mtrace_replay.specs.Run.{Bytes}
 use Rattle.mtrace_replay.specs.Saving.{PutsAndFlushes}
 use Rattle.mtrace_replay.specs.Texts.{record_lines, size_line}
 
@@ -34,9 +33,9 @@ size_text bounds =
 
 -- What a run leaves that tells so. `BadSettings` comes exactly for bad bounds, and then nothing is written. Else the text is put
 -- and flushed, or a beginning of it is put, and the writer failed.
-pub record RunsSize {W : Type 0} (bounds : Bounds) (taken : W → Bytes) (puts : W → List Call) (result : Result Status RunFault) (writer_old writer_new : W) : Type 0 where
+pub record RunsSize {W : Type 0} (bounds : Bounds) (writes : W → WriterState) (result : Result Status RunFault) (writer_old writer_new : W) : Type 0 where
   pub bad_bounds : IsErrOf result BadSettings ↔ IsTrue (are_bad_bounds bounds)
   pub nothing_done : IsErrOf result BadSettings → writer_new ≡ writer_old
   pub faults : IfErr result (λ fault. (fault ≡ BadSettings) ⊎ (fault ≡ Write))
   pub clean : IfOk result (λ status. status ≡ Clean)
-  pub told : result ≢ Err BadSettings → PutsAndFlushes taken puts result (size_text bounds) writer_old writer_new
+  pub told : result ≢ Err BadSettings → PutsAndFlushes result (size_text bounds) (writes writer_old) (writes writer_new)

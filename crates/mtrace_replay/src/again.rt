@@ -23,7 +23,7 @@ pub(crate) fn replay_next<R: Source>(
 ) -> Result<(), Failed>
     requires counted { replay.old.totals.lines ≡ lines.old.count }
     requires none { findings.old ≡ [] }
-    ensures next { ReplaysNext R.left R.whole R.trace result lines.old lines.new replay.old replay.new reader.old reader.new }
+    ensures next { ReplaysNext result lines.old lines.new replay.old replay.new (R.shown reader.old) (R.shown reader.new) }
     ensures none { OnOk result (findings.new ≡ []) }
 {
     let number = match lines.advance(reader) {
@@ -53,7 +53,7 @@ pub(crate) fn replay_up_to<R: Source>(
     requires counted { replay.old.totals.lines ≡ lines.old.count }
     requires none { findings.old ≡ [] }
     requires ahead { lines.old.count ≤ number }
-    ensures lines { ReplaysUpTo R.left R.whole R.trace number result lines.old lines.new replay.old replay.new reader.old reader.new }
+    ensures lines { ReplaysUpTo number result lines.old lines.new replay.old replay.new (R.shown reader.old) (R.shown reader.new) }
     ensures none { OnOk result (findings.new ≡ []) }
 {
     for _ in replay.totals().lines..number {
@@ -75,9 +75,8 @@ pub(crate) fn replay_first<R: Source>(
     many: u64,
 ) -> Result<(), Failed>
     requires start { replay.old.totals.lines ≡ 0 }
-    ensures { ReplaysFirst R.left R.whole R.trace (R.left reader.old) (R.trace reader.old)
-        (StopsEarly many (R.left reader.old) (R.left reader.new) (R.trace reader.old) (R.trace reader.new))
-        many result replay.old replay.new reader.old reader.new }
+    ensures { ReplaysFirst (R.shown reader.old) (StopsEarly many (R.shown reader.old) (R.shown reader.new))
+        many result replay.old replay.new (R.shown reader.old) (R.shown reader.new) }
 {
     let mut lines = Lines::new();
     let mut findings = Findings::none();

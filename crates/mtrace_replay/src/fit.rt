@@ -85,9 +85,9 @@ fn try_size<R: Again>(
 ) -> Result<bool, Failed>
     requires good { are_bad (one_pool size records) ≡ false }
     requires few { records ≤ replay.old.content.records }
-    ensures { TriesLog (λ serves. IsTried (one_pool size records) many serves (R.whole reader.old) (R.left reader.new))
-        (FailsAgain many (R.whole reader.old) (R.left reader.old) (R.left reader.new) (R.trace reader.old) (R.trace reader.new))
-        R.whole R.trace records result reader.old reader.new replay.new }
+    ensures { TriesLog (λ serves. IsTried (one_pool size records) many serves (R.shown reader.old).whole (R.shown reader.new).left)
+        (FailsAgain many (R.shown reader.old) (R.shown reader.new))
+        records result (R.shown reader.old) (R.shown reader.new) replay.new }
 {
     replay.restart(Settings {
         pool: size,
@@ -124,9 +124,9 @@ fn try_range<R: Again>(
     requires within { trial.records ≤ replay.old.content.records }
     requires tried { fitted.tried ≤ 2 ^ 61 }
     requires refused { fitted.refused ≤ fitted.tried }
-    ensures tried { ReadsAgain trial.many (λ new. (verdicts : List Verdict) × AreVerdicts trial.records trial.many (R.whole reader.old) (multiples step first last) verdicts
-        × ((before : List Verdict) → fitted ≡ fitted_by before → new ≡ fitted_by (before ++ verdicts))) R.left R.whole R.trace result reader.old reader.new }
-    ensures whole { R.whole reader.new ≡ R.whole reader.old }
+    ensures tried { ReadsAgain trial.many (λ new. (verdicts : List Verdict) × AreVerdicts trial.records trial.many (R.shown reader.old).whole (multiples step first last) verdicts
+        × ((before : List Verdict) → fitted ≡ fitted_by before → new ≡ fitted_by (before ++ verdicts))) result (R.shown reader.old) (R.shown reader.new) }
+    ensures whole { (R.shown reader.new).whole ≡ (R.shown reader.old).whole }
     ensures within { OnOk result (trial.records ≤ replay.new.content.records) }
     ensures few { IfOk result (λ new. new.tried ≤ fitted.tried + (last + 1 - first)) }
     ensures refused { IfOk result (λ new. new.refused ≤ new.tried) }
@@ -174,8 +174,8 @@ fn try_sizes<R: Again, T: Watch>(
     requires some_records { 0 < trial.records }
     requires few { trial.records ≤ MOST_RECORDS }
     requires within { trial.records ≤ replay.old.content.records }
-    ensures { ReadsAgain trial.many (λ fitted. (verdicts : List Verdict) × TriesRanges trial.records trial.many step (first_number step peak) (R.whole reader.old) verdicts
-        × (fitted ≡ fitted_by verdicts)) R.left R.whole R.trace result reader.old reader.new }
+    ensures { ReadsAgain trial.many (λ fitted. (verdicts : List Verdict) × TriesRanges trial.records trial.many step (first_number step peak) (R.shown reader.old).whole verdicts
+        × (fitted ≡ fitted_by verdicts)) result (R.shown reader.old) (R.shown reader.new) }
 {
     let first = peak.div_ceil(step).max(1);
     let last = last_number(step, first);
@@ -207,7 +207,7 @@ fn fit_text<R: Again, T: Watch>(
     requires good { is_bad_step step ≡ false }
     requires records { replay.old.content.records ≡ most_records }
     ensures { ReadsAgain replay.old.totals.lines (λ text. (lines : List ReadLine) → StandsFor replay.old greatest_settings (reverse lines)
-        → TellsFit step lines (R.whole reader.old) text.items) R.left R.whole R.trace result reader.old reader.new }
+        → TellsFit step lines (R.shown reader.old).whole text.items) result (R.shown reader.old) (R.shown reader.new) }
 {
     let totals = replay.totals();
     let most = replay.most();
@@ -235,7 +235,7 @@ fn tell_fit<R: Again, W: Sink, T: Watch>(
     requires good { is_bad_step step ≡ false }
     requires records { replay.old.content.records ≡ most_records }
     ensures { (lines : List ReadLine) → StandsFor replay.old greatest_settings (reverse lines)
-        → FitFollows step lines R.left R.whole R.trace W.taken W.trace result reader.old reader.new writer.old writer.new }
+        → FitFollows step lines R.shown W.shown result reader.old reader.new writer.old writer.new }
 {
     let Ok(text) = fit_text(reader, replay, step, watch) else {
         return Err(RunFault::Read);
@@ -270,7 +270,7 @@ pub fn run_fit<R: Again, W: Sink, T: Watch>(
     step: Option<u64>,
     watch: &T,
 ) -> Result<Status, RunFault>
-    ensures { RunsFit step R.left R.whole R.trace W.taken W.trace result reader.old reader.new writer.old writer.new }
+    ensures { RunsFit step R.shown W.shown result reader.old reader.new writer.old writer.new }
 {
     if is_bad_step(step) {
         return Err(RunFault::BadSettings);

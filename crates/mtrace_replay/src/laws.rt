@@ -8,7 +8,7 @@ ghost use Rattle.mtrace_replay.specs.Started.{Bare, started};
 ghost use Rattle.mtrace_replay.specs.Moment.{ReadLine, Given, Moment};
 ghost use Rattle.mtrace_replay.specs.History.{AreHeld, held, moments};
 ghost use Rattle.mtrace_log.specs.HasRead.{HasReadAll};
-ghost use Rattle.mtrace_replay.specs.Run.{Bytes};
+ghost use Rattle.mtrace_log.specs.Shown.{Bytes};
 ghost use Rattle.mtrace_replay.specs.Again.{HasReadFirst};
 ghost use Rattle.std.specs.List.{AllByRecursion};
 ghost use Rattle.mtrace_replay.specs.Settings.{are_bad};

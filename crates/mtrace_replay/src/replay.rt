@@ -305,7 +305,7 @@ impl<H: Heaped> Replay<H> {
     ///
     /// `Failed` where the writer failed, or took no byte of some: then a beginning of the report is put.
     pub(crate) fn put_walk<W: Sink>(&mut self, writer: &mut W) -> Result<(), Failed>
-        ensures { Puts W.taken W.trace result (walk_report self.old.content) writer.old writer.new }
+        ensures { Puts result (walk_report self.old.content) (W.shown writer.old) (W.shown writer.new) }
     {
         put_walk(writer, &mut self.heap)
     }
@@ -348,7 +348,7 @@ impl Replay<Heap> {
     ///
     /// `Write` where the writer failed, or took no byte of some: then a beginning of the image is put.
     pub(crate) fn put_image<W: Sink>(&mut self, writer: &mut W) -> Result<(), ImageFault>
-        ensures { PutsImage W.taken W.trace result self.old.content writer.old writer.new }
+        ensures { PutsImage result self.old.content (W.shown writer.old) (W.shown writer.new) }
     {
         self.heap.save_image(writer)
     }

@@ -27,7 +27,7 @@ pub enum Report {
 
 /// Puts a line for each entry, in their order.
 fn put_entries<W: Sink>(writer: &mut W, held: Entries<'_>) -> Result<(), Failed>
-    ensures { Puts W.taken W.trace result (flat_map entry_text held.entry) writer.old writer.new }
+    ensures { Puts result (flat_map entry_text held.entry) (W.shown writer.old) (W.shown writer.new) }
 {
     for entry in held {
         put_all(writer, entry_text(entry).as_slice())?;
@@ -38,7 +38,7 @@ fn put_entries<W: Sink>(writer: &mut W, held: Entries<'_>) -> Result<(), Failed>
 /// Puts the report where something is held.
 fn put_held<W: Sink, H: Heaped>(writer: &mut W, replay: &Replay<H>) -> Result<(), Failed>
     requires { entries replay.now ≢ [] }
-    ensures { Puts W.taken W.trace result (leaks_report (entries replay.now)) writer.old writer.new }
+    ensures { Puts result (leaks_report (entries replay.now)) (W.shown writer.old) (W.shown writer.new) }
 {
     put_all(writer, b"Memory not freed:\n")?;
     put_entries(writer, replay.held())?;
@@ -54,7 +54,7 @@ fn put_held<W: Sink, H: Heaped>(writer: &mut W, replay: &Replay<H>) -> Result<()
 ///
 /// `Failed` where the writer failed, or took no byte of some: then a beginning of the report is put.
 fn put_leaks<W: Sink, H: Heaped>(writer: &mut W, replay: &Replay<H>) -> Result<(), Failed>
-    ensures { Puts W.taken W.trace result (leaks_report (entries replay.now)) writer.old writer.new }
+    ensures { Puts result (leaks_report (entries replay.now)) (W.shown writer.old) (W.shown writer.new) }
 {
     if replay.blocks() == 0 {
         put_all(writer, b"No memory leaks.\n")
@@ -66,7 +66,7 @@ fn put_leaks<W: Sink, H: Heaped>(writer: &mut W, replay: &Replay<H>) -> Result<(
 /// Puts the report of the peak.
 fn put_peak<W: Sink, H: Heaped>(writer: &mut W, replay: &mut Replay<H>) -> Result<(), Failed>
     requires works { replay.old.out_of_memory ≡ false }
-    ensures { Puts W.taken W.trace result (peak_report replay.old.totals replay.old.content) writer.old writer.new }
+    ensures { Puts result (peak_report replay.old.totals replay.old.content) (W.shown writer.old) (W.shown writer.new) }
 {
     let totals = replay.totals();
     let survey = replay.survey();
@@ -84,8 +84,8 @@ pub(crate) fn put_report<W: Sink, H: Heaped>(
     report: Report,
 ) -> Result<(), Failed>
     requires works { replay.old.out_of_memory ≡ false }
-    ensures { PutsReport W.taken W.trace result report (report_text report (entries replay.old) replay.old.totals replay.old.content)
-        replay.old replay.new writer.old writer.new }
+    ensures { PutsReport result report (report_text report (entries replay.old) replay.old.totals replay.old.content)
+        replay.old replay.new (W.shown writer.old) (W.shown writer.new) }
 {
     match report {
         Report::Leaks => put_leaks(writer, replay),

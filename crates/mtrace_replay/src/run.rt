@@ -21,7 +21,7 @@ use tlsf_heap::{Heap, Heaped};
 /// Puts a line for each diagnostic.
 #[inline(never)]
 fn put_diagnostics<W: Sink>(writer: &mut W, diagnostics: &Note) -> Result<(), Failed>
-    ensures { Puts W.taken W.trace result (diagnostics_text diagnostics.now.items) writer.old writer.new }
+    ensures { Puts result (diagnostics_text diagnostics.now.items) (W.shown writer.old) (W.shown writer.new) }
 {
     for diagnostic in diagnostics.as_slice() {
         put_all(writer, diagnostic_text(diagnostic).as_slice())?;
@@ -32,7 +32,7 @@ fn put_diagnostics<W: Sink>(writer: &mut W, diagnostics: &Note) -> Result<(), Fa
 /// Puts what is wrong with a line; then nothing is.
 #[inline(never)]
 fn put_findings<W: Sink>(writer: &mut W, findings: &mut Findings) -> Result<(), Failed>
-    ensures put { Puts W.taken W.trace result (diagnostics_text findings.old) writer.old writer.new }
+    ensures put { Puts result (diagnostics_text findings.old) (W.shown writer.old) (W.shown writer.new) }
     ensures cleared { findings.new ≡ [] }
 {
     let diagnostics = findings.diagnostics();
@@ -61,7 +61,7 @@ fn replay_line<W: Sink>(
 ) -> Result<bool, Failed>
     requires next { replay.old.out_of_memory ≡ false → number ≡ replay.old.totals.lines + 1 }
     requires none { findings.old ≡ [] }
-    ensures { ReplaysLine W.taken W.trace number event.entry result replay.old replay.new findings.new writer.old writer.new }
+    ensures { ReplaysLine number event.entry result replay.old replay.new findings.new (W.shown writer.old) (W.shown writer.new) }
 {
     let Ok(()) = replay.feed_lent(number, event, findings) else {
         unreachable!();
@@ -83,7 +83,7 @@ fn replay_lines<R: Source, W: Sink>(
     replay: &mut Replay<Heap>,
 ) -> Result<bool, Failing>
     requires start { replay.old.totals.lines ≡ 0 }
-    ensures { ReplaysLines R.left R.whole R.trace W.taken W.trace result replay.old replay.new reader.old reader.new writer.old writer.new }
+    ensures { ReplaysLines result replay.old replay.new (R.shown reader.old) (R.shown reader.new) (W.shown writer.old) (W.shown writer.new) }
 {
     let mut lines = Lines::new();
     let mut has_diagnostics = false;
@@ -109,8 +109,8 @@ fn put_end<H: Heaped, W: Sink>(
     report: Report,
 ) -> Result<(), Failed>
     requires works { replay.old.out_of_memory ≡ false }
-    ensures { PutsReport W.taken W.trace result report (diagnostics_text diagnostics.now.items ++ report_text report (entries replay.old) replay.old.totals replay.old.content)
-        replay.old replay.new writer.old writer.new }
+    ensures { PutsReport result report (diagnostics_text diagnostics.now.items ++ report_text report (entries replay.old) replay.old.totals replay.old.content)
+        replay.old replay.new (W.shown writer.old) (W.shown writer.new) }
 {
     put_diagnostics(writer, diagnostics)?;
     put_report(writer, replay, report)
@@ -135,7 +135,7 @@ fn finish<H: Heaped, W: Sink>(
     report: Report,
 ) -> Result<Status, Failed>
     requires works { replay.old.out_of_memory ≡ false }
-    ensures { Finishes W.taken W.trace report has_diagnostics result replay.old replay.new writer.old writer.new }
+    ensures { Finishes report has_diagnostics result replay.old replay.new (W.shown writer.old) (W.shown writer.new) }
 {
     let Ok(diagnostics) = replay.finish() else {
         unreachable!();
@@ -152,8 +152,8 @@ fn finish<H: Heaped, W: Sink>(
 
 /// Asks the writer to flush; it doesn't matter what comes of it.
 fn ask_flush<W: Sink>(writer: &mut W)
-    ensures kept { W.taken writer.new ≡ W.taken writer.old }
-    ensures asked { FlushWasAsked (W.trace writer.old) (W.trace writer.new) }
+    ensures kept { (W.shown writer.new).taken ≡ (W.shown writer.old).taken }
+    ensures asked { FlushWasAsked (W.shown writer.old).calls (W.shown writer.new).calls }
 {
     let _ = writer.flush();
 }
@@ -173,10 +173,10 @@ pub(crate) fn replay_log<R: Source, W: Sink>(
     settings: Settings,
     report: Report,
 ) -> Result<FinishedRun, RunFault>
-    ensures ran { Runs report settings R.left R.trace W.taken W.trace (status_in result) reader.old reader.new writer.old writer.new }
+    ensures ran { Runs report settings R.shown W.shown (status_in result) reader.old reader.new writer.old writer.new }
     ensures last { report ≡ Report.Nothing → IfOk result (λ ended. EndsAt settings ended.status ended.replay
-        (R.left reader.old) (R.left reader.new) (W.taken writer.old) (W.taken writer.new)) }
-    ensures whole { R.whole reader.new ≡ R.whole reader.old }
+        (R.shown reader.old) (R.shown reader.new) (W.shown writer.old) (W.shown writer.new)) }
+    ensures whole { (R.shown reader.new).whole ≡ (R.shown reader.old).whole }
 {
     let mut replay = match Replay::<Heap>::create(alloc, settings) {
         Ok(replay) => replay,
@@ -215,7 +215,7 @@ pub fn run_report<R: Source, W: Sink>(
     settings: Settings,
     report: Report,
 ) -> Result<Status, RunFault>
-    ensures { RunsOnce report settings R.left R.whole R.trace W.taken W.trace result reader.old reader.new writer.old writer.new }
+    ensures { RunsOnce report settings R.shown W.shown result reader.old reader.new writer.old writer.new }
 {
     match replay_log(alloc, reader, writer, settings, report) {
         Ok(ended) => Ok(ended.status),
@@ -230,7 +230,7 @@ pub fn run_leaks<R: Source, W: Sink>(
     writer: &mut W,
     settings: Settings,
 ) -> Result<Status, RunFault>
-    ensures { RunsOnce Report.Leaks settings R.left R.whole R.trace W.taken W.trace result reader.old reader.new writer.old writer.new }
+    ensures { RunsOnce Report.Leaks settings R.shown W.shown result reader.old reader.new writer.old writer.new }
 {
     run_report(alloc, reader, writer, settings, Report::Leaks)
 }
@@ -242,7 +242,7 @@ pub fn run_peak<R: Source, W: Sink>(
     writer: &mut W,
     settings: Settings,
 ) -> Result<Status, RunFault>
-    ensures { RunsOnce Report.Peak settings R.left R.whole R.trace W.taken W.trace result reader.old reader.new writer.old writer.new }
+    ensures { RunsOnce Report.Peak settings R.shown W.shown result reader.old reader.new writer.old writer.new }
 {
     run_report(alloc, reader, writer, settings, Report::Peak)
 }
@@ -254,7 +254,7 @@ pub fn run_walk<R: Source, W: Sink>(
     writer: &mut W,
     settings: Settings,
 ) -> Result<Status, RunFault>
-    ensures { RunsOnce Report.Walk settings R.left R.whole R.trace W.taken W.trace result reader.old reader.new writer.old writer.new }
+    ensures { RunsOnce Report.Walk settings R.shown W.shown result reader.old reader.new writer.old writer.new }
 {
     run_report(alloc, reader, writer, settings, Report::Walk)
 }

@@ -14,7 +14,7 @@ use tlsf_heap::Heap;
 
 /// Puts an image of the heap, and flushes.
 fn save<I: Sink>(replay: &mut Replay<Heap>, image: &mut I) -> Result<(), Failed>
-    ensures { SavesLast I.taken I.trace result replay.old.content image.old image.new }
+    ensures { SavesLast result replay.old.content (I.shown image.old) (I.shown image.new) }
 {
     if replay.put_image(image).is_err() {
         return Err(Failed);
@@ -39,8 +39,8 @@ pub fn run_save<R: Source, W: Sink, I: Sink>(
     image: &mut I,
     settings: Settings,
 ) -> Result<Status, RunFault>
-    ensures saves { RunsAndSaves settings R.left R.trace W.taken W.trace I.taken I.trace result reader.old reader.new writer.old writer.new image.old image.new }
-    ensures whole { R.whole reader.new ≡ R.whole reader.old }
+    ensures saves { RunsAndSaves settings R.shown W.shown I.shown result reader.old reader.new writer.old writer.new image.old image.new }
+    ensures whole { (R.shown reader.new).whole ≡ (R.shown reader.old).whole }
 {
     let FinishedRun { status, mut replay } = match replay_log(
         alloc,

@@ -2,13 +2,12 @@
 
 ghost use Rattle.std.specs.Prelude.{◌≡◌, ◌∷◌, ◌++◌, ◌≤◌, ◌↔◌, List, [], reverse, flat_map, IfOk, IsErrOf, IsTrue};
 ghost use Rattle.mtrace_log.specs.Output.{Puts};
-ghost use Rattle.mtrace_log.specs.declared.call.Call.{Call};
 ghost use Rattle.mtrace_replay.specs.declared.settings.Settings.{Settings};
 ghost use Rattle.mtrace_replay.specs.Settings.{are_bad};
 ghost use Rattle.mtrace_replay.specs.Moment.{ReadLine};
 ghost use Rattle.mtrace_replay.specs.Replay.{StandsFor, entries};
 ghost use Rattle.mtrace_replay.specs.Texts.{site_text, section, peak_words, end_words, refused_line};
-ghost use Rattle.mtrace_replay.specs.Again.{FailsAgain, ReplaysFirst};
+ghost use Rattle.mtrace_replay.specs.Again.{begun_again, FailsAgain, ReplaysFirst};
 ghost use Rattle.mtrace_replay.specs.RunSites.{Groups, HasMemory, SitesFollow, RunsSites};
 
 use crate::again::replay_first;
@@ -28,7 +27,7 @@ use tlsf_heap::{Heap, Heaped};
 
 /// Puts a line for each site.
 fn put_sites<W: Sink>(writer: &mut W, sites: &[Site<'_>]) -> Result<(), Failed>
-    ensures { Puts W.taken W.trace result (flat_map site_text sites.now) writer.old writer.new }
+    ensures { Puts result (flat_map site_text sites.now) (W.shown writer.old) (W.shown writer.new) }
 {
     for site in sites {
         put_all(writer, site_text(site).as_slice())?;
@@ -63,7 +62,7 @@ fn put_section<W: Sink>(
     sum: Sum,
     sites: &[Site<'_>],
 ) -> Result<(), Failed>
-    ensures { Puts W.taken W.trace result (section words.now sum.blocks sum.bytes sites.now) writer.old writer.new }
+    ensures { Puts result (section words.now sum.blocks sum.bytes sites.now) (W.shown writer.old) (W.shown writer.new) }
 {
     put_all(writer, words)?;
     put_all(writer, section_text(sum.blocks, sum.bytes).as_slice())?;
@@ -81,9 +80,8 @@ fn replay_again<R: Again>(
     many: u64,
 ) -> Result<(), Failed>
     requires start { replay.old.totals.lines ≡ 0 }
-    ensures { ReplaysFirst R.left R.whole R.trace (R.whole reader.old) (Call.Began ∷ R.trace reader.old)
-        (FailsAgain many (R.whole reader.old) (R.left reader.old) (R.left reader.new) (R.trace reader.old) (R.trace reader.new))
-        many result replay.old replay.new reader.old reader.new }
+    ensures { ReplaysFirst (begun_again (R.shown reader.old)) (FailsAgain many (R.shown reader.old) (R.shown reader.new))
+        many result replay.old replay.new (R.shown reader.old) (R.shown reader.new) }
 {
     reader.begin()?;
     replay_first(reader, replay, many)
@@ -98,8 +96,8 @@ fn put_both<W: Sink>(
     end_sum: Sum,
     end_sites: &[Site<'_>],
 ) -> Result<(), Failed>
-    ensures { Puts W.taken W.trace result (section (peak_words totals.peak_line) peak_sum.blocks peak_sum.bytes peak_sites.now
-        ++ section end_words end_sum.blocks end_sum.bytes end_sites.now ++ refused_line totals.refused) writer.old writer.new }
+    ensures { Puts result (section (peak_words totals.peak_line) peak_sum.blocks peak_sum.bytes peak_sites.now
+        ++ section end_words end_sum.blocks end_sum.bytes end_sites.now ++ refused_line totals.refused) (W.shown writer.old) (W.shown writer.new) }
 {
     put_section(
         writer,
@@ -125,7 +123,7 @@ fn tell_sites<'a, R: Again, W: Sink>(
     requires end_room { at_end.now.content.records ≤ end.room }
     requires peak_room { at_end.now.content.records ≤ peak.room }
     ensures { (settings : Settings) (lines : List ReadLine) → StandsFor at_end.now settings (reverse lines) → StandsFor at_peak.old settings []
-        → SitesFollow settings lines R.left R.whole R.trace W.taken W.trace result reader.old reader.new writer.old writer.new }
+        → SitesFollow settings lines R.shown W.shown result reader.old reader.new writer.old writer.new }
 {
     let totals = at_end.totals();
     let end_sum = group_held(at_end, &mut end);
@@ -178,7 +176,7 @@ pub fn run_sites<R: Again, W: Sink>(
     writer: &mut W,
     settings: Settings,
 ) -> Result<Status, RunFault>
-    ensures { RunsSites settings R.left R.whole R.trace W.taken W.trace result reader.old reader.new writer.old writer.new }
+    ensures { RunsSites settings R.shown W.shown result reader.old reader.new writer.old writer.new }
 {
     let (mut at_peak, peak, end) = match take_memory(alloc, settings) {
         Ok(taken) => taken,

@@ -73,7 +73,7 @@ fn size_text(bounds: Bounds) -> LineText
 /// `BadSettings` exactly where the alignment isn't a power of two from 1 to 2^29: then nothing is written. `Write` where the
 /// writer fails: then a beginning of the text is written.
 pub fn run_size<W: Sink>(writer: &mut W, bounds: Bounds) -> Result<Status, RunFault>
-    ensures { RunsSize bounds W.taken W.trace result writer.old writer.new }
+    ensures { RunsSize bounds W.shown result writer.old writer.new }
 {
     if are_bad(bounds) {
         return Err(RunFault::BadSettings);

@@ -26,7 +26,7 @@ use tlsf_heap::Heap;
 
 /// Puts a line for each point.
 fn put_points<W: Sink>(writer: &mut W, points: &[Point]) -> Result<(), Failed>
-    ensures { Puts W.taken W.trace result (flat_map point_text points.now) writer.old writer.new }
+    ensures { Puts result (flat_map point_text points.now) (W.shown writer.old) (W.shown writer.new) }
 {
     for point in points {
         put_all(writer, point_text(point).as_slice())?;
@@ -36,7 +36,7 @@ fn put_points<W: Sink>(writer: &mut W, points: &[Point]) -> Result<(), Failed>
 
 /// Puts the points below their words, and how many lines were refused.
 fn put_timeline<W: Sink>(writer: &mut W, points: &[Point], refused: u64) -> Result<(), Failed>
-    ensures { Puts W.taken W.trace result (timeline_text points.now refused) writer.old writer.new }
+    ensures { Puts result (timeline_text points.now refused) (W.shown writer.old) (W.shown writer.new) }
 {
     put_all(writer, b"line bytes blocks reach free largest\n")?;
     put_points(writer, points)?;
@@ -58,7 +58,7 @@ fn read_points<R: Again>(
     requires rising { IsStrictlyIncreasing numbers.now }
     requires empty { points.old.items ≡ [] }
     requires room { length numbers.now ≤ vec_capacity points.old }
-    ensures { ReadsPoints R.left R.whole R.trace numbers.now result points.new.items replay.old reader.old reader.new }
+    ensures { ReadsPoints numbers.now result points.new.items replay.old (R.shown reader.old) (R.shown reader.new) }
 {
     reader.begin()?;
     let mut lines = Lines::new();
@@ -108,7 +108,7 @@ fn tell_timeline<R: Again, W: Sink>(
     requires some { 0 < parts }
     requires room { HasRoom parts room.numbers room.points }
     ensures { (lines : List ReadLine) → StandsFor replay.old settings (reverse lines)
-        → TimelineFollows settings parts lines R.left R.whole R.trace W.taken W.trace result reader.old reader.new writer.old writer.new }
+        → TimelineFollows settings parts lines R.shown W.shown result reader.old reader.new writer.old writer.new }
 {
     let totals = replay.totals();
     tell_lines(totals.lines, totals.peak_line, parts, &mut room.numbers);
@@ -158,7 +158,7 @@ pub fn run_timeline<R: Again, W: Sink>(
     settings: Settings,
     parts: u32,
 ) -> Result<Status, RunFault>
-    ensures { RunsTimeline settings parts R.left R.whole R.trace W.taken W.trace result reader.old reader.new writer.old writer.new }
+    ensures { RunsTimeline settings parts R.shown W.shown result reader.old reader.new writer.old writer.new }
 {
     if is_bad_parts(parts) {
         return Err(RunFault::BadSettings);

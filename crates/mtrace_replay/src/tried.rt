@@ -25,9 +25,9 @@ pub(crate) fn is_served<R: Source>(
 ) -> Result<bool, Failed>
     requires start { replay.old.totals.lines ≡ 0 }
     requires none { replay.old.totals.refused ≡ 0 }
-    ensures { TriesLog (λ serves. (settings : Settings) → StandsFor replay.old settings [] → IsTried settings many serves (R.left reader.old) (R.left reader.new))
-        ((settings : Settings) → StandsFor replay.old settings [] → StopsEarly many (R.left reader.old) (R.left reader.new) (R.trace reader.old) (R.trace reader.new))
-        R.whole R.trace replay.old.content.records result reader.old reader.new replay.new }
+    ensures { TriesLog (λ serves. (settings : Settings) → StandsFor replay.old settings [] → IsTried settings many serves (R.shown reader.old).left (R.shown reader.new).left)
+        ((settings : Settings) → StandsFor replay.old settings [] → StopsEarly many (R.shown reader.old) (R.shown reader.new))
+        replay.old.content.records result (R.shown reader.old) (R.shown reader.new) replay.new }
 {
     let mut lines = Lines::new();
     let mut findings = Findings::none();

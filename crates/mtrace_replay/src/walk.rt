@@ -12,7 +12,7 @@ use tlsf_heap::{Cursor, Heaped};
 /// Puts a line for each row from the cursor on.
 fn put_rows<H: Heaped, W: Sink>(writer: &mut W, heap: &mut H, cursor: Cursor) -> Result<(), Failed>
     requires { H.stands heap.old cursor }
-    ensures { PutsOf H.content W.taken W.trace result (flat_map row_text (H.rest heap.old cursor)) writer.old writer.new heap.old heap.new }
+    ensures { PutsOf H.content result (flat_map row_text (H.rest heap.old cursor)) (W.shown writer.old) (W.shown writer.new) heap.old heap.new }
 {
     let mut here = cursor;
     while let Some(next) = heap.row(here) {
@@ -24,7 +24,7 @@ fn put_rows<H: Heaped, W: Sink>(writer: &mut W, heap: &mut H, cursor: Cursor) ->
 
 /// Puts the rows of the pool that begins at the place `base`.
 fn put_rows_at<H: Heaped, W: Sink>(writer: &mut W, heap: &mut H, base: u64) -> Result<(), Failed>
-    ensures { PutsOf H.content W.taken W.trace result (flat_map row_text (rows_at (H.content heap.old).pools base)) writer.old writer.new heap.old heap.new }
+    ensures { PutsOf H.content result (flat_map row_text (rows_at (H.content heap.old).pools base)) (W.shown writer.old) (W.shown writer.new) heap.old heap.new }
 {
     match heap.first(base) {
         Ok(cursor) => put_rows(writer, heap, cursor),
@@ -38,7 +38,7 @@ fn put_pool<H: Heaped, W: Sink>(
     heap: &mut H,
     range: (u64, u64),
 ) -> Result<(), Failed>
-    ensures { PutsOf H.content W.taken W.trace result (rows_text range (rows_at (H.content heap.old).pools range.0)) writer.old writer.new heap.old heap.new }
+    ensures { PutsOf H.content result (rows_text range (rows_at (H.content heap.old).pools range.0)) (W.shown writer.old) (W.shown writer.new) heap.old heap.new }
 {
     put_all(writer, pool_text(range.0, range.1).as_slice())?;
     put_rows_at(writer, heap, range.0)
@@ -50,7 +50,7 @@ fn put_pool<H: Heaped, W: Sink>(
 ///
 /// `Failed` where the writer failed, or took no byte of some: then a beginning of the report is put.
 pub(crate) fn put_walk<H: Heaped, W: Sink>(writer: &mut W, heap: &mut H) -> Result<(), Failed>
-    ensures { PutsOf H.content W.taken W.trace result (walk_report (bare (H.content heap.old))) writer.old writer.new heap.old heap.new }
+    ensures { PutsOf H.content result (walk_report (bare (H.content heap.old))) (W.shown writer.old) (W.shown writer.new) heap.old heap.new }
 {
     heap.keeps_good();
     let pools = heap.pools();

@@ -6,10 +6,10 @@ use Rattle.std.specs.Io.KnownBytes.{append_known}
 use Rattle.mtrace_log.specs.Output.{Puts, PutsAll}
 use Rattle.tlsf_c.specs.Placed.{placed, has_failed}
 use Rattle.tlsf_c.specs.declared.window.Window.{Window}
-use Rattle.tlsf_c.specs.Window.{taken, calls}
+use Rattle.tlsf_c.specs.Window.{shown}
 
 -- a window never fails
-puts_all : {T E : Type 0} (result : Result T E) (text : List ℕ) (old new : Window) → Puts taken calls result text old new → PutsAll taken calls text old new
+puts_all : {T E : Type 0} (result : Result T E) (text : List ℕ) (old new : Window) → Puts result text (shown old) (shown new) → PutsAll text (shown old) (shown new)
 puts_all (Ok done) text old new puts = puts
 puts_all (Err failure) text old new puts = absurd (true≢false (sym (ap has_failed puts.failed.then) ∙ new.served))
 
@@ -20,10 +20,10 @@ pub record HasText (text : List ℕ) (old new : Window) : Type 0 where
   pub ends : new.end ≡ min (length text) (length old.room.now)
   pub all : new.fits ≡ nat_le (length text) (length old.room.now)
 
-pub has_text : {T E : Type 0} (result : Result T E) (text : List ℕ) (old new : Window) → Puts taken calls result text old new → old.trace.bytes ≡ old.room.now → HasText text old new
+pub has_text : {T E : Type 0} (result : Result T E) (text : List ℕ) (old new : Window) → Puts result text (shown old) (shown new) → old.trace.bytes ≡ old.room.now → HasText text old new
 has_text result text old new puts first =
     let room = old.room.now in
-    let wrote : taken new ≡ append_known (taken old) text = (puts_all result text old new puts).wrote in
+    let wrote : (shown new).taken ≡ append_known (shown old).taken text = (puts_all result text old new puts).wrote in
     let same : new.room.ghost_name ∷ length new.room.now ∷ new.trace.bytes ≡ old.room.ghost_name ∷ length room ∷ (old.trace.bytes ++ text) = cc in
     let long : length new.room.now ≡ length room = cc in
     let told : new.trace.bytes ≡ room ++ text = (let tail : new.trace.bytes ≡ old.trace.bytes ++ text = cc in tail ∙ ap (λ (bytes : List ℕ). bytes ++ text) first) in

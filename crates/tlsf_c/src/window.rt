@@ -44,11 +44,9 @@ impl<'a> Window<'a> {
 }
 
 impl<'a> Sink for Window<'a> {
-    ghost use Rattle.tlsf_c.specs.Window.{taken, calls};
+    ghost use Rattle.tlsf_c.specs.Window.{shown};
 
-    ghost taken = { taken };
-
-    ghost trace = { calls };
+    ghost shown = { shown };
 
     fn put(&mut self, bytes: &[u8]) -> Result<usize, Failed> {
         let start = self.end;

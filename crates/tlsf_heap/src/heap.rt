@@ -124,7 +124,7 @@ impl Heap {
     ///
     /// `Write` where the writer failed, or took no byte of some: then a beginning of the image is put.
     pub fn save_image<W: Sink>(&mut self, writer: &mut W) -> Result<(), ImageFault>
-        ensures saved { Saves W.taken W.trace result self.old.content writer.old writer.new }
+        ensures saved { Saves result self.old.content (W.shown writer.old) (W.shown writer.new) }
         ensures fault { IfErr result (λ fault. fault ≡ Write) }
         ensures unchanged { IsUnchanged self.old self.new }
         ensures floor { self.old.touches ≤ self.new.touches }

@@ -3,7 +3,7 @@ use Rattle.std.specs.Prelude.{◌≡◌, ◌≢◌, ◌≤◌, ◌⊎◌, ℕ, �
 use Rattle.std.specs.Io.KnownBytes.{prepend_known, IsAtEnd}
 use Rattle.mtrace_log.specs.Output.{Wrote, Begins}
 use Rattle.mtrace_log.specs.Trace.{pulled, HasGivenAndFailed, HasNotFailed, HasTakenAndFlushed, HasFailedToWrite}
-use Rattle.mtrace_log.specs.declared.call.Call.{Call}
+use Rattle.mtrace_log.specs.Shown.{Bytes, ReaderState, WriterState}
 use Rattle.mtrace_log.specs.declared.failed.Failed.{Failed}
 use Rattle.mtrace_replay.specs.declared.status.Status.{Status}
 use Rattle.mtrace_replay.specs.declared.status.Status.TheVariants.{Clean, Found}
@@ -14,9 +14,6 @@ use Rattle.tlsf_heap.specs.declared.image.rule.Rule.{Rule}
 use Rattle.tlsf_heap.specs.declared.image.rule.Rule.TheVariants.{Magic, Length, Pools, UnusedPools, States, Links, Chains, Cover, OnChains, Merged, Lists, OnLists}
 use Rattle.tlsf_heap.specs.Images.Image.{record_start}
 use Rattle.tlsf_heap.specs.Images.Rules.{first_broken}
-
-abbrev pub Bytes : Type 0
-Bytes = Option (List ℕ)
 
 -- one byte more than the longest image has
 abbrev pub most_read : ℕ
@@ -53,40 +50,39 @@ check_status None = Clean
 check_status (Some rule) = Found
 
 -- the image was read, and what is wrong with it was written, and no more
-pub record Checks (status : Status) (left_old left_new taken_old taken_new : Bytes) : Type 0 where
+pub record Checks (status : Status) (reader_old reader_new : ReaderState) (writer_old writer_new : WriterState) : Type 0 where
   pub bytes : List ℕ
-  pub read : HasReadImage bytes left_old left_new
-  pub wrote : Wrote taken_old taken_new (check_text (first_broken bytes))
+  pub read : HasReadImage bytes reader_old.left reader_new.left
+  pub wrote : Wrote writer_old.taken writer_new.taken (check_text (first_broken bytes))
   pub status_is : status ≡ check_status (first_broken bytes)
 
 -- the image was read, and of what is wrong with it a beginning was written
-pub record ChecksInPart (left_old left_new taken_old taken_new : Bytes) : Type 0 where
+pub record ChecksInPart (reader_old reader_new : ReaderState) (writer_old writer_new : WriterState) : Type 0 where
   pub bytes : List ℕ
-  pub read : HasReadImage bytes left_old left_new
-  pub begun : Begins taken_old taken_new (check_text (first_broken bytes))
+  pub read : HasReadImage bytes reader_old.left reader_new.left
+  pub begun : Begins writer_old.taken writer_new.taken (check_text (first_broken bytes))
 
 -- what one call of the reader gives at the front of a piece, of which it has this room
-pub record Pulls {R : Type 0} (left : R → Bytes) (pulls : R → List Call) (result : Result ℕ Failed) (piece : List ℕ) (room : ℕ) (old new : R) : Type 0 where
+pub record Pulls (result : Result ℕ Failed) (piece : List ℕ) (room : ℕ) (old new : ReaderState) : Type 0 where
   pub bound : IfOk result (λ n. n ≤ room)
-  pub bytes : IfOk result (λ n. left old ≡ prepend_known (take n piece) (left new))
-  pub end : IfOk result (λ n. n ≡ 0 → IsAtEnd (left new))
-  pub told : pulls new ≡ pulled result ∷ pulls old
+  pub bytes : IfOk result (λ n. old.left ≡ prepend_known (take n piece) new.left)
+  pub end : IfOk result (λ n. n ≡ 0 → IsAtEnd new.left)
+  pub told : new.calls ≡ pulled result ∷ old.calls
 
 -- What a call leaves that reads an image, by its answer, which holds the bytes.
-pub record ReadsImage {R T : Type 0} (bytes_of : T → List ℕ) (left : R → Bytes) (pulls : R → List Call) (result : Result T RunFault) (old new : R) : Type 0 where
-  pub read : IfOk result (λ answer. HasReadImage (bytes_of answer) (left old) (left new))
-  pub failed : IsErrOf result Read → HasGivenAndFailed (pulls old) (pulls new)
-  pub not_failed : result ≢ Err Read → HasNotFailed (pulls old) (pulls new)
+pub record ReadsImage {T : Type 0} (bytes_of : T → List ℕ) (result : Result T RunFault) (old new : ReaderState) : Type 0 where
+  pub read : IfOk result (λ answer. HasReadImage (bytes_of answer) old.left new.left)
+  pub failed : IsErrOf result Read → HasGivenAndFailed old.calls new.calls
+  pub not_failed : result ≢ Err Read → HasNotFailed old.calls new.calls
   pub faults : IfErr result (λ fault. (fault ≡ Read) ⊎ (fault ≡ OutOfMemory))
 
 -- What a check of an image leaves, by its answer. It fails only where the reader or the writer does, or where memory is refused.
-pub record ChecksImage {R W : Type 0} (left : R → Bytes) (pulls : R → List Call) (taken : W → Bytes) (puts : W → List Call)
-    (result : Result Status RunFault) (reader_old reader_new : R) (writer_old writer_new : W) : Type 0 where
-  pub checks : IfOk result (λ status. Checks status (left reader_old) (left reader_new) (taken writer_old) (taken writer_new))
-  pub flushed : OnOk result (HasTakenAndFlushed (puts writer_old) (puts writer_new))
-  pub read : IsErrOf result Read → HasGivenAndFailed (pulls reader_old) (pulls reader_new)
-  pub not_failed : result ≢ Err Read → HasNotFailed (pulls reader_old) (pulls reader_new)
-  pub begun : IsErrOf result Write → ChecksInPart (left reader_old) (left reader_new) (taken writer_old) (taken writer_new)
-  pub write : IsErrOf result Write → HasFailedToWrite (puts writer_old) (puts writer_new)
+pub record ChecksImage {W : Type 0} (writes : W → WriterState) (result : Result Status RunFault) (reader_old reader_new : ReaderState) (writer_old writer_new : W) : Type 0 where
+  pub checks : IfOk result (λ status. Checks status reader_old reader_new (writes writer_old) (writes writer_new))
+  pub flushed : OnOk result (HasTakenAndFlushed (writes writer_old).calls (writes writer_new).calls)
+  pub read : IsErrOf result Read → HasGivenAndFailed reader_old.calls reader_new.calls
+  pub not_failed : result ≢ Err Read → HasNotFailed reader_old.calls reader_new.calls
+  pub begun : IsErrOf result Write → ChecksInPart reader_old reader_new (writes writer_old) (writes writer_new)
+  pub write : IsErrOf result Write → HasFailedToWrite (writes writer_old).calls (writes writer_new).calls
   pub unwritten : result ≢ Err Write → OnErr result (writer_new ≡ writer_old)
   pub faults : IfErr result (λ fault. (fault ≡ Read) ⊎ ((fault ≡ Write) ⊎ (fault ≡ OutOfMemory)))

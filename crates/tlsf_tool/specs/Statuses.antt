@@ -1,7 +1,6 @@
 -- The statuses that the program ends with.
 use Rattle.std.specs.Prelude.{◌≡◌, ◌≤◌, ◌⊎◌, ℕ, List, Result, Ok, Err}
-use Rattle.mtrace_log.specs.declared.call.Call.{Call}
-use Rattle.mtrace_replay.specs.Run.{Bytes}
+use Rattle.mtrace_log.specs.Shown.{ReaderState, WriterState}
 use Rattle.mtrace_replay.specs.RunSites.{RunsSites}
 use Rattle.mtrace_replay.specs.RunTimeline.{RunsTimeline}
 use Rattle.mtrace_replay.specs.RunFit.{RunsFit}
@@ -49,18 +48,18 @@ pub record EndsAs {E : Type 0} (IsSo : Result Status RunFault → Type 0) (statu
   pub no_errors : status ≤ 1 → errors_new ≡ errors_old
 
 -- the text is put and flushed, or a beginning is put, and the writer failed
-abbrev pub PutsHelp : {W : Type 0} → List ℕ → (taken : W → Bytes) (puts : W → List Call) → Result Status RunFault → (old new : W) → Type 0
-PutsHelp text taken puts outcome old new = ((outcome ≡ Ok Clean) ⊎ (outcome ≡ Err Write)) × PutsAndFlushes taken puts outcome text old new
+abbrev pub PutsHelp : List ℕ → Result Status RunFault → (old new : WriterState) → Type 0
+PutsHelp text outcome old new = ((outcome ≡ Ok Clean) ⊎ (outcome ≡ Err Write)) × PutsAndFlushes outcome text old new
 
 -- the run of what reads its log more than once
-abbrev pub Rereads : {R W : Type 0} → Rereading → (left whole : R → Bytes) (pulls : R → List Call) (taken : W → Bytes) (puts : W → List Call)
+abbrev pub Rereads : {R W : Type 0} → Rereading → (reads : R → ReaderState) (writes : W → WriterState)
     → Result Status RunFault → (reader_old reader_new : R) (writer_old writer_new : W) → Type 0
-Rereads (Sites settings) left whole pulls taken puts outcome reader_old reader_new writer_old writer_new =
-    RunsSites settings left whole pulls taken puts outcome reader_old reader_new writer_old writer_new
-Rereads (Timeline settings parts) left whole pulls taken puts outcome reader_old reader_new writer_old writer_new =
-    RunsTimeline settings parts left whole pulls taken puts outcome reader_old reader_new writer_old writer_new
-Rereads (Fit step) left whole pulls taken puts outcome reader_old reader_new writer_old writer_new =
-    RunsFit step left whole pulls taken puts outcome reader_old reader_new writer_old writer_new
+Rereads (Sites settings) reads writes outcome reader_old reader_new writer_old writer_new =
+    RunsSites settings reads writes outcome reader_old reader_new writer_old writer_new
+Rereads (Timeline settings parts) reads writes outcome reader_old reader_new writer_old writer_new =
+    RunsTimeline settings parts reads writes outcome reader_old reader_new writer_old writer_new
+Rereads (Fit step) reads writes outcome reader_old reader_new writer_old writer_new =
+    RunsFit step reads writes outcome reader_old reader_new writer_old writer_new
 
 abbrev pub status_of_fault : ToolFault → ℕ
 status_of_fault (Help text) = 0

@@ -26,7 +26,7 @@ fn pull_some<R: Source>(
 ) -> Result<usize, Failed>
     requires some { 0 < room }
     requires few { room ≤ PIECE }
-    ensures { Pulls R.left R.trace result piece.new room reader.old reader.new }
+    ensures { Pulls result piece.new room (R.shown reader.old) (R.shown reader.new) }
 {
     reader.pull(&mut piece[..room])
 }
@@ -38,7 +38,7 @@ fn pull_some<R: Source>(
 ///
 /// `Read` where the reader failed; `OutOfMemory` where memory is refused.
 fn read_image<R: Source>(alloc: Global, reader: &mut R) -> Result<Vec<u8>, RunFault>
-    ensures { ReadsImage (λ bytes. bytes.items) R.left R.trace result reader.old reader.new }
+    ensures { ReadsImage (λ bytes. bytes.items) result (R.shown reader.old) (R.shown reader.new) }
 {
     let Ok(mut bytes) = Vec::with_capacity(alloc, MOST_READ) else {
         return Err(RunFault::OutOfMemory);
@@ -109,7 +109,7 @@ fn checked<R: Source, W: Sink>(
     reader: &mut R,
     writer: &mut W,
 ) -> Result<Status, RunFault>
-    ensures { ChecksImage R.left R.trace W.taken W.trace result reader.old reader.new writer.old writer.new }
+    ensures { ChecksImage W.shown result (R.shown reader.old) (R.shown reader.new) writer.old writer.new }
 {
     let bytes = read_image(alloc, reader)?;
     let Ok(broken) = broken(alloc, bytes.as_slice()) else {
@@ -130,7 +130,7 @@ pub fn check_image<R: Source, W: Sink, E: Sink>(
     writer: &mut W,
     errors: &mut E,
 ) -> u8
-    ensures { EndsAs (λ outcome. ChecksImage R.left R.trace W.taken W.trace outcome reader.old reader.new writer.old writer.new)
+    ensures { EndsAs (λ outcome. ChecksImage W.shown outcome (R.shown reader.old) (R.shown reader.new) writer.old writer.new)
         result errors.old errors.new }
 {
     let run = checked(alloc, reader, writer);

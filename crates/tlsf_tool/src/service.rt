@@ -48,7 +48,7 @@ pub(crate) fn end_run<E: Sink>(errors: &mut E, run: Result<Status, RunFault>) ->
 
 /// Puts a text, and flushes.
 pub(crate) fn put_text<W: Sink>(writer: &mut W, text: &[u8]) -> Result<(), Failed>
-    ensures { PutsAndFlushes W.taken W.trace result text.now writer.old writer.new }
+    ensures { PutsAndFlushes result text.now (W.shown writer.old) (W.shown writer.new) }
 {
     put_all(writer, text)?;
     writer.flush()
@@ -57,7 +57,7 @@ pub(crate) fn put_text<W: Sink>(writer: &mut W, text: &[u8]) -> Result<(), Faile
 /// Puts help or the version, and flushes. Puts the line of a fault to `errors`, whose own fault doesn't matter. Answers
 /// the status that the program ends with: 0 where all is put, and 3 where the writer failed.
 pub fn serve_help<W: Sink, E: Sink>(text: &str, writer: &mut W, errors: &mut E) -> u8
-    ensures { EndsAs (λ outcome. PutsHelp text.now W.taken W.trace outcome writer.old writer.new) result errors.old errors.new }
+    ensures { EndsAs (λ outcome. PutsHelp text.now outcome (W.shown writer.old) (W.shown writer.new)) result errors.old errors.new }
 {
     match put_text(writer, text.as_bytes()) {
         Ok(()) => end_status(Status::Clean),
@@ -76,7 +76,7 @@ fn run_named<R: Source, W: Sink>(
     reader: &mut R,
     writer: &mut W,
 ) -> Result<Status, RunFault>
-    ensures { Runs (report_of name) settings R.left R.trace W.taken W.trace result reader.old reader.new writer.old writer.new }
+    ensures { Runs (report_of name) settings R.shown W.shown result reader.old reader.new writer.old writer.new }
 {
     match name {
         Name::Leaks => run_leaks(alloc, reader, writer, settings),
@@ -96,7 +96,7 @@ pub fn serve<R: Source, W: Sink, E: Sink>(
     writer: &mut W,
     errors: &mut E,
 ) -> u8
-    ensures { EndsAs (λ outcome. Runs (report_of name) settings R.left R.trace W.taken W.trace outcome reader.old reader.new writer.old writer.new)
+    ensures { EndsAs (λ outcome. Runs (report_of name) settings R.shown W.shown outcome reader.old reader.new writer.old writer.new)
         result errors.old errors.new }
 {
     let run = run_named(alloc, name, settings, reader, writer);
@@ -114,7 +114,7 @@ pub fn serve_sites<R: Again, W: Sink, E: Sink>(
     writer: &mut W,
     errors: &mut E,
 ) -> u8
-    ensures { EndsAs (λ outcome. RunsSites settings R.left R.whole R.trace W.taken W.trace outcome reader.old reader.new writer.old writer.new)
+    ensures { EndsAs (λ outcome. RunsSites settings R.shown W.shown outcome reader.old reader.new writer.old writer.new)
         result errors.old errors.new }
 {
     let run = run_sites(alloc, reader, writer, settings);
@@ -133,7 +133,7 @@ pub fn serve_timeline<R: Again, W: Sink, E: Sink>(
     writer: &mut W,
     errors: &mut E,
 ) -> u8
-    ensures { EndsAs (λ outcome. RunsTimeline settings parts R.left R.whole R.trace W.taken W.trace outcome reader.old reader.new writer.old writer.new)
+    ensures { EndsAs (λ outcome. RunsTimeline settings parts R.shown W.shown outcome reader.old reader.new writer.old writer.new)
         result errors.old errors.new }
 {
     let run = run_timeline(alloc, reader, writer, settings, parts);
@@ -152,7 +152,7 @@ pub fn serve_fit<R: Again, W: Sink, E: Sink, T: Watch>(
     errors: &mut E,
     watch: &T,
 ) -> u8
-    ensures { EndsAs (λ outcome. RunsFit step R.left R.whole R.trace W.taken W.trace outcome reader.old reader.new writer.old writer.new)
+    ensures { EndsAs (λ outcome. RunsFit step R.shown W.shown outcome reader.old reader.new writer.old writer.new)
         result errors.old errors.new }
 {
     let run = run_fit(alloc, reader, writer, step, watch);
@@ -168,7 +168,7 @@ pub fn serve_again<R: Again, W: Sink, E: Sink, T: Watch>(
     errors: &mut E,
     watch: &T,
 ) -> u8
-    ensures { EndsAs (λ outcome. Rereads what R.left R.whole R.trace W.taken W.trace outcome reader.old reader.new writer.old writer.new)
+    ensures { EndsAs (λ outcome. Rereads what R.shown W.shown outcome reader.old reader.new writer.old writer.new)
         result errors.old errors.new }
 {
     match what {
@@ -184,7 +184,7 @@ pub fn serve_again<R: Again, W: Sink, E: Sink, T: Watch>(
 /// own fault doesn't matter. Answers the status that the program ends with: 0, 2 for a bad alignment, and 3 where the
 /// writer failed.
 pub fn serve_size<W: Sink, E: Sink>(bounds: Bounds, writer: &mut W, errors: &mut E) -> u8
-    ensures { EndsAs (λ outcome. RunsSize bounds W.taken W.trace outcome writer.old writer.new) result errors.old errors.new }
+    ensures { EndsAs (λ outcome. RunsSize bounds W.shown outcome writer.old writer.new) result errors.old errors.new }
 {
     let run = run_size(writer, bounds);
     end_run(errors, run)
@@ -202,7 +202,7 @@ pub fn serve_save<R: Source, W: Sink, I: Sink, E: Sink>(
     image: &mut I,
     errors: &mut E,
 ) -> u8
-    ensures { EndsAs (λ outcome. RunsAndSaves settings R.left R.trace W.taken W.trace I.taken I.trace outcome
+    ensures { EndsAs (λ outcome. RunsAndSaves settings R.shown W.shown I.shown outcome
         reader.old reader.new writer.old writer.new image.old image.new) result errors.old errors.new }
 {
     let run = run_save(alloc, reader, writer, image, settings);

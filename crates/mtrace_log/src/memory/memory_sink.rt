@@ -1,5 +1,5 @@
 ghost use Rattle.std.specs.Prelude.{◌≡◌, [], ℕ, ◌+◌, ◌<◌, ◌≤◌, ◌↔◌, ◌++◌, ◌∷◌, List, length, take, true, false, Some, IfOk, OnErr, IsErr, IsTrue};
-ghost use Rattle.mtrace_log.specs.Memory.{sink_taken, sink_piece, sink_room, sink_full, sink_count, flush_fails, sink_trace, IsSink};
+ghost use Rattle.mtrace_log.specs.Memory.{sink_taken, sink_piece, sink_room, sink_full, sink_count, flush_fails, sink_trace, sink_shown, IsSink};
 ghost use Rattle.mtrace_log.specs.Trace.{offered, flushed};
 ghost use Rattle.mtrace_log.specs.declared.memory.memory_sink.Full.TheVariants.{Fails};
 
@@ -83,9 +83,7 @@ impl MemorySink {
 }
 
 impl Sink for MemorySink {
-    ghost taken = { λ sink. Some (sink_taken sink) };
-
-    ghost trace = { sink_trace };
+    ghost shown = { sink_shown };
 
     /// Takes as many bytes as a piece has and as there is room for.
     ///

@@ -67,13 +67,9 @@ impl<'a> MemorySource<'a> {
 }
 
 impl Source for MemorySource<'_> {
-    ghost use Rattle.mtrace_log.specs.Memory.{source_left, known_left, known_whole, source_count, source_trace, IsCalled};
+    ghost use Rattle.mtrace_log.specs.Memory.{source_left, source_count, source_shown, IsCalled};
 
-    ghost left = { known_left };
-
-    ghost whole = { known_whole };
-
-    ghost trace = { source_trace };
+    ghost shown = { source_shown };
 
     ghost budget = { λ source. length (source_left source) };
 
@@ -85,8 +81,8 @@ impl Source for MemorySource<'_> {
     fn pull(&mut self, buf: &mut [u8]) -> Result<usize, Failed>
         requires { 0 < length buf.old }
         ensures bound { IfOk result (λ n. n ≤ length buf.new) }
-        ensures bytes { IfOk result (λ n. known_left self.old ≡ prepend_known (take n buf.new) (known_left self.new)) }
-        ensures end { IfOk result (λ n. n ≡ 0 → IsAtEnd (known_left self.new)) }
+        ensures bytes { IfOk result (λ n. (source_shown self.old).left ≡ prepend_known (take n buf.new) (source_shown self.new).left) }
+        ensures end { IfOk result (λ n. n ≡ 0 → IsAtEnd (source_shown self.new).left) }
         ensures falls { IfOk result (λ n. 0 < n → length (source_left self.new) < length (source_left self.old)) }
         ensures never_rises { length (source_left self.new) ≤ length (source_left self.old) }
         ensures count { IfOk result (λ n. n ≡ source_count self.old (length buf.old)) }
@@ -107,7 +103,7 @@ impl Source for MemorySource<'_> {
 }
 
 impl Again for MemorySource<'_> {
-    ghost use Rattle.mtrace_log.specs.Memory.{source_left, known_left, known_whole, IsCalled};
+    ghost use Rattle.mtrace_log.specs.Memory.{source_left, source_shown, IsCalled};
 
     /// Begins again. This counts as a call.
     ///
@@ -115,7 +111,7 @@ impl Again for MemorySource<'_> {
     ///
     /// `Failed` at the call that is to fail.
     fn begin(&mut self) -> Result<(), Failed>
-        ensures left { OnOk result (known_left self.new ≡ known_whole self.old) }
+        ensures left { OnOk result ((source_shown self.new).left ≡ (source_shown self.old).whole) }
         ensures kept_budget { OnErr result (length (source_left self.new) ≡ length (source_left self.old)) }
         ensures called { IsCalled (began result) result self.old self.new }
     {

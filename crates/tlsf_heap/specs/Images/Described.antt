@@ -1,6 +1,6 @@
 -- What an image of a heap describes, the parts that cells have for one, and what saving a heap writes.
-use Rattle.std.specs.Prelude.{◌≡◌, ℕ, List, Option, None, Result}
-use Rattle.mtrace_log.specs.declared.call.Call.{Call}
+use Rattle.std.specs.Prelude.{◌≡◌, ℕ, List, None, Result}
+use Rattle.mtrace_log.specs.Shown.{WriterState}
 use Rattle.mtrace_log.specs.Output.{Puts}
 use Rattle.tlsf_store.specs.Cells.{Cells}
 use Rattle.tlsf_heap.specs.Images.Image.{Parts, parts_in}
@@ -23,7 +23,7 @@ pub record IsImageOf (content : Content ℕ) (image : List ℕ) : Type 0 where
   pub describes : described image ≡ content
 
 -- what saving a heap of this content leaves: all of an image of it is put, or a beginning where the call fails
-pub record Saves {W T E : Type 0} (taken : W → Option (List ℕ)) (trace : W → List Call) (result : Result T E) (content : Content ℕ) (old new : W) : Type 0 where
+pub record Saves {T E : Type 0} (result : Result T E) (content : Content ℕ) (old new : WriterState) : Type 0 where
   pub image : List ℕ
   pub is_image : IsImageOf content image
-  pub put : Puts taken trace result image old new
+  pub put : Puts result image old new

@@ -159,7 +159,7 @@ fn push_heads<T: HasParts>(piece: &mut Piece, table: &mut T)
 ///
 /// `Failed` where the writer failed, or took no byte of some: then a beginning of the image is put.
 pub fn put_image<T: HasParts, W: Sink>(table: &mut T, writer: &mut W) -> Result<(), Failed>
-    ensures put { Puts W.taken W.trace result (image_of (T.parts table.old)) writer.old writer.new }
+    ensures put { Puts result (image_of (T.parts table.old)) (W.shown writer.old) (W.shown writer.new) }
     ensures some { 0 < length (T.parts table.old).records }
     ensures few { length (T.parts table.old).records ≤ most_records }
     ensures read { OnlyReads T.parts T.cells T.touches table.old table.new }

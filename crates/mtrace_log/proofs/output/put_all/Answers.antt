@@ -6,18 +6,17 @@ use Rattle.mtrace_log.proofs.Writing.{IsPutting, putting_none, putting_more}
 use Rattle.mtrace_log.proofs.output.put_all.Goals as goal
 
 pub loop-rest-init : goal.loop-rest-init
-loop-rest-init g c = putting_none g.W.Sink.taken g.W.Sink.trace c.args.bytes.now c.args.writer.now
+loop-rest-init g c = putting_none c.args.bytes.now (g.W.Sink.shown c.args.writer.now)
 
 pub loop-rest-preserved : goal.loop-rest-preserved
 loop-rest-preserved g c =
-    let taken = g.W.Sink.taken in
-    let trace = g.W.Sink.trace in
+    let shown = g.W.Sink.shown in
     let rest = c.loop-rest.rest.now in
     let count = c.in_ok-count.count in
-    let P : List ℕ → Type 0 = λ xs. IsPutting taken trace c.args.bytes.now xs c.args.writer.now c.put.new.self in
+    let P : List ℕ → Type 0 = λ xs. IsPutting c.args.bytes.now xs (shown c.args.writer.now) (shown c.put.new.self) in
     subst P (sym (take_rest rest count))
-    (putting_more taken trace c.args.writer.now c.loop-rest.writer c.put.new.self c.args.bytes.now rest (take count rest) (drop count rest)
+    (putting_more (shown c.args.writer.now) (shown c.loop-rest.writer) (shown c.put.new.self) c.args.bytes.now rest (take count rest) (drop count rest)
     c.loop-rest.invariant (sym (take-append-drop count rest)) (record {
       wrote = c.in_ok-count.ensures.bytes;
-      took = moved_once Took count _ _ (c.in_ok-count.ensures.told ∙ ap (λ call. call ∷ trace c.loop-rest.writer) (offered_some (length rest) count (omega arith)));
+      took = moved_once Took count _ _ (c.in_ok-count.ensures.told ∙ ap (λ call. call ∷ (shown c.loop-rest.writer).calls) (offered_some (length rest) count (omega arith)));
     }))

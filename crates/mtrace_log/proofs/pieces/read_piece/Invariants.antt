@@ -8,10 +8,10 @@ use Rattle.mtrace_log.proofs.pieces.read_piece.Given as goal
 -- a piece was taken that hasn't ended, nothing is unread, and the reader hasn't failed
 abbrev pub invariant-loop-line : goal.invariant-loop-line
 invariant-loop-line g l = record {
-  piece : TakesPiece l.line Failed (prepend_known l.fn.buffer.unread (g.R.Source.left l.fn.reader)) (g.R.Source.left l.reader);
+  piece : TakesPiece l.line Failed (prepend_known l.fn.buffer.unread (g.R.Source.shown l.fn.reader).left) (g.R.Source.shown l.reader).left;
   none : l.buffer.unread ≡ [];
-  calls : HasGiven (g.R.Source.trace l.fn.reader) (g.R.Source.trace l.reader);
-  whole : g.R.Source.whole l.reader ≡ g.R.Source.whole l.fn.reader;
+  calls : HasGiven (g.R.Source.shown l.fn.reader).calls (g.R.Source.shown l.reader).calls;
+  whole : (g.R.Source.shown l.reader).whole ≡ (g.R.Source.shown l.fn.reader).whole;
 }
 
 -- how many more pieces the reader gives

@@ -6,7 +6,8 @@ use Rattle.mtrace_replay.proofs.again.replay_first.Goals as goal
 
 pub returns : goal.returns
 returns g c =
+    let reads = g.R.Source.shown in
     let new = c.replay_up_to.new in
-    let P : Progress → Type 0 = λ lines. ReplaysUpTo g.R.Source.left g.R.Source.whole g.R.Source.trace c.args.many c.replay_up_to.result lines new.lines c.args.replay.now new.replay c.args.reader.now new.reader in
-    first_up_to g.R.Source.left g.R.Source.whole g.R.Source.trace c.args.many c.replay_up_to.result new.lines c.args.replay.now new.replay c.args.reader.now new.reader
+    let P : Progress → Type 0 = λ lines. ReplaysUpTo c.args.many c.replay_up_to.result lines new.lines c.args.replay.now new.replay (reads c.args.reader.now) (reads new.reader) in
+    first_up_to c.args.many c.replay_up_to.result new.lines c.args.replay.now new.replay (reads c.args.reader.now) (reads new.reader)
     (omega (arith, c.ranges.many.fits)) (subst P c.new-lines.ensures c.replay_up_to.ensures.lines)

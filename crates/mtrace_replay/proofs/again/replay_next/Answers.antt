@@ -6,53 +6,51 @@ use Rattle.mtrace_replay.proofs.again.replay_next.Goals as goal
 
 pub returns-in-Ok-None-clause-next : goal.returns-in-Ok-None-clause-next
 returns-in-Ok-None-clause-next g c =
-    let left = g.R.Source.left in
-    let trace = g.R.Source.trace in
+    let reads = g.R.Source.shown in
     let found = rw c.in-Ok-None.field-0-is at c.in-Ok-None.ensures.end in
     record {
       counted = tt;
       one_more = tt;
       replaying = tt;
       gave = tt;
-      stops = λ settings start calls many so_far gave fewer within.
-          ends_early many settings c.args.lines.now c.args.replay.now start (left c.args.reader.now) (left c.advance.new.reader) calls (trace c.advance.new.reader)
+      stops = λ settings start many so_far gave fewer within.
+          ends_early many settings c.args.lines.now c.args.replay.now start (reads c.args.reader.now) (reads c.advance.new.reader)
           so_far fewer
-          (replaying_end left settings c.args.lines.now c.advance.new.self c.args.replay.now start c.args.reader.now c.advance.new.reader so_far found.1)
-          (calls_to_end trace calls c.args.lines.now c.advance.new.self c.args.reader.now c.advance.new.reader _ _ gave c.in-Ok-None.ensures.calls found.0 found.1);
+          (replaying_end reads settings c.args.lines.now c.advance.new.self c.args.replay.now start c.args.reader.now c.advance.new.reader so_far found.1)
+          (calls_to_end reads start.calls c.args.lines.now c.advance.new.self c.args.reader.now c.advance.new.reader _ _ gave c.in-Ok-None.ensures.calls found.0 found.1);
       whole = c.advance.ensures.whole;
       records = refl;
     }
 
 pub returns-in-Err-clause-next : goal.returns-in-Err-clause-next
 returns-in-Err-clause-next g c =
-    let left = g.R.Source.left in
-    let trace = g.R.Source.trace in
+    let reads = g.R.Source.shown in
     record {
       counted = tt;
       one_more = tt;
       replaying = tt;
       gave = tt;
-      stops = λ settings start calls many so_far gave fewer within.
-          let came = calls_to_fault trace calls c.args.lines.now c.advance.new.self c.args.reader.now c.advance.new.reader _ _ c.in-Err.field-0 gave c.in-Err.ensures.calls c.in-Err.ensures.fault in
-          let why = replaying_fault left settings c.args.lines.now c.advance.new.self c.args.replay.now start c.args.reader.now c.advance.new.reader _ _ c.in-Err.field-0
+      stops = λ settings start many so_far gave fewer within.
+          let came = calls_to_fault reads start.calls c.args.lines.now c.advance.new.self c.args.reader.now c.advance.new.reader _ _ c.in-Err.field-0 gave c.in-Err.ensures.calls c.in-Err.ensures.fault in
+          let why = replaying_fault reads settings c.args.lines.now c.advance.new.self c.args.replay.now start c.args.reader.now c.advance.new.reader c.in-Err.field-0
           so_far c.in-Err.ensures.fault c.in-Err.ensures.nothing_held came in
-          inl (so_far.lines, failed_in_piece start (left c.advance.new.reader) _ _ so_far.lines (omega (arith, so_far.count, fewer, within)) why);
+          inl (so_far.lines, failed_in_piece start (reads c.advance.new.reader) so_far.lines (omega (arith, so_far.count, fewer, within)) why);
       whole = c.advance.ensures.whole;
       records = refl;
     }
 
 pub returns-clause-next : goal.returns-clause-next
 returns-clause-next g c =
-    let left = g.R.Source.left in
+    let reads = g.R.Source.shown in
     let given = (rw c.in-Ok-Some.field-0-is at c.in-Ok-Some.ensures.line) c.event.result c.event.ensures in
     let fed = c.in-Ok.ensures in
     record {
       counted = fed.counted ∙ sym given.count;
       one_more = given.count ∙ given.number;
       replaying = λ settings start so_far. going_on settings c.args.lines.now c.advance.new.self c.args.replay.now c.feed_lent.new.self
-          start (left c.args.reader.now) (left c.advance.new.reader) (record { number = c.in-Ok-Some.number; event = c.event.result })
+          start (reads c.args.reader.now) (reads c.advance.new.reader) (record { number = c.in-Ok-Some.number; event = c.event.result })
           so_far given (fed.stands settings (reverse so_far.lines) so_far.stands);
-      gave = λ calls gave.
+      gave = λ start gave.
           let more = calls_more c.args.lines.now.stage c.advance.new.self.stage _ _ _ given.was_reading gave c.in-Ok-Some.ensures.calls in
           (more, calls_of_line c.advance.new.self.stage _ _ _ _ _ given.taken more);
       stops = tt;

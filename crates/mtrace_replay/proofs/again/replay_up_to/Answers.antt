@@ -5,32 +5,32 @@ use Rattle.mtrace_replay.proofs.again.replay_up_to.Goals as goal
 
 pub loop-init : goal.loop-init
 loop-init g c = record {
-  so_far = λ settings start before. going_on_none settings c.args.lines.now c.args.replay.now start (g.R.Source.left c.args.reader.now) before;
+  so_far = λ settings start before. going_on_none settings c.args.lines.now c.args.replay.now start (g.R.Source.shown c.args.reader.now) before;
   counted = c.requires.counted;
   many = omega (arith, c.requires.counted, ap (λ (totals : Totals). totals.lines) c.totals-counter.ensures.totals);
   none = c.requires.none;
   whole = refl;
-  gave = λ calls gave not_failed. (gave, not_failed);
-  calls = λ calls gave. gave;
+  gave = λ start gave not_failed. (gave, not_failed);
+  calls = λ start gave. gave;
   records = refl;
 }
 
 pub loop-preserved : goal.loop-preserved
 loop-preserved g c =
-    let left = g.R.Source.left in
+    let reads = g.R.Source.shown in
     let kept = c.loop.invariant in
     let next = c.in-Ok.ensures.next in
     record {
       so_far = λ settings start before.
           let so_far = kept.so_far settings start before in
-          going_on_further settings before.lines c.loop.lines c.replay_next.new.lines c.loop.replay c.replay_next.new.replay start (left c.loop.reader) (left c.replay_next.new.reader)
+          going_on_further settings before.lines c.loop.lines c.replay_next.new.lines c.loop.replay c.replay_next.new.replay start (reads c.loop.reader) (reads c.replay_next.new.reader)
           so_far (next.replaying settings start so_far.now);
       counted = next.counted;
       many = omega (arith, next.one_more, kept.many);
       none = c.in-Ok.ensures.none;
       whole = next.whole ∙ kept.whole;
-      gave = λ calls gave not_failed. next.gave calls (kept.calls calls gave);
-      calls = λ calls gave. (next.gave calls (kept.calls calls gave)).0;
+      gave = λ start gave not_failed. next.gave start (kept.calls start gave);
+      calls = λ start gave. (next.gave start (kept.calls start gave)).0;
       records = next.records ∙ kept.records;
     }
 
@@ -43,8 +43,8 @@ returns-in_default-clause-lines g c =
       reached = tt;
       replaying = tt;
       gave = tt;
-      stops = λ settings start calls many before gave up within.
-          next.stops settings start calls many (kept.so_far settings start before).now (kept.calls calls gave) (omega (arith, kept.many, c.loop-test.true, up)) within;
+      stops = λ settings start many before gave up within.
+          next.stops settings start many (kept.so_far settings start before).now (kept.calls start gave) (omega (arith, kept.many, c.loop-test.true, up)) within;
       whole = next.whole ∙ kept.whole;
       records = next.records ∙ kept.records;
     }

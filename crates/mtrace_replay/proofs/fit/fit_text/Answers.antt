@@ -15,13 +15,13 @@ returns-then-totals-gt0 g c = record {
   read = tt;
   tells = λ lines stands.
       let replay = c.args.replay.now in
-      let T : List ℕ → Type 0 = λ text. TellsFit c.args.step lines (g.R.Source.whole c.args.reader.now) text in
+      let T : List ℕ → Type 0 = λ text. TellsFit c.args.step lines (g.R.Source.shown c.args.reader.now).whole text in
       let some : 0 < c.totals-totals.result.refused = c.if-totals-gt0.true in
       let same = c.untried_text.ensures
       ∙ ap (λ (totals : Totals). greatest_line totals ++ most_line c.most-most.result ++ untried_lines ++ refused_line totals.refused) c.totals-totals.ensures.totals
       ∙ ap (λ most. greatest_line replay.totals ++ most_line most ++ untried_lines ++ refused_line replay.totals.refused) c.most-most.ensures in
       subst T (sym same)
-      (tells_untried c.args.step lines (g.R.Source.whole c.args.reader.now) replay stands (omega (arith, some, ap (λ (totals : Totals). totals.refused) c.totals-totals.ensures.totals)));
+      (tells_untried c.args.step lines (g.R.Source.shown c.args.reader.now).whole replay stands (omega (arith, some, ap (λ (totals : Totals). totals.refused) c.totals-totals.ensures.totals)));
 }
 
 pub returns : goal.returns
@@ -30,7 +30,7 @@ returns g c = record {
   read = tt;
   tells = λ lines stands.
       let replay = c.args.replay.now in
-      let whole = g.R.Source.whole c.args.reader.now in
+      let whole = (g.R.Source.shown c.args.reader.now).whole in
       let T : List ℕ → Type 0 = λ text. TellsFit c.args.step lines whole text in
       let peak_is = ap (λ (totals : Totals). totals.peak_bytes) c.totals-totals.ensures.totals in
       let records_are : c.enough_records.result ≡ enough_records replay.most = c.enough_records.ensures.value ∙ ap enough_records c.most-most.ensures in

@@ -21,53 +21,47 @@ no_bad_settings fault (inr write) is = cc
 
 pub returns-in-Ok-tell_fit : goal.returns-in-Ok-tell_fit
 returns-in-Ok-tell_fit g c =
-    let left = g.R.Source.left in
-    let whole = g.R.Source.whole in
-    let pulls = g.R.Source.trace in
-    let taken = g.W.Sink.taken in
-    let puts = g.W.Sink.trace in
+    let reads = g.R.Source.shown in
+    let writes = g.W.Sink.shown in
     let ended = c.in-Ok.ended in
-    let E : Settings → Type 0 = λ settings. EndsAt settings ended.status ended.replay (left c.args.reader.now) (left c.replay_log.new.reader) (taken c.args.writer.now) (taken c.replay_log.new.writer) in
-    let R : Settings → Type 0 = λ settings. Runs Nothing settings left pulls taken puts (Ok ended.status) c.args.reader.now c.replay_log.new.reader c.args.writer.now c.replay_log.new.writer in
+    let E : Settings → Type 0 = λ settings. EndsAt settings ended.status ended.replay (reads c.args.reader.now) (reads c.replay_log.new.reader) (writes c.args.writer.now) (writes c.replay_log.new.writer) in
+    let R : Settings → Type 0 = λ settings. Runs Nothing settings reads writes (Ok ended.status) c.args.reader.now c.replay_log.new.reader c.args.writer.now c.replay_log.new.writer in
     let last = subst E c.greatest.ensures (c.in-Ok.ensures.last refl) in
     let ran = subst R c.greatest.ensures c.in-Ok.ensures.ran in
     let follow = c.in-Ok-tell_fit.ensures last.reports.lines last.stands in
     record {
       bad_step = ((λ is. absurd (cc)), (λ bad. absurd (not_bad _ (sym c.is_bad_step.ensures ∙ c.if-is_bad_step.false) bad)));
       nothing_done = λ is. absurd (cc);
-      runs = λ good. again_ended greatest_settings (λ lines. FitFollows c.args.step lines left whole pulls taken puts) left whole pulls taken puts ended.status (Ok ended.status)
+      runs = λ good. again_ended greatest_settings (λ lines. FitFollows c.args.step lines reads writes) reads writes ended.status (Ok ended.status)
           c.args.reader.now c.replay_log.new.reader c.tell_fit.new.reader c.args.writer.now c.replay_log.new.writer c.tell_fit.new.writer ran
           (record {
             reports = last.reports;
             answer = refl;
             whole_kept = c.in-Ok.ensures.whole;
-            follow = follows_ok _ _ _ left pulls taken puts c.replay_log.new.reader c.tell_fit.new.reader c.replay_log.new.writer c.tell_fit.new.writer ended.status follow;
+            follow = follows_ok _ _ _ reads writes c.replay_log.new.reader c.tell_fit.new.reader c.replay_log.new.writer c.tell_fit.new.writer ended.status follow;
           });
     }
 
 pub returns : goal.returns
 returns g c =
-    let left = g.R.Source.left in
-    let whole = g.R.Source.whole in
-    let pulls = g.R.Source.trace in
-    let taken = g.W.Sink.taken in
-    let puts = g.W.Sink.trace in
+    let reads = g.R.Source.shown in
+    let writes = g.W.Sink.shown in
     let ended = c.in-Ok.ended in
     let fault = c.in-Err-tell_fit.fault in
-    let E : Settings → Type 0 = λ settings. EndsAt settings ended.status ended.replay (left c.args.reader.now) (left c.replay_log.new.reader) (taken c.args.writer.now) (taken c.replay_log.new.writer) in
-    let R : Settings → Type 0 = λ settings. Runs Nothing settings left pulls taken puts (Ok ended.status) c.args.reader.now c.replay_log.new.reader c.args.writer.now c.replay_log.new.writer in
+    let E : Settings → Type 0 = λ settings. EndsAt settings ended.status ended.replay (reads c.args.reader.now) (reads c.replay_log.new.reader) (writes c.args.writer.now) (writes c.replay_log.new.writer) in
+    let R : Settings → Type 0 = λ settings. Runs Nothing settings reads writes (Ok ended.status) c.args.reader.now c.replay_log.new.reader c.args.writer.now c.replay_log.new.writer in
     let last = subst E c.greatest.ensures (c.in-Ok.ensures.last refl) in
     let ran = subst R c.greatest.ensures c.in-Ok.ensures.ran in
     let follow = c.in-Err-tell_fit.ensures last.reports.lines last.stands in
     record {
       bad_step = ((λ is. absurd (no_bad_settings fault follow.faults is)), (λ bad. absurd (not_bad _ (sym c.is_bad_step.ensures ∙ c.if-is_bad_step.false) bad)));
       nothing_done = λ is. absurd (no_bad_settings fault follow.faults is);
-      runs = λ good. again_ended greatest_settings (λ lines. FitFollows c.args.step lines left whole pulls taken puts) left whole pulls taken puts ended.status (Err fault)
+      runs = λ good. again_ended greatest_settings (λ lines. FitFollows c.args.step lines reads writes) reads writes ended.status (Err fault)
           c.args.reader.now c.replay_log.new.reader c.tell_fit.new.reader c.args.writer.now c.replay_log.new.writer c.tell_fit.new.writer ran
           (record {
             reports = last.reports;
             answer = tt;
             whole_kept = c.in-Ok.ensures.whole;
-            follow = follows_err _ _ _ left pulls taken puts c.replay_log.new.reader c.tell_fit.new.reader c.replay_log.new.writer c.tell_fit.new.writer fault follow;
+            follow = follows_err _ _ _ reads writes c.replay_log.new.reader c.tell_fit.new.reader c.replay_log.new.writer c.tell_fit.new.writer fault follow;
           });
     }

@@ -2,8 +2,7 @@ use Rattle.std.proofs.Common.{◌≡◌, ◌+◌, ◌-◌, ◌*◌, ◌<◌, ℕ
 use Rattle.std.specs.List.{range_with_len}
 use Rattle.mtrace_replay.specs.Fit.{one_pool, fitted, Verdict}
 use Rattle.mtrace_replay.specs.RunFit.{AreVerdicts, IsTried}
-use Rattle.mtrace_replay.specs.Again.{FailsAgain}
-use Rattle.mtrace_replay.specs.Run.{Bytes}
+use Rattle.mtrace_log.specs.Shown.{Bytes}
 use Rattle.mtrace_replay.proofs.FitLemmas.{one_tried, one_pool-good, units_times, within_greatest, some_units, few_steps}
 use Rattle.mtrace_replay.proofs.TriedLemmas.{none_failed-then, nothing_failed}
 use Rattle.mtrace_replay.proofs.fit.try_range.Goals as goal
@@ -28,28 +27,27 @@ with-fitted-requires-clause-refused g c =
 
 pub returns-in-Err-clause-tried : goal.returns-in-Err-clause-tried
 returns-in-Err-clause-tried g c =
-    let F : Bytes → Type 0 = λ whole. FailsAgain c.args.trial.many whole (g.R.Source.left c.loop-number.reader) (g.R.Source.left c.try_size.new.reader) (g.R.Source.trace c.loop-number.reader) (g.R.Source.trace c.try_size.new.reader) in
     record {
       tells = tt;
       not_failed = tt;
       read = record {
-        left_middle = g.R.Source.left c.loop-number.reader;
-        calls_middle = g.R.Source.trace c.loop-number.reader;
+        reader_middle = g.R.Source.shown c.loop-number.reader;
+        whole = c.loop-number.invariant.whole;
         none_failed = c.loop-number.invariant.none_failed;
-        fails = subst F c.loop-number.invariant.whole c.in-Err.ensures.read;
+        fails = c.in-Err.ensures.read;
       };
     }
 
 pub loop-number-init : goal.loop-number-init
 loop-number-init g c =
     let none : c.args.first - c.args.first ≡ 0 = omega arith in
-    let V : ℕ → Type 0 = λ count. AreVerdicts c.args.trial.records c.args.trial.many (g.R.Source.whole c.args.reader.now) (map (λ i. i * c.args.step) (range_with_len c.args.first count)) [] in
+    let V : ℕ → Type 0 = λ count. AreVerdicts c.args.trial.records c.args.trial.many (g.R.Source.shown c.args.reader.now).whole (map (λ i. i * c.args.step) (range_with_len c.args.first count)) [] in
     record {
       so_far = ([], subst V (sym none) (record { sizes_are = refl; each = tt }), λ before is. is ∙ ap fitted (sym (append-nil before)));
       tried = omega arith;
       refused = c.requires.refused;
       whole = refl;
-      none_failed = nothing_failed (g.R.Source.trace c.args.reader.now);
+      none_failed = nothing_failed (g.R.Source.shown c.args.reader.now).calls;
       records = c.requires.within;
       within = omega arith;
     }
@@ -59,21 +57,21 @@ loop-number-preserved g c =
     let number = c.loop-number.number in
     let first = c.args.first in
     let step = c.args.step in
-    let whole = g.R.Source.whole c.args.reader.now in
+    let whole = (g.R.Source.shown c.args.reader.now).whole in
     let so_far = c.loop-number.invariant.so_far in
     let verdict : Verdict = record { size = number * step; serves = c.in-Ok.serves } in
     let more : number + 1 - first ≡ number - first + 1 = omega (arith, c.loop-number.auto.number) in
     let V : ℕ → Type 0 = λ count. AreVerdicts c.args.trial.records c.args.trial.many whole (map (λ i. i * step) (range_with_len first count)) (so_far.0 ++ verdict ∷ []) in
-    let T : Bytes → Type 0 = λ text. IsTried (one_pool (number * step) c.args.trial.records) c.args.trial.many c.in-Ok.serves text (g.R.Source.left c.try_size.new.reader) in
+    let T : Bytes → Type 0 = λ text. IsTried (one_pool (number * step) c.args.trial.records) c.args.trial.many c.in-Ok.serves text (g.R.Source.shown c.try_size.new.reader).left in
     let are = one_tried c.args.trial.records c.args.trial.many whole step first number (number - first) so_far.0 verdict (omega (arith, c.loop-number.auto.number)) so_far.1 refl
-    (g.R.Source.left c.try_size.new.reader, subst T c.loop-number.invariant.whole c.in-Ok.ensures.tried) in
+    ((g.R.Source.shown c.try_size.new.reader).left, subst T c.loop-number.invariant.whole c.in-Ok.ensures.tried) in
     let below : number < c.args.last + 1 = c.loop-number-test.true in
     record {
       so_far = (so_far.0 ++ verdict ∷ [], subst V (sym more) are, λ before is. c.with-fitted.ensures.fitted (before ++ so_far.0) (so_far.2 before is) ∙ ap fitted (append_assoc before so_far.0 (verdict ∷ [])));
       tried = omega (arith, c.with-fitted.ensures.tried, c.loop-number.invariant.tried, c.loop-number.auto.number);
       refused = omega (arith, c.with-fitted.ensures.tried, c.with-fitted.ensures.refused, c.loop-number.invariant.refused);
       whole = c.try_size.ensures.whole ∙ c.loop-number.invariant.whole;
-      none_failed = none_failed-then (g.R.Source.trace c.args.reader.now) (g.R.Source.trace c.loop-number.reader) (g.R.Source.trace c.try_size.new.reader) c.loop-number.invariant.none_failed c.in-Ok.ensures.not_failed;
+      none_failed = none_failed-then (g.R.Source.shown c.args.reader.now).calls (g.R.Source.shown c.loop-number.reader).calls (g.R.Source.shown c.try_size.new.reader).calls c.loop-number.invariant.none_failed c.in-Ok.ensures.not_failed;
       records = omega (arith, c.try_size.ensures.records);
       within = omega (arith, below);
     }
@@ -82,7 +80,7 @@ pub returns-clause-tried : goal.returns-clause-tried
 returns-clause-tried g c =
     let so_far = c.loop-number.invariant.so_far in
     let all : c.loop-number.number - c.args.first ≡ suc c.args.last - c.args.first = omega (arith, c.loop-number.invariant.within, c.loop-number-test.false, c.loop-number.auto.number) in
-    let V : ℕ → Type 0 = λ count. AreVerdicts c.args.trial.records c.args.trial.many (g.R.Source.whole c.args.reader.now) (map (λ i. i * c.args.step) (range_with_len c.args.first count)) so_far.0 in
+    let V : ℕ → Type 0 = λ count. AreVerdicts c.args.trial.records c.args.trial.many (g.R.Source.shown c.args.reader.now).whole (map (λ i. i * c.args.step) (range_with_len c.args.first count)) so_far.0 in
     record {
       not_failed = c.loop-number.invariant.none_failed;
       read = tt;

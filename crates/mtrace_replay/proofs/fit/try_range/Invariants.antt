@@ -8,15 +8,14 @@ use Rattle.mtrace_replay.proofs.fit.try_range.Given as goal
 -- the sizes so far were tried, and these are the verdicts
 abbrev pub invariant-loop-number : goal.invariant-loop-number
 invariant-loop-number g l =
-    let whole = g.R.Source.whole in
-    let trace = g.R.Source.trace in
+    let reads = g.R.Source.shown in
     record {
-      so_far : (verdicts : List Verdict) × AreVerdicts l.trial.records l.trial.many (whole l.initial.reader) (map (λ number. number * l.step) (range_with_len l.first (l.number - l.first))) verdicts
+      so_far : (verdicts : List Verdict) × AreVerdicts l.trial.records l.trial.many (reads l.initial.reader).whole (map (λ number. number * l.step) (range_with_len l.first (l.number - l.first))) verdicts
           × ((before : List Verdict) → l.initial.fitted ≡ fitted before → l.fitted ≡ fitted (before ++ verdicts));
       tried : l.fitted.tried ≤ l.initial.fitted.tried + (l.number - l.first);
       refused : l.fitted.refused ≤ l.fitted.tried;
-      whole : whole l.reader ≡ whole l.initial.reader;
-      none_failed : NoneFailed (trace l.initial.reader) (trace l.reader);
+      whole : (reads l.reader).whole ≡ (reads l.initial.reader).whole;
+      none_failed : NoneFailed (reads l.initial.reader).calls (reads l.reader).calls;
       records : l.trial.records ≤ l.replay.content.records;
       within : l.number ≤ max l.first (l.last + 1);
     }

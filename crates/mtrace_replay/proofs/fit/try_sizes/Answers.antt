@@ -5,8 +5,7 @@ use Rattle.std.proofs.Math.Nat.{div-le_self}
 use Rattle.tlsf_class.specs.Classes.{greatest_size}
 use Rattle.mtrace_replay.specs.declared.fitted.Fitted.{Fitted}
 use Rattle.mtrace_replay.specs.Fit.{Verdict, doubled, first_number, last_number, multiples, range, ranges, least_size, fitted}
-use Rattle.mtrace_replay.specs.Run.{Bytes}
-use Rattle.mtrace_replay.specs.Again.{FailsAgain}
+use Rattle.mtrace_log.specs.Shown.{Bytes}
 use Rattle.mtrace_replay.specs.RunFit.{AreVerdicts, TriesRanges}
 use Rattle.mtrace_replay.proofs.FitLemmas.{more_verdicts, least_behind, doubled_more, no_range}
 use Rattle.mtrace_replay.proofs.TriedLemmas.{none_failed-then, nothing_failed}
@@ -22,7 +21,7 @@ none_is (Some x) is = absurd (cc)
 
 pub loop-trial-init : goal.loop-trial-init
 loop-trial-init g c =
-    let whole = g.R.Source.whole in
+    let reads = g.R.Source.shown in
     let tells = c.in-Ok.ensures.tried.tells in
     let V : Bytes → ℕ → Type 0 = λ text last. AreVerdicts c.args.trial.records c.args.trial.many text (multiples c.args.step c.max-first.result last) tells.0 in
     record {
@@ -32,7 +31,7 @@ loop-trial-init g c =
         tells.0,
         omega arith,
         record { sizes_are = refl; each = tt },
-        subst (V (whole c.try_range.new.reader)) c.last_number-last.ensures.value (subst (λ text. V text c.last_number-last.result) (sym c.in-Ok.ensures.whole) tells.1),
+        subst (V (reads c.try_range.new.reader).whole) c.last_number-last.ensures.value (subst (λ text. V text c.last_number-last.result) (sym c.in-Ok.ensures.whole) tells.1),
         refl,
         tells.2 [] c.none.ensures,
       );
@@ -41,39 +40,37 @@ loop-trial-init g c =
       some = c.requires.some;
       in_units = c.requires.in_units;
       whole = refl;
-      none_failed = nothing_failed (g.R.Source.trace c.try_range.new.reader);
+      none_failed = nothing_failed (reads c.try_range.new.reader).calls;
       records = c.in-Ok.ensures.within;
     }
 
 pub returns-in-Err-try_range : goal.returns-in-Err-try_range
 returns-in-Err-try_range g c =
-    let trace = g.R.Source.trace in
+    let reads = g.R.Source.shown in
     let kept = c.loop-trial.invariant in
     let later = c.in-Err-try_range.ensures.tried.read in
-    let so_far = none_failed-then (trace c.args.reader.now) (trace c.try_range.new.reader) (trace c.loop-trial.reader) c.in-Ok.ensures.tried.not_failed kept.none_failed in
-    let F : Bytes → Type 0 = λ text. FailsAgain c.args.trial.many text later.left_middle (g.R.Source.left c.try_range-in-loop-trial.new.reader) later.calls_middle (trace c.try_range-in-loop-trial.new.reader) in
+    let so_far = none_failed-then (reads c.args.reader.now).calls (reads c.try_range.new.reader).calls (reads c.loop-trial.reader).calls c.in-Ok.ensures.tried.not_failed kept.none_failed in
     record {
       tells = tt;
       not_failed = tt;
       read = record {
-        left_middle = later.left_middle;
-        calls_middle = later.calls_middle;
-        none_failed = none_failed-then (trace c.args.reader.now) (trace c.loop-trial.reader) later.calls_middle so_far later.none_failed;
-        fails = subst F (kept.whole ∙ c.in-Ok.ensures.whole) later.fails;
+        reader_middle = later.reader_middle;
+        whole = later.whole ∙ kept.whole ∙ c.in-Ok.ensures.whole;
+        none_failed = none_failed-then (reads c.args.reader.now).calls (reads c.loop-trial.reader).calls later.reader_middle.calls so_far later.none_failed;
+        fails = later.fails;
       };
     }
 
 pub loop-trial-preserved : goal.loop-trial-preserved
 loop-trial-preserved g c =
-    let trace = g.R.Source.trace in
-    let whole = g.R.Source.whole in
+    let reads = g.R.Source.shown in
     let kept = c.loop-trial.invariant in
     let so_far = kept.so_far in
     let first : ℕ = c.max-first.result in
     let tells = c.in-Ok-try_range.ensures.tried.tells in
     let records : ℕ = c.args.trial.records in
     let many : ℕ = c.args.trial.many in
-    let start : Bytes = whole c.try_range.new.reader in
+    let start : Bytes = (reads c.try_range.new.reader).whole in
     let twice = doubled_more c.args.step c.loop-trial.step so_far.0 so_far.3 in
     let next : first + 1 ≡ suc first = omega arith in
     let A : Bytes → ℕ → ℕ → ℕ → Type 0 = λ text step from last. AreVerdicts records many text (multiples step from last) tells.0 in
@@ -100,7 +97,7 @@ loop-trial-preserved g c =
       some = omega (arith, kept.some);
       in_units = omega (arith, kept.in_units);
       whole = c.in-Ok-try_range.ensures.whole ∙ kept.whole;
-      none_failed = none_failed-then (trace c.try_range.new.reader) (trace c.loop-trial.reader) (trace c.try_range-in-loop-trial.new.reader) kept.none_failed c.in-Ok-try_range.ensures.tried.not_failed;
+      none_failed = none_failed-then (reads c.try_range.new.reader).calls (reads c.loop-trial.reader).calls (reads c.try_range-in-loop-trial.new.reader).calls kept.none_failed c.in-Ok-try_range.ensures.tried.not_failed;
       records = c.in-Ok-try_range.ensures.within;
     }
 
@@ -129,25 +126,25 @@ ended records many step first peak times start whole before last told same from 
 
 pub returns-else-is_range_behind : goal.returns-else-is_range_behind
 returns-else-is_range_behind g c =
-    let trace = g.R.Source.trace in
+    let reads = g.R.Source.shown in
     let kept = c.loop-trial.invariant in
     let so_far = kept.so_far in
     let few : greatest_size / (2 * c.loop-trial.step) ≤ c.max-first.result = ltb-false c.max-first.result (greatest_size / (2 * c.loop-trial.step)) (sym c.is_range_behind.ensures ∙ c.if-is_range_behind.false) in
     record {
-      tells = ended c.args.trial.records c.args.trial.many c.args.step c.max-first.result c.args.peak so_far.0 (g.R.Source.whole c.try_range.new.reader) (g.R.Source.whole c.args.reader.now) so_far.1 so_far.2 c.loop-trial.fitted
+      tells = ended c.args.trial.records c.args.trial.many c.args.step c.max-first.result c.args.peak so_far.0 (reads c.try_range.new.reader).whole (reads c.args.reader.now).whole so_far.1 so_far.2 c.loop-trial.fitted
           c.in-Ok.ensures.whole (c.max-first.ensures ∙ ap (λ n. max n 1) c.div_ceil.ensures) so_far.4 so_far.5 so_far.6 so_far.7 (inr (no_range c.args.step c.loop-trial.step c.max-first.result so_far.0 so_far.3 few));
-      not_failed = none_failed-then (trace c.args.reader.now) (trace c.try_range.new.reader) (trace c.loop-trial.reader) c.in-Ok.ensures.tried.not_failed kept.none_failed;
+      not_failed = none_failed-then (reads c.args.reader.now).calls (reads c.try_range.new.reader).calls (reads c.loop-trial.reader).calls c.in-Ok.ensures.tried.not_failed kept.none_failed;
       read = tt;
     }
 
 pub returns-after-loop-trial : goal.returns-after-loop-trial
 returns-after-loop-trial g c =
-    let trace = g.R.Source.trace in
+    let reads = g.R.Source.shown in
     let kept = c.loop-trial.invariant in
     let so_far = kept.so_far in
     record {
-      tells = ended c.args.trial.records c.args.trial.many c.args.step c.max-first.result c.args.peak so_far.0 (g.R.Source.whole c.try_range.new.reader) (g.R.Source.whole c.args.reader.now) so_far.1 so_far.2 c.loop-trial.fitted
+      tells = ended c.args.trial.records c.args.trial.many c.args.step c.max-first.result c.args.peak so_far.0 (reads c.try_range.new.reader).whole (reads c.args.reader.now).whole so_far.1 so_far.2 c.loop-trial.fitted
           c.in-Ok.ensures.whole (c.max-first.ensures ∙ ap (λ n. max n 1) c.div_ceil.ensures) so_far.4 so_far.5 so_far.6 so_far.7 (inl (some_is c.loop-trial.fitted.least (c.is_none.ensures ∙ ap not c.loop-trial-test.false)));
-      not_failed = none_failed-then (trace c.args.reader.now) (trace c.try_range.new.reader) (trace c.loop-trial.reader) c.in-Ok.ensures.tried.not_failed kept.none_failed;
+      not_failed = none_failed-then (reads c.args.reader.now).calls (reads c.try_range.new.reader).calls (reads c.loop-trial.reader).calls c.in-Ok.ensures.tried.not_failed kept.none_failed;
       read = tt;
     }

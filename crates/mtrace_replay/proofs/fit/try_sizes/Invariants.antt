@@ -8,9 +8,8 @@ use Rattle.mtrace_replay.proofs.fit.try_sizes.Given as goal
 -- the ranges so far were tried; none before the last has a size that serves
 abbrev pub invariant-loop-trial : goal.invariant-loop-trial
 invariant-loop-trial g l =
-    let whole = g.R.Source.whole in
-    let trace = g.R.Source.trace in
-    let are : List ℕ → List Verdict → Type 0 = λ tried verdicts. AreVerdicts l.trial.records l.trial.many (whole l.initial.reader) tried verdicts in
+    let reads = g.R.Source.shown in
+    let are : List ℕ → List Verdict → Type 0 = λ tried verdicts. AreVerdicts l.trial.records l.trial.many (reads l.initial.reader).whole tried verdicts in
     record {
       so_far : (times : ℕ) × (before : List Verdict) × (last : List Verdict) × (l.step ≡ doubled l.fn.step times)
           × are (ranges l.fn.step l.first times) before × are (range l.fn.step l.first times) last × (least_size before ≡ None) × (l.fitted ≡ fitted (before ++ last));
@@ -18,8 +17,8 @@ invariant-loop-trial g l =
       refused : l.fitted.refused ≤ l.fitted.tried;
       some : unit ≤ l.step;
       in_units : l.step % unit ≡ 0;
-      whole : whole l.reader ≡ whole l.initial.reader;
-      none_failed : NoneFailed (trace l.initial.reader) (trace l.reader);
+      whole : (reads l.reader).whole ≡ (reads l.initial.reader).whole;
+      none_failed : NoneFailed (reads l.initial.reader).calls (reads l.reader).calls;
       records : l.trial.records ≤ l.replay.content.records;
     }
 

@@ -6,17 +6,15 @@ use Rattle.mtrace_replay.proofs.report.put_entries.Goals as goal
 
 pub loop-entry-preserved : goal.loop-entry-preserved
 loop-entry-preserved g c =
-    let taken = g.W.Sink.taken in
-    let trace = g.W.Sink.trace in
-    let P : List ℕ → Type 0 = λ text. PutsAll taken trace text c.loop-entry.writer c.put_all.new.writer in
-    putting_more taken trace c.args.writer.now c.loop-entry.writer c.put_all.new.writer (flat_map entry_text c.args.held) _ _ (flat_map entry_text c.next.new.self)
+    let writes = g.W.Sink.shown in
+    let P : List ℕ → Type 0 = λ text. PutsAll text (writes c.loop-entry.writer) (writes c.put_all.new.writer) in
+    putting_more (writes c.args.writer.now) (writes c.loop-entry.writer) (writes c.put_all.new.writer) (flat_map entry_text c.args.held) _ _ (flat_map entry_text c.next.new.self)
     c.loop-entry.invariant (ap (flat_map entry_text) c.in-Some.ensures.steps) (subst P (c.as_slice.ensures.value ∙ c.entry_text.ensures) c.in_ok-put_all.ensures)
 
 pub returns-in_err-put_all : goal.returns-in_err-put_all
 returns-in_err-put_all g c =
-    let taken = g.W.Sink.taken in
-    let trace = g.W.Sink.trace in
-    let P : List ℕ → Type 0 = λ text. PutsPart taken trace text c.loop-entry.writer c.put_all.new.writer in
-    puts_exit taken trace c.from_residual.result _ c.from_residual.ensures.1 (flat_map entry_text c.args.held) c.args.writer.now c.put_all.new.writer
-    (putting_fails taken trace c.args.writer.now c.loop-entry.writer c.put_all.new.writer (flat_map entry_text c.args.held) _ _ (flat_map entry_text c.next.new.self)
+    let writes = g.W.Sink.shown in
+    let P : List ℕ → Type 0 = λ text. PutsPart text (writes c.loop-entry.writer) (writes c.put_all.new.writer) in
+    puts_exit c.from_residual.result _ c.from_residual.ensures.1 (flat_map entry_text c.args.held) (writes c.args.writer.now) (writes c.put_all.new.writer)
+    (putting_fails (writes c.args.writer.now) (writes c.loop-entry.writer) (writes c.put_all.new.writer) (flat_map entry_text c.args.held) _ _ (flat_map entry_text c.next.new.self)
     c.loop-entry.invariant (ap (flat_map entry_text) c.in-Some.ensures.steps) (subst P (c.as_slice.ensures.value ∙ c.entry_text.ensures) c.in_err-put_all.ensures))

@@ -5,4 +5,4 @@ use Rattle.mtrace_replay.proofs.report.put_entries.Given as goal
 
 -- the lines so far are put, and those of the rest are left
 abbrev pub invariant-loop-entry : goal.invariant-loop-entry
-invariant-loop-entry g l = IsPutting g.W.Sink.taken g.W.Sink.trace (flat_map entry_text l.fn.held) (flat_map entry_text l.entry-iterator) l.initial.writer l.writer
+invariant-loop-entry g l = IsPutting (flat_map entry_text l.fn.held) (flat_map entry_text l.entry-iterator) (g.W.Sink.shown l.initial.writer) (g.W.Sink.shown l.writer)

@@ -9,35 +9,32 @@ use Rattle.mtrace_replay.proofs.report.put_held.Goals as goal
 
 pub returns-in_err-put_all : goal.returns-in_err-put_all
 returns-in_err-put_all g c =
-    let taken = g.W.Sink.taken in
-    let trace = g.W.Sink.trace in
+    let writes = g.W.Sink.shown in
     let all = entries c.args.replay.now in
-    let P : List ℕ → Type 0 = λ text. PutsPart taken trace text c.args.writer.now c.put_all.new.writer in
-    puts_exit taken trace c.from_residual.result _ c.from_residual.ensures.1 (leaks_report all) c.args.writer.now c.put_all.new.writer
-    (subst P (sym (leaks_report-some all c.requires)) (fails_early taken trace c.args.writer.now c.put_all.new.writer (heading ++ flat_map entry_text all) (total_text all)
-    (fails_early taken trace c.args.writer.now c.put_all.new.writer heading (flat_map entry_text all) c.in_err-put_all.ensures)))
+    let P : List ℕ → Type 0 = λ text. PutsPart text (writes c.args.writer.now) (writes c.put_all.new.writer) in
+    puts_exit c.from_residual.result _ c.from_residual.ensures.1 (leaks_report all) (writes c.args.writer.now) (writes c.put_all.new.writer)
+    (subst P (sym (leaks_report-some all c.requires)) (fails_early (writes c.args.writer.now) (writes c.put_all.new.writer) (heading ++ flat_map entry_text all) (total_text all)
+    (fails_early (writes c.args.writer.now) (writes c.put_all.new.writer) heading (flat_map entry_text all) c.in_err-put_all.ensures)))
 
 pub returns-in_err-put_entries : goal.returns-in_err-put_entries
 returns-in_err-put_entries g c =
-    let taken = g.W.Sink.taken in
-    let trace = g.W.Sink.trace in
+    let writes = g.W.Sink.shown in
     let all = entries c.args.replay.now in
-    let P : List ℕ → Type 0 = λ text. PutsPart taken trace text c.args.writer.now c.put_entries.new.writer in
-    let R : List Entry → Type 0 = λ es. PutsPart taken trace (flat_map entry_text es) c.put_all.new.writer c.put_entries.new.writer in
-    puts_exit taken trace c.from_residual-in_err-put_entries.result _ c.from_residual-in_err-put_entries.ensures.1 (leaks_report all) c.args.writer.now c.put_entries.new.writer
-    (subst P (sym (leaks_report-some all c.requires)) (fails_early taken trace c.args.writer.now c.put_entries.new.writer (heading ++ flat_map entry_text all) (total_text all)
-    (fails_on taken trace c.args.writer.now c.put_all.new.writer c.put_entries.new.writer heading (flat_map entry_text all) c.in_ok-put_all.ensures (subst R c.held.ensures.entries c.in_err-put_entries.ensures))))
+    let P : List ℕ → Type 0 = λ text. PutsPart text (writes c.args.writer.now) (writes c.put_entries.new.writer) in
+    let R : List Entry → Type 0 = λ es. PutsPart (flat_map entry_text es) (writes c.put_all.new.writer) (writes c.put_entries.new.writer) in
+    puts_exit c.from_residual-in_err-put_entries.result _ c.from_residual-in_err-put_entries.ensures.1 (leaks_report all) (writes c.args.writer.now) (writes c.put_entries.new.writer)
+    (subst P (sym (leaks_report-some all c.requires)) (fails_early (writes c.args.writer.now) (writes c.put_entries.new.writer) (heading ++ flat_map entry_text all) (total_text all)
+    (fails_on (writes c.args.writer.now) (writes c.put_all.new.writer) (writes c.put_entries.new.writer) heading (flat_map entry_text all) c.in_ok-put_all.ensures (subst R c.held.ensures.entries c.in_err-put_entries.ensures))))
 
 pub returns : goal.returns
 returns g c =
-    let taken = g.W.Sink.taken in
-    let trace = g.W.Sink.trace in
+    let writes = g.W.Sink.shown in
     let all = entries c.args.replay.now in
     let last = c.as_slice.ensures.value ∙ c.total_text-total.ensures ∙ total_text-is all _ _ c.blocks-blocks.ensures.len c.bytes.ensures in
-    let P : List ℕ → Type 0 = λ text. Puts taken trace c.put_all-2.result text c.args.writer.now c.put_all-2.new.writer in
-    let R : List Entry → Type 0 = λ es. PutsAll taken trace (flat_map entry_text es) c.put_all.new.writer c.put_entries.new.writer in
-    let Q : List ℕ → Type 0 = λ text. Puts taken trace c.put_all-2.result text c.put_entries.new.writer c.put_all-2.new.writer in
+    let P : List ℕ → Type 0 = λ text. Puts c.put_all-2.result text (writes c.args.writer.now) (writes c.put_all-2.new.writer) in
+    let R : List Entry → Type 0 = λ es. PutsAll (flat_map entry_text es) (writes c.put_all.new.writer) (writes c.put_entries.new.writer) in
+    let Q : List ℕ → Type 0 = λ text. Puts c.put_all-2.result text (writes c.put_entries.new.writer) (writes c.put_all-2.new.writer) in
     subst P (sym (leaks_report-some all c.requires))
-    (puts_then taken trace c.put_all-2.result c.args.writer.now c.put_entries.new.writer c.put_all-2.new.writer (heading ++ flat_map entry_text all) (total_text all)
-    (puts_on taken trace c.args.writer.now c.put_all.new.writer c.put_entries.new.writer heading (flat_map entry_text all) c.in_ok-put_all.ensures (subst R c.held.ensures.entries c.in_ok-put_entries.ensures))
+    (puts_then c.put_all-2.result (writes c.args.writer.now) (writes c.put_entries.new.writer) (writes c.put_all-2.new.writer) (heading ++ flat_map entry_text all) (total_text all)
+    (puts_on (writes c.args.writer.now) (writes c.put_all.new.writer) (writes c.put_entries.new.writer) heading (flat_map entry_text all) c.in_ok-put_all.ensures (subst R c.held.ensures.entries c.in_ok-put_entries.ensures))
     (subst Q last c.put_all-2.ensures))

@@ -8,8 +8,8 @@ pub returns-in_err-put_diagnostics : goal.returns-in_err-put_diagnostics
 returns-in_err-put_diagnostics g c = record {
   kept = λ is. refl;
   put =
-      puts_exit g.W.Sink.taken g.W.Sink.trace c.from_residual.result _ c.from_residual.ensures.1 _ c.args.writer.now c.put_diagnostics.new.writer
-      (fails_early g.W.Sink.taken g.W.Sink.trace c.args.writer.now c.put_diagnostics.new.writer (diagnostics_text c.args.diagnostics.now.items)
+      puts_exit c.from_residual.result _ c.from_residual.ensures.1 _ (g.W.Sink.shown c.args.writer.now) (g.W.Sink.shown c.put_diagnostics.new.writer)
+      (fails_early (g.W.Sink.shown c.args.writer.now) (g.W.Sink.shown c.put_diagnostics.new.writer) (diagnostics_text c.args.diagnostics.now.items)
       (report_text c.args.report (entries c.args.replay.now) c.args.replay.now.totals c.args.replay.now.content) c.in_err-put_diagnostics.ensures);
 }
 
@@ -17,6 +17,6 @@ pub returns : goal.returns
 returns g c = record {
   kept = c.put_report.ensures.kept;
   put =
-      puts_then g.W.Sink.taken g.W.Sink.trace c.put_report.result c.args.writer.now c.put_diagnostics.new.writer c.put_report.new.writer (diagnostics_text c.args.diagnostics.now.items)
+      puts_then c.put_report.result (g.W.Sink.shown c.args.writer.now) (g.W.Sink.shown c.put_diagnostics.new.writer) (g.W.Sink.shown c.put_report.new.writer) (diagnostics_text c.args.diagnostics.now.items)
       (report_text c.args.report (entries c.args.replay.now) c.args.replay.now.totals c.args.replay.now.content) c.in_ok-put_diagnostics.ensures c.put_report.ensures.put;
 }

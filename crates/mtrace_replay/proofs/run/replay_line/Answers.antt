@@ -11,27 +11,27 @@ use Rattle.mtrace_replay.proofs.run.replay_line.Goals as goal
 
 pub returns-then-is_empty : goal.returns-then-is_empty
 returns-then-is_empty g c =
-    let taken = g.W.Sink.taken c.args.writer.now in
+    let writer = g.W.Sink.shown c.args.writer.now in
     let empty = no_diagnostic-is c.feed_lent.new.findings (sym c.is_empty.ensures ∙ c.if-is_empty.true) in
     record {
       done = λ settings past stands.
           let none = sym empty ∙ c.in-Ok.ensures.diagnostics settings past stands in
           record {
             stands = c.in-Ok.ensures.stands settings past stands;
-            wrote = subst (λ diagnostics. Wrote taken taken (diagnostics_text diagnostics)) none (Wrote-nothing taken);
+            wrote = subst (λ diagnostics. Wrote writer.taken writer.taken (diagnostics_text diagnostics)) none (Wrote-nothing writer.taken);
             has_diagnostics_is = ap is_some_diagnostic none;
           };
       counted = c.in-Ok.ensures.counted;
       cleared = empty;
       records = c.feed_lent.ensures.records;
-      took = moved_none Took (g.W.Sink.trace c.args.writer.now);
+      took = moved_none Took writer.calls;
       write = tt;
       failed = tt;
     }
 
 pub returns-in-Ok-put_findings : goal.returns-in-Ok-put_findings
 returns-in-Ok-put_findings g c =
-    let P : List Diagnostic → Type 0 = λ diagnostics. Wrote (g.W.Sink.taken c.args.writer.now) (g.W.Sink.taken c.put_findings.new.writer) (diagnostics_text diagnostics) in
+    let P : List Diagnostic → Type 0 = λ diagnostics. Wrote (g.W.Sink.shown c.args.writer.now).taken (g.W.Sink.shown c.put_findings.new.writer).taken (diagnostics_text diagnostics) in
     record {
       done = λ settings past stands.
           let is = c.in-Ok.ensures.diagnostics settings past stands in
@@ -50,7 +50,7 @@ returns-in-Ok-put_findings g c =
 
 pub returns-in-Err : goal.returns-in-Err
 returns-in-Err g c =
-    let P : List Diagnostic → Type 0 = λ diagnostics. Begins (g.W.Sink.taken c.args.writer.now) (g.W.Sink.taken c.put_findings.new.writer) (diagnostics_text diagnostics) in
+    let P : List Diagnostic → Type 0 = λ diagnostics. Begins (g.W.Sink.shown c.args.writer.now).taken (g.W.Sink.shown c.put_findings.new.writer).taken (diagnostics_text diagnostics) in
     record {
       done = tt;
       counted = tt;

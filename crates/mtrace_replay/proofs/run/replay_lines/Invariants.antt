@@ -10,17 +10,17 @@ use Rattle.mtrace_replay.proofs.run.replay_lines.Given as goal
 -- end. The writer took pieces
 abbrev pub invariant-loop-number : goal.invariant-loop-number
 invariant-loop-number g l =
-    let left = g.R.Source.left in
-    let taken = g.W.Sink.taken in
+    let reads = g.R.Source.shown in
+    let writes = g.W.Sink.shown in
     record {
       under_way : (settings : Settings) → StandsFor l.initial.replay settings []
-          → IsUnderWay settings l.lines l.replay l.has_diagnostics (left l.initial.reader) (left l.reader) (taken l.initial.writer) (taken l.writer);
+          → IsUnderWay settings l.lines l.replay l.has_diagnostics (reads l.initial.reader) (reads l.reader) (writes l.initial.writer) (writes l.writer);
       counted : l.replay.totals.lines ≡ l.lines.count;
       none : l.findings ≡ [];
       records : l.replay.content.records ≡ l.initial.replay.content.records;
-      whole : g.R.Source.whole l.reader ≡ g.R.Source.whole l.initial.reader;
-      gave : CallsFor l.lines.stage (g.R.Source.trace l.initial.reader) (g.R.Source.trace l.reader);
-      took : HasTaken (g.W.Sink.trace l.initial.writer) (g.W.Sink.trace l.writer);
+      whole : (reads l.reader).whole ≡ (reads l.initial.reader).whole;
+      gave : CallsFor l.lines.stage (reads l.initial.reader).calls (reads l.reader).calls;
+      took : HasTaken (writes l.initial.writer).calls (writes l.writer).calls;
     }
 
 -- how many numbers of lines are left

@@ -11,44 +11,44 @@ use Rattle.mtrace_replay.proofs.run.replay_log.Goals as goal
 -- the log has ended, and all was written
 pub returns-in-Ok-finish-clause-ran : goal.returns-in-Ok-finish-clause-ran
 returns-in-Ok-finish-clause-ran g c =
-    let left = g.R.Source.left in
-    let taken = g.W.Sink.taken in
+    let reads = g.R.Source.shown in
+    let writes = g.W.Sink.shown in
     let done = c.in-Ok-replay_lines.ensures.done c.args.settings c.in-Ok.ensures.made in
     let took = c.in-Ok-replay_lines.ensures.writer_took (λ e. cc) in
-    runs_to_status c.args.report c.args.settings left g.R.Source.trace taken g.W.Sink.trace c.in-Ok-finish.status c.args.reader.now c.replay_lines.new.reader c.args.writer.now c.finish.new.writer
-    (report_all c.args.report c.args.settings c.replay_lines.new.replay c.in-Ok-replay_lines.has_diagnostics c.in-Ok-finish.status (left c.args.reader.now) (left c.replay_lines.new.reader)
-    (taken c.args.writer.now) (taken c.replay_lines.new.writer) (taken c.finish.new.writer) done c.in-Ok-finish.ensures.all c.in-Ok-finish.ensures.status)
+    runs_to_status c.args.report c.args.settings reads writes c.in-Ok-finish.status c.args.reader.now c.replay_lines.new.reader c.args.writer.now c.finish.new.writer
+    (report_all c.args.report c.args.settings c.replay_lines.new.replay c.in-Ok-replay_lines.has_diagnostics c.in-Ok-finish.status (reads c.args.reader.now) (reads c.replay_lines.new.reader)
+    (writes c.args.writer.now) (writes c.replay_lines.new.writer) (writes c.finish.new.writer) done c.in-Ok-finish.ensures.all c.in-Ok-finish.ensures.status)
     (search rules) (moved_then_append Took Flushed _ _ _ took c.in-Ok-finish.ensures.flushed) (search rules) (search rules)
 
 pub returns-in-Ok-finish-clause-last : goal.returns-in-Ok-finish-clause-last
 returns-in-Ok-finish-clause-last g c =
-    let left = g.R.Source.left in
-    let taken = g.W.Sink.taken in
+    let reads = g.R.Source.shown in
+    let writes = g.W.Sink.shown in
     let done = c.in-Ok-replay_lines.ensures.done c.args.settings c.in-Ok.ensures.made in
-    λ only. let P : Report → Type 0 = λ report. Wrote (taken c.replay_lines.new.writer) (taken c.finish.new.writer) (end_text report c.replay_lines.new.replay) in
-    ends_at c.args.settings c.replay_lines.new.replay c.finish.new.replay c.in-Ok-replay_lines.has_diagnostics c.in-Ok-finish.status (left c.args.reader.now) (left c.replay_lines.new.reader)
-    (taken c.args.writer.now) (taken c.replay_lines.new.writer) (taken c.finish.new.writer) done (subst P only c.in-Ok-finish.ensures.all) c.in-Ok-finish.ensures.status (c.in-Ok-finish.ensures.kept only) (c.in-Ok-replay_lines.ensures.records ∙ c.in-Ok.ensures.records)
+    λ only. let P : Report → Type 0 = λ report. Wrote (writes c.replay_lines.new.writer).taken (writes c.finish.new.writer).taken (end_text report c.replay_lines.new.replay) in
+    ends_at c.args.settings c.replay_lines.new.replay c.finish.new.replay c.in-Ok-replay_lines.has_diagnostics c.in-Ok-finish.status (reads c.args.reader.now) (reads c.replay_lines.new.reader)
+    (writes c.args.writer.now) (writes c.replay_lines.new.writer) (writes c.finish.new.writer) done (subst P only c.in-Ok-finish.ensures.all) c.in-Ok-finish.ensures.status (c.in-Ok-finish.ensures.kept only) (c.in-Ok-replay_lines.ensures.records ∙ c.in-Ok.ensures.records)
 
 -- the writer failed at the end
 pub returns-in-Ok-replay_lines-clause-ran : goal.returns-in-Ok-replay_lines-clause-ran
 returns-in-Ok-replay_lines-clause-ran g c =
-    let left = g.R.Source.left in
-    let taken = g.W.Sink.taken in
+    let reads = g.R.Source.shown in
+    let writes = g.W.Sink.shown in
     let done = c.in-Ok-replay_lines.ensures.done c.args.settings c.in-Ok.ensures.made in
     let took = c.in-Ok-replay_lines.ensures.writer_took (λ e. cc) in
-    runs_to_write c.args.report c.args.settings left g.R.Source.trace taken g.W.Sink.trace c.args.reader.now c.replay_lines.new.reader c.args.writer.now c.finish.new.writer
-    (report_write c.args.report c.args.settings c.replay_lines.new.replay c.in-Ok-replay_lines.has_diagnostics (left c.args.reader.now) (left c.replay_lines.new.reader)
-    (taken c.args.writer.now) (taken c.replay_lines.new.writer) (taken c.finish.new.writer) done c.in-Err.ensures.beginning)
+    runs_to_write c.args.report c.args.settings reads writes c.args.reader.now c.replay_lines.new.reader c.args.writer.now c.finish.new.writer
+    (report_write c.args.report c.args.settings c.replay_lines.new.replay c.in-Ok-replay_lines.has_diagnostics (reads c.args.reader.now) (reads c.replay_lines.new.reader)
+    (writes c.args.writer.now) (writes c.replay_lines.new.writer) (writes c.finish.new.writer) done c.in-Err.ensures.beginning)
     (failed_after _ _ _ took c.in-Err.ensures.failed) (search rules) (search rules)
 
 -- the reader failed
 pub returns-clause-ran : goal.returns-clause-ran
 returns-clause-ran g c =
-    runs_to_read c.args.report c.args.settings g.R.Source.left g.R.Source.trace g.W.Sink.taken g.W.Sink.trace c.args.reader.now c.replay_lines.new.reader c.args.writer.now c.ask_flush.new.writer
+    runs_to_read c.args.report c.args.settings g.R.Source.shown g.W.Sink.shown c.args.reader.now c.replay_lines.new.reader c.args.writer.now c.ask_flush.new.writer
     (search rules) (flush_after _ _ _ (c.in-Err-Reader.ensures.writer_took (λ is. cc)) c.ask_flush.ensures.asked) (search rules)
 
 -- the writer failed before the end
 pub returns-in-Err-Writer-clause-ran : goal.returns-in-Err-Writer-clause-ran
 returns-in-Err-Writer-clause-ran g c =
-    runs_to_write c.args.report c.args.settings g.R.Source.left g.R.Source.trace g.W.Sink.taken g.W.Sink.trace c.args.reader.now c.replay_lines.new.reader c.args.writer.now c.replay_lines.new.writer
+    runs_to_write c.args.report c.args.settings g.R.Source.shown g.W.Sink.shown c.args.reader.now c.replay_lines.new.reader c.args.writer.now c.replay_lines.new.writer
     (search rules) (search rules) (search rules) (search rules)

@@ -13,13 +13,14 @@ same_status one other same = cc
 
 pub returns-in-Ok-save-clause-saves : goal.returns-in-Ok-save-clause-saves
 returns-in-Ok-save-clause-saves g c =
-    let taken = g.I.Sink.taken in
-    let trace = g.I.Sink.trace in
+    let reads = g.R.Source.shown in
+    let writes = g.W.Sink.shown in
+    let saves = g.I.Sink.shown in
     let ended = c.in-Ok.ended in
     let answer : Result Status RunFault = Ok ended.status in
-    let P : Result (Unit {0}) Failed → Type 0 = λ result. PutsAndFlushes taken trace result c.save.ensures.image c.args.image.now c.save.new.image in
-    let E : Status → Type 0 = λ status. EndsWithImage c.args.settings status (g.R.Source.left c.args.reader.now) (g.R.Source.left c.replay_log.new.reader) (g.W.Sink.taken c.args.writer.now)
-    (g.W.Sink.taken c.replay_log.new.writer) taken trace answer c.args.image.now c.save.new.image in
+    let P : Result (Unit {0}) Failed → Type 0 = λ result. PutsAndFlushes result c.save.ensures.image (saves c.args.image.now) (saves c.save.new.image) in
+    let E : Status → Type 0 = λ status. EndsWithImage c.args.settings status (reads c.args.reader.now) (reads c.replay_log.new.reader) (writes c.args.writer.now)
+    (writes c.replay_log.new.writer) answer (saves c.args.image.now) (saves c.save.new.image) in
     let ends : E ended.status = record {
       content = ended.replay.content;
       replays = replays_by c.args.settings ended.status ended.replay _ _ _ _ (c.in-Ok.ensures.last refl);
@@ -30,14 +31,15 @@ returns-in-Ok-save-clause-saves g c =
 
 pub returns-clause-saves : goal.returns-clause-saves
 returns-clause-saves g c =
-    let taken = g.I.Sink.taken in
-    let trace = g.I.Sink.trace in
+    let reads = g.R.Source.shown in
+    let writes = g.W.Sink.shown in
+    let saves = g.I.Sink.shown in
     let ended = c.in-Ok.ended in
     let run : Result Status RunFault = Ok ended.status in
     let answer : Result Status RunFault = Err Image in
-    let P : Result (Unit {0}) Failed → Type 0 = λ result. PutsAndFlushes taken trace result c.save.ensures.image c.args.image.now c.save.new.image in
-    let E : Status → Type 0 = λ status. EndsWithImage c.args.settings status (g.R.Source.left c.args.reader.now) (g.R.Source.left c.replay_log.new.reader) (g.W.Sink.taken c.args.writer.now)
-    (g.W.Sink.taken c.replay_log.new.writer) taken trace answer c.args.image.now c.save.new.image in
+    let P : Result (Unit {0}) Failed → Type 0 = λ result. PutsAndFlushes result c.save.ensures.image (saves c.args.image.now) (saves c.save.new.image) in
+    let E : Status → Type 0 = λ status. EndsWithImage c.args.settings status (reads c.args.reader.now) (reads c.replay_log.new.reader) (writes c.args.writer.now)
+    (writes c.replay_log.new.writer) answer (saves c.args.image.now) (saves c.save.new.image) in
     let ends : E ended.status = record {
       content = ended.replay.content;
       replays = replays_by c.args.settings ended.status ended.replay _ _ _ _ (c.in-Ok.ensures.last refl);

@@ -7,23 +7,21 @@ use Rattle.mtrace_replay.proofs.sites.put_sites.Goals as goal
 
 pub loop-site-preserved : goal.loop-site-preserved
 loop-site-preserved g c =
-    let taken = g.W.Sink.taken in
-    let trace = g.W.Sink.trace in
+    let writes = g.W.Sink.shown in
     let all = c.args.sites.now in
     let index = c.loop-site.site-index in
     let next = texts-next site_text all all index c.site-item.result refl c.loop-site-test.true c.site-item.is in
-    let P : List ℕ → Type 0 = λ text. PutsAll taken trace text c.loop-site.writer c.put_all.new.writer in
-    putting_more taken trace c.args.writer.now c.loop-site.writer c.put_all.new.writer (flat_map site_text all) (flat_map site_text (drop index all)) (site_text c.site-item.result) (flat_map site_text (drop (index + 1) all))
+    let P : List ℕ → Type 0 = λ text. PutsAll text (writes c.loop-site.writer) (writes c.put_all.new.writer) in
+    putting_more (writes c.args.writer.now) (writes c.loop-site.writer) (writes c.put_all.new.writer) (flat_map site_text all) (flat_map site_text (drop index all)) (site_text c.site-item.result) (flat_map site_text (drop (index + 1) all))
     c.loop-site.invariant next (subst P (c.as_slice.ensures.value ∙ c.site_text.ensures) c.in_ok-put_all.ensures)
 
 pub returns-in_err-put_all : goal.returns-in_err-put_all
 returns-in_err-put_all g c =
-    let taken = g.W.Sink.taken in
-    let trace = g.W.Sink.trace in
+    let writes = g.W.Sink.shown in
     let all = c.args.sites.now in
     let index = c.loop-site.site-index in
     let next = texts-next site_text all all index c.site-item.result refl c.loop-site-test.true c.site-item.is in
-    let P : List ℕ → Type 0 = λ text. PutsPart taken trace text c.loop-site.writer c.put_all.new.writer in
-    puts_exit taken trace c.from_residual.result _ c.from_residual.ensures.1 (flat_map site_text all) c.args.writer.now c.put_all.new.writer
-    (putting_fails taken trace c.args.writer.now c.loop-site.writer c.put_all.new.writer (flat_map site_text all) (flat_map site_text (drop index all)) (site_text c.site-item.result) (flat_map site_text (drop (index + 1) all))
+    let P : List ℕ → Type 0 = λ text. PutsPart text (writes c.loop-site.writer) (writes c.put_all.new.writer) in
+    puts_exit c.from_residual.result _ c.from_residual.ensures.1 (flat_map site_text all) (writes c.args.writer.now) (writes c.put_all.new.writer)
+    (putting_fails (writes c.args.writer.now) (writes c.loop-site.writer) (writes c.put_all.new.writer) (flat_map site_text all) (flat_map site_text (drop index all)) (site_text c.site-item.result) (flat_map site_text (drop (index + 1) all))
     c.loop-site.invariant next (subst P (c.as_slice.ensures.value ∙ c.site_text.ensures) c.in_err-put_all.ensures))

@@ -5,4 +5,4 @@ use Rattle.mtrace_replay.proofs.sites.put_sites.Given as goal
 
 -- the lines so far are put, and those of the rest are left
 abbrev pub invariant-loop-site : goal.invariant-loop-site
-invariant-loop-site g l = IsPutting g.W.Sink.taken g.W.Sink.trace (flat_map site_text l.sites) (flat_map site_text (drop l.site-index l.sites)) l.initial.writer l.writer
+invariant-loop-site g l = IsPutting (flat_map site_text l.sites) (flat_map site_text (drop l.site-index l.sites)) (g.W.Sink.shown l.initial.writer) (g.W.Sink.shown l.writer)

@@ -8,53 +8,47 @@ use Rattle.mtrace_replay.proofs.sites.run_sites.Goals as goal
 
 pub returns-in-Err-BadSettings : goal.returns-in-Err-BadSettings
 returns-in-Err-BadSettings g c =
-    let runs = runs_by_bad_settings Nothing c.args.settings g.R.Source.left g.R.Source.trace g.W.Sink.taken g.W.Sink.trace c.args.reader.now c.args.writer.now (search rules) (search rules) in
-    again_fault c.args.settings (λ lines. SitesFollow c.args.settings lines g.R.Source.left g.R.Source.whole g.R.Source.trace g.W.Sink.taken g.W.Sink.trace) g.R.Source.left g.R.Source.whole g.R.Source.trace g.W.Sink.taken g.W.Sink.trace _
+    let runs = runs_by_bad_settings Nothing c.args.settings g.R.Source.shown g.W.Sink.shown c.args.reader.now c.args.writer.now (search rules) (search rules) in
+    again_fault c.args.settings (λ lines. SitesFollow c.args.settings lines g.R.Source.shown g.W.Sink.shown) g.R.Source.shown g.W.Sink.shown _
     c.args.reader.now c.args.reader.now c.args.writer.now c.args.writer.now runs
 
 pub returns-in-Err-OutOfMemory : goal.returns-in-Err-OutOfMemory
 returns-in-Err-OutOfMemory g c =
-    let runs = runs_without_memory Nothing c.args.settings g.R.Source.left g.R.Source.trace g.W.Sink.taken g.W.Sink.trace c.args.reader.now c.args.writer.now (search rules) (search rules) in
-    again_fault c.args.settings (λ lines. SitesFollow c.args.settings lines g.R.Source.left g.R.Source.whole g.R.Source.trace g.W.Sink.taken g.W.Sink.trace) g.R.Source.left g.R.Source.whole g.R.Source.trace g.W.Sink.taken g.W.Sink.trace _
+    let runs = runs_without_memory Nothing c.args.settings g.R.Source.shown g.W.Sink.shown c.args.reader.now c.args.writer.now (search rules) (search rules) in
+    again_fault c.args.settings (λ lines. SitesFollow c.args.settings lines g.R.Source.shown g.W.Sink.shown) g.R.Source.shown g.W.Sink.shown _
     c.args.reader.now c.args.reader.now c.args.writer.now c.args.writer.now runs
 
 pub returns-in-Ok-tell_sites : goal.returns-in-Ok-tell_sites
 returns-in-Ok-tell_sites g c =
-    let left = g.R.Source.left in
-    let whole = g.R.Source.whole in
-    let pulls = g.R.Source.trace in
-    let taken = g.W.Sink.taken in
-    let puts = g.W.Sink.trace in
+    let reads = g.R.Source.shown in
+    let writes = g.W.Sink.shown in
     let settings = c.args.settings in
     let ended = c.in-Ok-replay_log.ended in
     let last = c.in-Ok-replay_log.ensures.last refl in
     let follow = c.in-Ok-tell_sites.ensures settings last.reports.lines last.stands c.in-Ok.ensures.made.replay in
-    again_ended settings (λ lines. SitesFollow settings lines left whole pulls taken puts) left whole pulls taken puts ended.status (Ok ended.status)
+    again_ended settings (λ lines. SitesFollow settings lines reads writes) reads writes ended.status (Ok ended.status)
     c.args.reader.now c.replay_log.new.reader c.tell_sites.new.reader c.args.writer.now c.replay_log.new.writer c.tell_sites.new.writer c.in-Ok-replay_log.ensures.ran
     (record {
       reports = last.reports;
       answer = refl;
       whole_kept = c.in-Ok-replay_log.ensures.whole;
-      follow = follows_ok _ _ _ left pulls taken puts c.replay_log.new.reader c.tell_sites.new.reader c.replay_log.new.writer c.tell_sites.new.writer ended.status follow;
+      follow = follows_ok _ _ _ reads writes c.replay_log.new.reader c.tell_sites.new.reader c.replay_log.new.writer c.tell_sites.new.writer ended.status follow;
     })
 
 pub returns : goal.returns
 returns g c =
-    let left = g.R.Source.left in
-    let whole = g.R.Source.whole in
-    let pulls = g.R.Source.trace in
-    let taken = g.W.Sink.taken in
-    let puts = g.W.Sink.trace in
+    let reads = g.R.Source.shown in
+    let writes = g.W.Sink.shown in
     let settings = c.args.settings in
     let ended = c.in-Ok-replay_log.ended in
     let last = c.in-Ok-replay_log.ensures.last refl in
     let fault = c.in-Err-tell_sites.fault in
     let follow = c.in-Err-tell_sites.ensures settings last.reports.lines last.stands c.in-Ok.ensures.made.replay in
-    again_ended settings (λ lines. SitesFollow settings lines left whole pulls taken puts) left whole pulls taken puts ended.status (Err fault)
+    again_ended settings (λ lines. SitesFollow settings lines reads writes) reads writes ended.status (Err fault)
     c.args.reader.now c.replay_log.new.reader c.tell_sites.new.reader c.args.writer.now c.replay_log.new.writer c.tell_sites.new.writer c.in-Ok-replay_log.ensures.ran
     (record {
       reports = last.reports;
       answer = tt;
       whole_kept = c.in-Ok-replay_log.ensures.whole;
-      follow = follows_err _ _ _ left pulls taken puts c.replay_log.new.reader c.tell_sites.new.reader c.replay_log.new.writer c.tell_sites.new.writer fault follow;
+      follow = follows_err _ _ _ reads writes c.replay_log.new.reader c.tell_sites.new.reader c.replay_log.new.writer c.tell_sites.new.writer fault follow;
     })

@@ -12,8 +12,7 @@ use Rattle.mtrace_replay.proofs.sites.tell_sites.Goals as goal
 
 pub returns-in-Ok-flush_behind : goal.returns-in-Ok-flush_behind
 returns-in-Ok-flush_behind g c = λ settings lines stands fresh.
-    let taken = g.W.Sink.taken in
-    let trace = g.W.Sink.trace in
+    let writes = g.W.Sink.shown in
     let end = c.args.at_end.now in
     let peak = c.replay_again.new.replay in
     let peak_sites = c.sites.result.now in
@@ -21,15 +20,15 @@ returns-in-Ok-flush_behind g c = λ settings lines stands fresh.
     let line = ap (λ (totals : Totals). totals.peak_line) c.totals-totals.ensures.totals in
     let text = sites_text-is peak peak_sites end end_sites c.totals-totals.result _ _ _ _ c.totals-totals.ensures.totals
     c.group_held-peak_sum.ensures.blocks c.group_held-peak_sum.ensures.bytes c.group_held-end_sum.ensures.blocks c.group_held-end_sum.ensures.bytes in
-    let M : ℕ → Type 0 = λ most. HasReplayedFirst most settings peak (g.R.Source.whole c.args.reader.now) (g.R.Source.left c.replay_again.new.reader) in
+    let M : ℕ → Type 0 = λ most. HasReplayedFirst most settings peak (g.R.Source.shown c.args.reader.now).whole (g.R.Source.shown c.replay_again.new.reader).left in
     let A : Replayed → List Site → Type 0 = λ replay sites. AreSites (entries replay) sites in
-    let tells = tells_sites settings lines peak end peak_sites end_sites (g.R.Source.whole c.args.reader.now) (g.R.Source.left c.replay_again.new.reader) stands
+    let tells = tells_sites settings lines peak end peak_sites end_sites (g.R.Source.shown c.args.reader.now).whole (g.R.Source.shown c.replay_again.new.reader).left stands
     (subst M line (c.in-Ok.ensures.done settings fresh)) (subst (A peak) (sym c.sites.ensures) c.group_held-peak_sum.ensures.sites) (subst (A end) (sym c.sites-2.ensures) c.group_held-end_sum.ensures.sites) in
     let answer : Result (Unit {0}) RunFault = Ok tt in
-    let P : List ℕ → Type 0 = λ words. PutsAndFlushes taken trace answer words c.args.writer.now c.flush_behind.new.writer in
+    let P : List ℕ → Type 0 = λ words. PutsAndFlushes answer words (writes c.args.writer.now) (writes c.flush_behind.new.writer) in
     record {
       faults = tt;
-      told = λ _. (sites_text peak peak_sites end end_sites, tells, subst P text (c.in-Ok-flush_behind.ensures c.args.writer.now _ c.put_both-put.ensures));
+      told = λ _. (sites_text peak peak_sites end end_sites, tells, subst P text (c.in-Ok-flush_behind.ensures (writes c.args.writer.now) _ c.put_both-put.ensures));
       reader_not_failed = λ _. c.in-Ok.ensures.not_failed;
       read_fault = search rules;
       nothing_put = search rules;
@@ -37,8 +36,7 @@ returns-in-Ok-flush_behind g c = λ settings lines stands fresh.
 
 pub returns : goal.returns
 returns g c = λ settings lines stands fresh.
-    let taken = g.W.Sink.taken in
-    let trace = g.W.Sink.trace in
+    let writes = g.W.Sink.shown in
     let end = c.args.at_end.now in
     let peak = c.replay_again.new.replay in
     let peak_sites = c.sites.result.now in
@@ -46,15 +44,15 @@ returns g c = λ settings lines stands fresh.
     let line = ap (λ (totals : Totals). totals.peak_line) c.totals-totals.ensures.totals in
     let text = sites_text-is peak peak_sites end end_sites c.totals-totals.result _ _ _ _ c.totals-totals.ensures.totals
     c.group_held-peak_sum.ensures.blocks c.group_held-peak_sum.ensures.bytes c.group_held-end_sum.ensures.blocks c.group_held-end_sum.ensures.bytes in
-    let M : ℕ → Type 0 = λ most. HasReplayedFirst most settings peak (g.R.Source.whole c.args.reader.now) (g.R.Source.left c.replay_again.new.reader) in
+    let M : ℕ → Type 0 = λ most. HasReplayedFirst most settings peak (g.R.Source.shown c.args.reader.now).whole (g.R.Source.shown c.replay_again.new.reader).left in
     let A : Replayed → List Site → Type 0 = λ replay sites. AreSites (entries replay) sites in
-    let tells = tells_sites settings lines peak end peak_sites end_sites (g.R.Source.whole c.args.reader.now) (g.R.Source.left c.replay_again.new.reader) stands
+    let tells = tells_sites settings lines peak end peak_sites end_sites (g.R.Source.shown c.args.reader.now).whole (g.R.Source.shown c.replay_again.new.reader).left stands
     (subst M line (c.in-Ok.ensures.done settings fresh)) (subst (A peak) (sym c.sites.ensures) c.group_held-peak_sum.ensures.sites) (subst (A end) (sym c.sites-2.ensures) c.group_held-end_sum.ensures.sites) in
     let answer : Result (Unit {0}) RunFault = Err Write in
-    let P : List ℕ → Type 0 = λ words. PutsAndFlushes taken trace answer words c.args.writer.now c.flush_behind.new.writer in
+    let P : List ℕ → Type 0 = λ words. PutsAndFlushes answer words (writes c.args.writer.now) (writes c.flush_behind.new.writer) in
     record {
       faults = inr refl;
-      told = λ _. (sites_text peak peak_sites end end_sites, tells, subst P text (c.in-Err.ensures c.args.writer.now _ c.put_both-put.ensures));
+      told = λ _. (sites_text peak peak_sites end end_sites, tells, subst P text (c.in-Err.ensures (writes c.args.writer.now) _ c.put_both-put.ensures));
       reader_not_failed = λ _. c.in-Ok.ensures.not_failed;
       read_fault = search rules;
       nothing_put = search rules;

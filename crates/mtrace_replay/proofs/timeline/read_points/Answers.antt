@@ -6,7 +6,7 @@ use Rattle.mtrace_log.specs.Trace.{HasNotFailed}
 use Rattle.mtrace_log.specs.declared.call.Call.{Call}
 use Rattle.mtrace_replay.specs.declared.point.Point.{Point}
 use Rattle.mtrace_replay.specs.Replay.{Replayed}
-use Rattle.mtrace_replay.specs.Run.{Bytes}
+use Rattle.mtrace_log.specs.Shown.{Bytes}
 use Rattle.mtrace_replay.specs.Again.{HasReadFirst}
 use Rattle.mtrace_replay.specs.Texts.{greatest}
 use Rattle.mtrace_replay.proofs.AgainLemmas.{read_first}
@@ -21,8 +21,7 @@ replay_up_to-requires-clause-ahead g c =
 
 pub returns-in_err-replay_up_to : goal.returns-in_err-replay_up_to
 returns-in_err-replay_up_to g c =
-    let left = g.R.Source.left in
-    let trace = g.R.Source.trace in
+    let reads = g.R.Source.shown in
     let kept = c.loop-number.invariant in
     let began = c.in_ok-begin.ensures in
     let new = c.replay_up_to.new.reader in
@@ -31,13 +30,13 @@ returns-in_err-replay_up_to g c =
       done = tt;
       not_failed = tt;
       fails = λ settings many stands all within.
-          fails_again many (g.R.Source.whole c.args.reader.now) (left c.args.reader.now) (left c.begin.new.self) (left new) (trace c.args.reader.now) (trace c.begin.new.self) (trace new) began.left began.told
-          (c.in_err-replay_up_to.ensures.lines.stops settings (left c.begin.new.self) (trace c.begin.new.self) many (kept.so_far settings stands).now kept.gave (all c.loop-number.number-index 0 c.loop-number-test.true) within);
+          fails_again many (reads c.args.reader.now) (reads c.begin.new.self) (reads new) began.left began.whole began.told
+          (c.in_err-replay_up_to.ensures.lines.stops settings (reads c.begin.new.self) many (kept.so_far settings stands).now kept.gave (all c.loop-number.number-index 0 c.loop-number-test.true) within);
     })
 
 pub loop-number-preserved : goal.loop-number-preserved
 loop-number-preserved g c =
-    let left = g.R.Source.left in
+    let reads = g.R.Source.shown in
     let kept = c.loop-number.invariant in
     let numbers = c.args.numbers.now in
     let index = c.loop-number.number-index in
@@ -49,14 +48,14 @@ loop-number-preserved g c =
     let items = c.push_reserved.ensures.items in
     let number = get_or numbers index 0 in
     let line : point.line ≡ number = c.point_after.ensures.line ∙ read.counted ∙ read.reached in
-    let gave = read.gave _ kept.gave kept.not_failed in
+    let gave = read.gave (reads c.begin.new.self) kept.gave kept.not_failed in
     let up : c.loop-number.lines.count ≤ c.replay_up_to.new.lines.count = omega (arith, kept.reached, up_to_next numbers index c.requires.rising c.loop-number-test.true, read.reached) in
     record {
       so_far = λ settings stands.
           let so_far = kept.so_far settings stands in
-          let G : List Point → Replayed → Type 0 = λ all now. Gathers settings all c.replay_up_to.new.lines now (left c.begin.new.self) (left c.replay_up_to.new.reader) in
-          let more = gathers_more settings points point c.loop-number.lines c.replay_up_to.new.lines c.loop-number.replay replay touches (left c.begin.new.self) (left c.loop-number.reader) (left c.replay_up_to.new.reader)
-          so_far (read.replaying settings (left c.begin.new.self) so_far.now) kept.within c.point_after.ensures.line (c.point_after.ensures.point settings) in
+          let G : List Point → Replayed → Type 0 = λ all now. Gathers settings all c.replay_up_to.new.lines now (reads c.begin.new.self) (reads c.replay_up_to.new.reader) in
+          let more = gathers_more settings points point c.loop-number.lines c.replay_up_to.new.lines c.loop-number.replay replay touches (reads c.begin.new.self) (reads c.loop-number.reader) (reads c.replay_up_to.new.reader)
+          so_far (read.replaying settings (reads c.begin.new.self) so_far.now) kept.within c.point_after.ensures.line (c.point_after.ensures.point settings) in
           subst (λ all. G all c.point_after.new.replay) (sym items) (subst (G (points ++ point ∷ [])) (sym c.point_after.ensures.kept) more);
       told = lines_more numbers index points point c.push_reserved.new.self.items kept.told items line c.loop-number-test.true;
       within = within_more c.loop-number.lines.count c.replay_up_to.new.lines.count points point c.push_reserved.new.self.items items kept.within up (omega (arith, line, read.reached));
@@ -72,8 +71,7 @@ loop-number-preserved g c =
 
 pub returns : goal.returns
 returns g c =
-    let left = g.R.Source.left in
-    let trace = g.R.Source.trace in
+    let reads = g.R.Source.shown in
     let kept = c.loop-number.invariant in
     let began = c.in_ok-begin.ensures in
     let numbers = c.args.numbers.now in
@@ -82,14 +80,14 @@ returns g c =
     record {
       done = λ settings stands.
           let so_far = kept.so_far settings stands in
-          let P : Bytes → Type 0 = λ start. HasReadFirst (greatest numbers) start (left c.loop-number.reader) so_far.now.lines in
-          let first = read_first settings c.loop-number.lines c.loop-number.replay (left c.begin.new.self) (left c.loop-number.reader) so_far.now in
+          let P : Bytes → Type 0 = λ start. HasReadFirst (greatest numbers) start (reads c.loop-number.reader).left so_far.now.lines in
+          let first = read_first settings c.loop-number.lines c.loop-number.replay (reads c.begin.new.self) (reads c.loop-number.reader) so_far.now in
           record {
             again = so_far.now.lines;
-            read = subst P began.left (subst (λ n. HasReadFirst n (left c.begin.new.self) (left c.loop-number.reader) so_far.now.lines) (kept.reached ∙ ap greatest all) first);
+            read = subst P began.left (subst (λ n. HasReadFirst n (reads c.begin.new.self).left (reads c.loop-number.reader).left so_far.now.lines) (kept.reached ∙ ap greatest all) first);
             told = kept.told ∙ all;
             exact = so_far.exact;
           };
-      not_failed = (let P : List Call → Type 0 = λ calls. HasNotFailed calls (trace c.loop-number.reader) in subst P began.told kept.not_failed);
+      not_failed = (let P : List Call → Type 0 = λ calls. HasNotFailed calls (reads c.loop-number.reader).calls in subst P began.told kept.not_failed);
       fails = tt;
     }

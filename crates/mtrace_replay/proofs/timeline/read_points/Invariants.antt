@@ -13,18 +13,17 @@ use Rattle.mtrace_replay.proofs.timeline.read_points.Given as goal
 -- the lines up to the last number were read and replayed, and there is a point for each number
 abbrev pub invariant-loop-number : goal.invariant-loop-number
 invariant-loop-number g l =
-    let left = g.R.Source.left in
-    let trace = g.R.Source.trace in
+    let reads = g.R.Source.shown in
     record {
-      so_far : (settings : Settings) → StandsFor l.initial.replay settings [] → Gathers settings l.points.items l.lines l.replay (left l.initial.reader) (left l.reader);
+      so_far : (settings : Settings) → StandsFor l.initial.replay settings [] → Gathers settings l.points.items l.lines l.replay (reads l.initial.reader) (reads l.reader);
       told : lines_of l.points.items ≡ take l.number-index l.numbers;
       within : All (λ (point : Point). point.line ≤ l.lines.count) l.points.items;
       reached : l.lines.count ≡ greatest (take l.number-index l.numbers);
       counted : l.replay.totals.lines ≡ l.lines.count;
       none : l.findings ≡ [];
-      whole : g.R.Source.whole l.reader ≡ g.R.Source.whole l.initial.reader;
-      gave : CallsFor l.lines.stage (trace l.initial.reader) (trace l.reader);
-      not_failed : HasNotFailed (trace l.initial.reader) (trace l.reader);
+      whole : (reads l.reader).whole ≡ (reads l.initial.reader).whole;
+      gave : CallsFor l.lines.stage (reads l.initial.reader).calls (reads l.reader).calls;
+      not_failed : HasNotFailed (reads l.initial.reader).calls (reads l.reader).calls;
       many : vec_len l.points ≡ l.number-index;
       room : length l.numbers ≤ vec_capacity l.points;
     }

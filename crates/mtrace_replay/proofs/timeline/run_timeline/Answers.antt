@@ -11,57 +11,51 @@ not_both is is_not = cc
 
 pub returns-in-Err-BadSettings : goal.returns-in-Err-BadSettings
 returns-in-Err-BadSettings g c =
-    let runs = runs_by_bad_settings Nothing c.args.settings g.R.Source.left g.R.Source.trace g.W.Sink.taken g.W.Sink.trace c.args.reader.now c.args.writer.now (search rules) (search rules) in
-    let again = again_fault c.args.settings (λ lines. TimelineFollows c.args.settings c.args.parts lines g.R.Source.left g.R.Source.whole g.R.Source.trace g.W.Sink.taken g.W.Sink.trace) g.R.Source.left g.R.Source.whole g.R.Source.trace g.W.Sink.taken g.W.Sink.trace _
+    let runs = runs_by_bad_settings Nothing c.args.settings g.R.Source.shown g.W.Sink.shown c.args.reader.now c.args.writer.now (search rules) (search rules) in
+    let again = again_fault c.args.settings (λ lines. TimelineFollows c.args.settings c.args.parts lines g.R.Source.shown g.W.Sink.shown) g.R.Source.shown g.W.Sink.shown _
     c.args.reader.now c.args.reader.now c.args.writer.now c.args.writer.now runs in
     record { bad_parts = λ bad. absurd (not_both bad (sym c.is_bad_parts.ensures ∙ c.if-is_bad_parts.false)); runs = λ good. again }
 
 pub returns-in-Err-OutOfMemory : goal.returns-in-Err-OutOfMemory
 returns-in-Err-OutOfMemory g c =
-    let runs = runs_without_memory Nothing c.args.settings g.R.Source.left g.R.Source.trace g.W.Sink.taken g.W.Sink.trace c.args.reader.now c.args.writer.now (search rules) (search rules) in
-    let again = again_fault c.args.settings (λ lines. TimelineFollows c.args.settings c.args.parts lines g.R.Source.left g.R.Source.whole g.R.Source.trace g.W.Sink.taken g.W.Sink.trace) g.R.Source.left g.R.Source.whole g.R.Source.trace g.W.Sink.taken g.W.Sink.trace _
+    let runs = runs_without_memory Nothing c.args.settings g.R.Source.shown g.W.Sink.shown c.args.reader.now c.args.writer.now (search rules) (search rules) in
+    let again = again_fault c.args.settings (λ lines. TimelineFollows c.args.settings c.args.parts lines g.R.Source.shown g.W.Sink.shown) g.R.Source.shown g.W.Sink.shown _
     c.args.reader.now c.args.reader.now c.args.writer.now c.args.writer.now runs in
     record { bad_parts = λ bad. absurd (not_both bad (sym c.is_bad_parts.ensures ∙ c.if-is_bad_parts.false)); runs = λ good. again }
 
 pub returns-in-Ok-tell_timeline : goal.returns-in-Ok-tell_timeline
 returns-in-Ok-tell_timeline g c =
-    let left = g.R.Source.left in
-    let whole = g.R.Source.whole in
-    let pulls = g.R.Source.trace in
-    let taken = g.W.Sink.taken in
-    let puts = g.W.Sink.trace in
+    let reads = g.R.Source.shown in
+    let writes = g.W.Sink.shown in
     let settings = c.args.settings in
     let ended = c.in-Ok-replay_log.ended in
     let last = c.in-Ok-replay_log.ensures.last refl in
     let follow = c.in-Ok-tell_timeline.ensures last.reports.lines last.stands in
-    let again = again_ended settings (λ lines. TimelineFollows settings c.args.parts lines left whole pulls taken puts) left whole pulls taken puts ended.status (Ok ended.status)
+    let again = again_ended settings (λ lines. TimelineFollows settings c.args.parts lines reads writes) reads writes ended.status (Ok ended.status)
     c.args.reader.now c.replay_log.new.reader c.tell_timeline.new.reader c.args.writer.now c.replay_log.new.writer c.tell_timeline.new.writer c.in-Ok-replay_log.ensures.ran
     (record {
       reports = last.reports;
       answer = refl;
       whole_kept = c.in-Ok-replay_log.ensures.whole;
-      follow = follows_ok _ _ _ left pulls taken puts c.replay_log.new.reader c.tell_timeline.new.reader c.replay_log.new.writer c.tell_timeline.new.writer ended.status follow;
+      follow = follows_ok _ _ _ reads writes c.replay_log.new.reader c.tell_timeline.new.reader c.replay_log.new.writer c.tell_timeline.new.writer ended.status follow;
     }) in
     record { bad_parts = λ bad. absurd (not_both bad (sym c.is_bad_parts.ensures ∙ c.if-is_bad_parts.false)); runs = λ good. again }
 
 pub returns : goal.returns
 returns g c =
-    let left = g.R.Source.left in
-    let whole = g.R.Source.whole in
-    let pulls = g.R.Source.trace in
-    let taken = g.W.Sink.taken in
-    let puts = g.W.Sink.trace in
+    let reads = g.R.Source.shown in
+    let writes = g.W.Sink.shown in
     let settings = c.args.settings in
     let ended = c.in-Ok-replay_log.ended in
     let last = c.in-Ok-replay_log.ensures.last refl in
     let fault = c.in-Err-tell_timeline.fault in
     let follow = c.in-Err-tell_timeline.ensures last.reports.lines last.stands in
-    let again = again_ended settings (λ lines. TimelineFollows settings c.args.parts lines left whole pulls taken puts) left whole pulls taken puts ended.status (Err fault)
+    let again = again_ended settings (λ lines. TimelineFollows settings c.args.parts lines reads writes) reads writes ended.status (Err fault)
     c.args.reader.now c.replay_log.new.reader c.tell_timeline.new.reader c.args.writer.now c.replay_log.new.writer c.tell_timeline.new.writer c.in-Ok-replay_log.ensures.ran
     (record {
       reports = last.reports;
       answer = tt;
       whole_kept = c.in-Ok-replay_log.ensures.whole;
-      follow = follows_err _ _ _ left pulls taken puts c.replay_log.new.reader c.tell_timeline.new.reader c.replay_log.new.writer c.tell_timeline.new.writer fault follow;
+      follow = follows_err _ _ _ reads writes c.replay_log.new.reader c.tell_timeline.new.reader c.replay_log.new.writer c.tell_timeline.new.writer fault follow;
     }) in
     record { bad_parts = λ bad. absurd (not_both bad (sym c.is_bad_parts.ensures ∙ c.if-is_bad_parts.false)); runs = λ good. again }

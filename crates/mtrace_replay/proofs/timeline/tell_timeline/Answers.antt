@@ -9,8 +9,6 @@ use Rattle.mtrace_replay.proofs.timeline.tell_timeline.Goals as goal
 
 pub returns-in_default : goal.returns-in_default
 returns-in_default g c = λ lines stands.
-    let taken = g.W.Sink.taken in
-    let trace = g.W.Sink.trace in
     let totals = c.totals-totals.result in
     let numbers = c.as_slice.result.now in
     let T : List ℕ → Type 0 = λ all. AreTold totals.lines totals.peak_line c.args.parts all in
@@ -20,28 +18,26 @@ returns-in_default g c = λ lines stands.
       faults = inl refl;
       told = λ other. absurd (other refl);
       reader_not_failed = λ other. absurd (other refl);
-      read_fault = λ _. fails_before c.args.settings c.args.parts lines c.args.replay.now totals numbers (g.R.Source.whole c.args.reader.now) (g.R.Source.left c.args.reader.now) (g.R.Source.left c.read_points.new.reader)
-          (g.R.Source.trace c.args.reader.now) (g.R.Source.trace c.read_points.new.reader) c.requires.some stands c.totals-totals.ensures.totals told few
+      read_fault = λ _. fails_before c.args.settings c.args.parts lines c.args.replay.now totals numbers (g.R.Source.shown c.args.reader.now) (g.R.Source.shown c.read_points.new.reader) c.requires.some stands c.totals-totals.ensures.totals told few
           (c.in_default.ensures.fails c.args.settings totals.lines c.restart.ensures.made);
       nothing_put = λ _. refl;
     }
 
 pub returns-in-Ok-flush_behind : goal.returns-in-Ok-flush_behind
 returns-in-Ok-flush_behind g c = λ lines stands.
-    let taken = g.W.Sink.taken in
-    let trace = g.W.Sink.trace in
+    let writes = g.W.Sink.shown in
     let totals = c.totals-totals.result in
     let numbers = c.as_slice.result.now in
     let T : List ℕ → Type 0 = λ all. AreTold totals.lines totals.peak_line c.args.parts all in
     let told : totals.peak_line ≤ totals.lines → T numbers = λ within. subst T (sym c.as_slice.ensures.value) (c.tell_lines.ensures.told within) in
     let points = c.as_slice-2.result.now in
-    let H : List Point → Type 0 = λ all. HasPoints c.args.settings numbers all (g.R.Source.whole c.args.reader.now) (g.R.Source.left c.read_points.new.reader) in
+    let H : List Point → Type 0 = λ all. HasPoints c.args.settings numbers all (g.R.Source.shown c.args.reader.now).whole (g.R.Source.shown c.read_points.new.reader).left in
     let has = subst H (sym c.as_slice-2.ensures.value) (c.in-Ok.ensures.done c.args.settings c.restart.ensures.made) in
-    let tells = tells_timeline c.args.settings c.args.parts lines c.args.replay.now totals numbers points (g.R.Source.whole c.args.reader.now) (g.R.Source.left c.read_points.new.reader)
+    let tells = tells_timeline c.args.settings c.args.parts lines c.args.replay.now totals numbers points (g.R.Source.shown c.args.reader.now).whole (g.R.Source.shown c.read_points.new.reader).left
     c.requires.some stands c.totals-totals.ensures.totals told has in
     record {
       faults = tt;
-      told = λ _. (timeline_text points totals.refused, tells, c.in-Ok-flush_behind.ensures c.args.writer.now (timeline_text points totals.refused) c.put_timeline-put.ensures);
+      told = λ _. (timeline_text points totals.refused, tells, c.in-Ok-flush_behind.ensures (writes c.args.writer.now) (timeline_text points totals.refused) c.put_timeline-put.ensures);
       reader_not_failed = λ _. c.in-Ok.ensures.not_failed;
       read_fault = search rules;
       nothing_put = search rules;
@@ -49,20 +45,19 @@ returns-in-Ok-flush_behind g c = λ lines stands.
 
 pub returns : goal.returns
 returns g c = λ lines stands.
-    let taken = g.W.Sink.taken in
-    let trace = g.W.Sink.trace in
+    let writes = g.W.Sink.shown in
     let totals = c.totals-totals.result in
     let numbers = c.as_slice.result.now in
     let T : List ℕ → Type 0 = λ all. AreTold totals.lines totals.peak_line c.args.parts all in
     let told : totals.peak_line ≤ totals.lines → T numbers = λ within. subst T (sym c.as_slice.ensures.value) (c.tell_lines.ensures.told within) in
     let points = c.as_slice-2.result.now in
-    let H : List Point → Type 0 = λ all. HasPoints c.args.settings numbers all (g.R.Source.whole c.args.reader.now) (g.R.Source.left c.read_points.new.reader) in
+    let H : List Point → Type 0 = λ all. HasPoints c.args.settings numbers all (g.R.Source.shown c.args.reader.now).whole (g.R.Source.shown c.read_points.new.reader).left in
     let has = subst H (sym c.as_slice-2.ensures.value) (c.in-Ok.ensures.done c.args.settings c.restart.ensures.made) in
-    let tells = tells_timeline c.args.settings c.args.parts lines c.args.replay.now totals numbers points (g.R.Source.whole c.args.reader.now) (g.R.Source.left c.read_points.new.reader)
+    let tells = tells_timeline c.args.settings c.args.parts lines c.args.replay.now totals numbers points (g.R.Source.shown c.args.reader.now).whole (g.R.Source.shown c.read_points.new.reader).left
     c.requires.some stands c.totals-totals.ensures.totals told has in
     record {
       faults = inr refl;
-      told = λ _. (timeline_text points totals.refused, tells, c.in-Err.ensures c.args.writer.now (timeline_text points totals.refused) c.put_timeline-put.ensures);
+      told = λ _. (timeline_text points totals.refused, tells, c.in-Err.ensures (writes c.args.writer.now) (timeline_text points totals.refused) c.put_timeline-put.ensures);
       reader_not_failed = λ _. c.in-Ok.ensures.not_failed;
       read_fault = search rules;
       nothing_put = search rules;

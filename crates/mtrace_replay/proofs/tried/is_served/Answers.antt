@@ -7,7 +7,7 @@ pub loop-preserved : goal.loop-preserved
 loop-preserved g c =
     let kept = c.loop.invariant in
     let next = c.in-Ok.ensures.next in
-    let gave = next.gave _ kept.gave in
+    let gave = next.gave (g.R.Source.shown c.args.reader.now) kept.gave in
     record {
       so_far = λ settings stands. (next.replaying settings _ (kept.so_far settings stands)).now;
       counted = next.counted;
@@ -27,25 +27,24 @@ returns-in_default g c =
     record {
       tried = tt;
       not_failed = tt;
-      read = λ settings stands. next.stops settings _ _ c.args.many (kept.so_far settings stands) kept.gave (omega (arith, kept.many, c.loop-test.true)) (omega (arith, c.ranges.many.fits));
+      read = λ settings stands. next.stops settings _ c.args.many (kept.so_far settings stands) kept.gave (omega (arith, kept.many, c.loop-test.true)) (omega (arith, c.ranges.many.fits));
       whole = next.whole ∙ kept.whole;
       records = next.records ∙ kept.records;
     }
 
 pub returns-then-totals-gt0 : goal.returns-then-totals-gt0
 returns-then-totals-gt0 g c =
-    let left = g.R.Source.left in
-    let trace = g.R.Source.trace in
+    let reads = g.R.Source.shown in
     let kept = c.loop.invariant in
     let next = c.in-Ok.ensures.next in
     record {
       tried = λ settings stands.
           let some : 0 < c.totals.result.refused = c.if-totals-gt0.true in
-          tried_refused c.args.many settings c.replay_next.new.lines c.replay_next.new.replay (left c.args.reader.now) (left c.replay_next.new.reader)
+          tried_refused c.args.many settings c.replay_next.new.lines c.replay_next.new.replay (reads c.args.reader.now) (reads c.replay_next.new.reader)
           (next.replaying settings _ (kept.so_far settings stands)).now
           (omega (arith, next.one_more, kept.many, c.loop-test.true))
           (subst (λ n. 0 < n) (ap (λ (totals : Totals). totals.refused) c.totals.ensures.totals) some);
-      not_failed = none_failed (trace c.args.reader.now) (trace c.replay_next.new.reader) (next.gave _ kept.gave).1;
+      not_failed = none_failed (reads c.args.reader.now).calls (reads c.replay_next.new.reader).calls (next.gave (reads c.args.reader.now) kept.gave).1;
       read = tt;
       whole = next.whole ∙ kept.whole;
       records = next.records ∙ kept.records;
@@ -56,9 +55,9 @@ returns g c =
     let kept = c.loop.invariant in
     record {
       tried = λ settings stands.
-          tried_served c.args.many settings c.loop.lines c.loop.replay (g.R.Source.left c.args.reader.now) (g.R.Source.left c.loop.reader) (kept.so_far settings stands)
+          tried_served c.args.many settings c.loop.lines c.loop.replay (g.R.Source.shown c.args.reader.now) (g.R.Source.shown c.loop.reader) (kept.so_far settings stands)
           (omega (arith, kept.many, c.loop-test.false, c.loop.auto.counter-end)) kept.served;
-      not_failed = none_failed (g.R.Source.trace c.args.reader.now) (g.R.Source.trace c.loop.reader) kept.not_failed;
+      not_failed = none_failed (g.R.Source.shown c.args.reader.now).calls (g.R.Source.shown c.loop.reader).calls kept.not_failed;
       read = tt;
       whole = kept.whole;
       records = kept.records;

@@ -9,16 +9,16 @@ use Rattle.mtrace_replay.proofs.tried.is_served.Given as goal
 -- as many lines were replayed as the counter says, and none is refused; the reader gave pieces, and perhaps told its end
 abbrev pub invariant-loop : goal.invariant-loop
 invariant-loop g l =
-    let left = g.R.Source.left in
+    let reads = g.R.Source.shown in
     record {
       so_far : (settings : Settings) → StandsFor l.initial.replay settings []
-          → IsReplaying settings l.lines l.replay (left l.initial.reader) (left l.reader);
+          → IsReplaying settings l.lines l.replay (reads l.initial.reader) (reads l.reader);
       counted : l.replay.totals.lines ≡ l.lines.count;
       many : l.lines.count ≡ l.counter;
       served : l.replay.totals.refused ≡ 0;
       none : l.findings ≡ [];
-      whole : g.R.Source.whole l.reader ≡ g.R.Source.whole l.initial.reader;
-      gave : CallsFor l.lines.stage (g.R.Source.trace l.initial.reader) (g.R.Source.trace l.reader);
-      not_failed : HasNotFailed (g.R.Source.trace l.initial.reader) (g.R.Source.trace l.reader);
+      whole : (reads l.reader).whole ≡ (reads l.initial.reader).whole;
+      gave : CallsFor l.lines.stage (reads l.initial.reader).calls (reads l.reader).calls;
+      not_failed : HasNotFailed (reads l.initial.reader).calls (reads l.reader).calls;
       records : l.replay.content.records ≡ l.initial.replay.content.records;
     }

@@ -6,12 +6,11 @@ use Rattle.mtrace_replay.proofs.walk.put_rows.Goals as goal
 
 pub loop-next-preserved : goal.loop-next-preserved
 loop-next-preserved g c =
-    let taken = g.W.Sink.taken in
-    let trace = g.W.Sink.trace in
-    let P : List ℕ → Type 0 = λ text. PutsAll taken trace text c.loop-next.writer c.put_all.new.writer in
+    let writes = g.W.Sink.shown in
+    let P : List ℕ → Type 0 = λ text. PutsAll text (writes c.loop-next.writer) (writes c.put_all.new.writer) in
     record {
       stands = c.in-Some.ensures.given.next_stands;
-      put = putting_more taken trace c.args.writer.now c.loop-next.writer c.put_all.new.writer (flat_map row_text (g.H.Heaped.rest c.args.heap.now c.args.cursor)) _ _
+      put = putting_more (writes c.args.writer.now) (writes c.loop-next.writer) (writes c.put_all.new.writer) (flat_map row_text (g.H.Heaped.rest c.args.heap.now c.args.cursor)) _ _
           (flat_map row_text (g.H.Heaped.rest c.row.new.self c.in-Some.next.1))
           c.loop-next.invariant.put (ap (flat_map row_text) c.in-Some.ensures.given.some) (subst P (c.as_slice.ensures.value ∙ c.row_text.ensures) c.in_ok-put_all.ensures);
       same = c.in-Some.ensures.unchanged.content ∙ c.loop-next.invariant.same;
@@ -21,11 +20,10 @@ pub returns-in_err-put_all : goal.returns-in_err-put_all
 returns-in_err-put_all g c =
     record {
       puts =
-          let taken = g.W.Sink.taken in
-          let trace = g.W.Sink.trace in
-          let P : List ℕ → Type 0 = λ text. PutsPart taken trace text c.loop-next.writer c.put_all.new.writer in
-          puts_exit taken trace c.from_residual.result _ c.from_residual.ensures.1 _ c.args.writer.now c.put_all.new.writer
-          (putting_fails taken trace c.args.writer.now c.loop-next.writer c.put_all.new.writer (flat_map row_text (g.H.Heaped.rest c.args.heap.now c.args.cursor)) _ _
+          let writes = g.W.Sink.shown in
+          let P : List ℕ → Type 0 = λ text. PutsPart text (writes c.loop-next.writer) (writes c.put_all.new.writer) in
+          puts_exit c.from_residual.result _ c.from_residual.ensures.1 _ (writes c.args.writer.now) (writes c.put_all.new.writer)
+          (putting_fails (writes c.args.writer.now) (writes c.loop-next.writer) (writes c.put_all.new.writer) (flat_map row_text (g.H.Heaped.rest c.args.heap.now c.args.cursor)) _ _
           (flat_map row_text (g.H.Heaped.rest c.row.new.self c.in-Some.next.1))
           c.loop-next.invariant.put (ap (flat_map row_text) c.in-Some.ensures.given.some) (subst P (c.as_slice.ensures.value ∙ c.row_text.ensures) c.in_err-put_all.ensures));
       unchanged = search rules;

@@ -7,7 +7,7 @@ use Rattle.mtrace_replay.proofs.walk.put_rows.Given as goal
 abbrev pub invariant-loop-next : goal.invariant-loop-next
 invariant-loop-next g l = record {
   stands : g.H.Heaped.stands l.heap l.here;
-  put : IsPutting g.W.Sink.taken g.W.Sink.trace (flat_map row_text (g.H.Heaped.rest l.initial.heap l.fn.cursor)) (flat_map row_text (g.H.Heaped.rest l.heap l.here)) l.initial.writer l.writer;
+  put : IsPutting (flat_map row_text (g.H.Heaped.rest l.initial.heap l.fn.cursor)) (flat_map row_text (g.H.Heaped.rest l.heap l.here)) (g.W.Sink.shown l.initial.writer) (g.W.Sink.shown l.writer);
   same : g.H.Heaped.content l.heap ≡ g.H.Heaped.content l.initial.heap;
 }
 

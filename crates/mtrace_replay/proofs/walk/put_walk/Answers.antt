@@ -12,8 +12,7 @@ use Rattle.mtrace_replay.proofs.walk.put_walk.Goals as goal
 
 pub loop-range-preserved : goal.loop-range-preserved
 loop-range-preserved g c =
-    let taken = g.W.Sink.taken in
-    let trace = g.W.Sink.trace in
+    let writes = g.W.Sink.shown in
     let kept = c.loop-range.invariant in
     let pools = (g.H.Heaped.content c.args.heap.now).pools in
     let all = map range_of pools in
@@ -21,10 +20,10 @@ loop-range-preserved g c =
     let index = c.loop-range.range-index in
     let item = get_or items index (0, 0) in
     let f = by_base rows_text pools in
-    let P : Content ℕ → Type 0 = λ content. PutsAll taken trace (rows_text item (rows_at content.pools item.0)) c.loop-range.writer c.put_pool.new.writer in
+    let P : Content ℕ → Type 0 = λ content. PutsAll (rows_text item (rows_at content.pools item.0)) (writes c.loop-range.writer) (writes c.put_pool.new.writer) in
     let next = next_of f items all index (0, 0) (c.as_slice-range-items.ensures.value ∙ c.pools-pools.ensures.value) c.loop-range-test.true in
     record {
-      put = putting_more taken trace c.args.writer.now c.loop-range.writer c.put_pool.new.writer (flat_map f all) (flat_map f (drop index all)) (f item) (flat_map f (drop (index + 1) all))
+      put = putting_more (writes c.args.writer.now) (writes c.loop-range.writer) (writes c.put_pool.new.writer) (flat_map f all) (flat_map f (drop index all)) (f item) (flat_map f (drop (index + 1) all))
           kept.put next (subst P kept.same c.in_ok-put_pool.ensures.puts);
       same = c.in_ok-put_pool.ensures.unchanged ∙ kept.same;
     }
@@ -33,8 +32,7 @@ pub returns-in_err-put_pool : goal.returns-in_err-put_pool
 returns-in_err-put_pool g c =
     record {
       puts =
-          let taken = g.W.Sink.taken in
-          let trace = g.W.Sink.trace in
+          let writes = g.W.Sink.shown in
           let kept = c.loop-range.invariant in
           let content = g.H.Heaped.content c.args.heap.now in
           let all = map range_of content.pools in
@@ -42,11 +40,11 @@ returns-in_err-put_pool g c =
           let index = c.loop-range.range-index in
           let item = get_or items index (0, 0) in
           let f = by_base rows_text content.pools in
-          let P : Content ℕ → Type 0 = λ content. PutsPart taken trace (rows_text item (rows_at content.pools item.0)) c.loop-range.writer c.put_pool.new.writer in
-          let Q : List ℕ → Type 0 = λ text. PutsPart taken trace text c.args.writer.now c.put_pool.new.writer in
+          let P : Content ℕ → Type 0 = λ content. PutsPart (rows_text item (rows_at content.pools item.0)) (writes c.loop-range.writer) (writes c.put_pool.new.writer) in
+          let Q : List ℕ → Type 0 = λ text. PutsPart text (writes c.args.writer.now) (writes c.put_pool.new.writer) in
           let next = next_of f items all index (0, 0) (c.as_slice-range-items.ensures.value ∙ c.pools-pools.ensures.value) c.loop-range-test.true in
-          puts_exit taken trace c.from_residual.result _ c.from_residual.ensures.1 _ c.args.writer.now c.put_pool.new.writer (subst Q (walk_is content c.keeps_good.ensures.good)
-          (putting_fails taken trace c.args.writer.now c.loop-range.writer c.put_pool.new.writer (flat_map f all) (flat_map f (drop index all)) (f item) (flat_map f (drop (index + 1) all))
+          puts_exit c.from_residual.result _ c.from_residual.ensures.1 _ (writes c.args.writer.now) (writes c.put_pool.new.writer) (subst Q (walk_is content c.keeps_good.ensures.good)
+          (putting_fails (writes c.args.writer.now) (writes c.loop-range.writer) (writes c.put_pool.new.writer) (flat_map f all) (flat_map f (drop index all)) (f item) (flat_map f (drop (index + 1) all))
           kept.put next (subst P kept.same c.in_err-put_pool.ensures.puts)));
       unchanged = search rules;
     }
@@ -55,16 +53,15 @@ pub returns : goal.returns
 returns g c =
     record {
       puts =
-          let taken = g.W.Sink.taken in
-          let trace = g.W.Sink.trace in
+          let writes = g.W.Sink.shown in
           let content = g.H.Heaped.content c.args.heap.now in
           let all = map range_of content.pools in
           let index = c.loop-range.range-index in
           let f = by_base rows_text content.pools in
           let many = ap (λ (ones : List (ℕ × ℕ)). length ones) (c.as_slice-range-items.ensures.value ∙ c.pools-pools.ensures.value) in
           let past : length all ≤ index = omega (arith, many, c.loop-range-test.false) in
-          let Q : List ℕ → Type 0 = λ text. PutsAll taken trace text c.args.writer.now c.loop-range.writer in
+          let Q : List ℕ → Type 0 = λ text. PutsAll text (writes c.args.writer.now) (writes c.loop-range.writer) in
           subst Q (walk_is content c.keeps_good.ensures.good)
-          (putting_ends taken trace c.args.writer.now c.loop-range.writer (flat_map f all) (flat_map f (drop index all)) c.loop-range.invariant.put (ap (flat_map f) (drop_all index all past)));
+          (putting_ends (writes c.args.writer.now) (writes c.loop-range.writer) (flat_map f all) (flat_map f (drop index all)) c.loop-range.invariant.put (ap (flat_map f) (drop_all index all past)));
       unchanged = search rules;
     }

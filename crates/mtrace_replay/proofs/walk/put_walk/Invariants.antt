@@ -10,7 +10,7 @@ abbrev pub invariant-loop-range : goal.invariant-loop-range
 invariant-loop-range g l =
     let pools = (g.H.Heaped.content l.fn.heap).pools in
     record {
-      put : IsPutting g.W.Sink.taken g.W.Sink.trace (flat_map (by_base rows_text pools) (map range_of pools))
-          (flat_map (by_base rows_text pools) (drop l.range-index (map range_of pools))) l.initial.writer l.writer;
+      put : IsPutting (flat_map (by_base rows_text pools) (map range_of pools))
+          (flat_map (by_base rows_text pools) (drop l.range-index (map range_of pools))) (g.W.Sink.shown l.initial.writer) (g.W.Sink.shown l.writer);
       same : g.H.Heaped.content l.heap ≡ g.H.Heaped.content l.fn.heap;
     }

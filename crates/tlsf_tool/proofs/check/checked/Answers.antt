@@ -19,9 +19,9 @@ returns-in_err-bytes g c = record {
 
 pub returns-in-Ok-put_text : goal.returns-in-Ok-put_text
 returns-in-Ok-put_text g c =
-    let taken = g.W.Sink.taken in
+    let writes = g.W.Sink.shown in
     let rule = c.in-Ok.ensures ∙ ap first_broken c.as_slice.ensures.value in
-    let P : List ℕ → Type 0 = λ text. Wrote (taken c.args.writer.now) (taken c.put_text.new.writer) text in
+    let P : List ℕ → Type 0 = λ text. Wrote (writes c.args.writer.now).taken (writes c.put_text.new.writer).taken text in
     record {
       checks = record {
         bytes = c.in_ok-bytes.bytes.items;
@@ -40,9 +40,9 @@ returns-in-Ok-put_text g c =
 
 pub returns : goal.returns
 returns g c =
-    let taken = g.W.Sink.taken in
+    let writes = g.W.Sink.shown in
     let rule = c.in-Ok.ensures ∙ ap first_broken c.as_slice.ensures.value in
-    let P : List ℕ → Type 0 = λ text. Begins (taken c.args.writer.now) (taken c.put_text.new.writer) text in
+    let P : List ℕ → Type 0 = λ text. Begins (writes c.args.writer.now).taken (writes c.put_text.new.writer).taken text in
     record {
       checks = tt;
       flushed = tt;

@@ -6,8 +6,8 @@ use Rattle.tlsf_tool.proofs.check.read_image.Given as goal
 -- the bytes so far came first of those that the reader had
 abbrev pub invariant-loop-piece : goal.invariant-loop-piece
 invariant-loop-piece g l = record {
-  read : g.R.Source.left l.fn.reader ≡ prepend_known l.bytes.items (g.R.Source.left l.reader);
-  given : HasGiven (g.R.Source.trace l.fn.reader) (g.R.Source.trace l.reader);
+  read : (g.R.Source.shown l.fn.reader).left ≡ prepend_known l.bytes.items (g.R.Source.shown l.reader).left;
+  given : HasGiven (g.R.Source.shown l.fn.reader).calls (g.R.Source.shown l.reader).calls;
   few : length l.bytes.items ≤ 1050081;
 }
 

@@ -7,7 +7,7 @@ use Rattle.mtrace_log.proofs.lines.Lines.read_filled.Goals as goal
 
 pub returns-in-Ok : goal.returns-in-Ok
 returns-in-Ok g c =
-    passes_filled g.R.Source.left g.R.Source.whole g.R.Source.trace c.args.self.now _ c.read_held.new.self c.args.reader.now c.refill.new.reader c.read_held.new.reader c.requires.reading (ap (λ lines. lines.count) (sym c.self.view_is))
-    (to_come-nothing_held c.args.self.now (g.R.Source.left c.args.reader.now) c.requires.none ∙ c.in-Ok.ensures.bytes)
-    (gave_more c.in-Ok.field-0 _ _ _ (omega (arith, c.in-Ok.field-0-test)) (moved_none Gave (g.R.Source.trace c.args.reader.now)) c.in-Ok.ensures.told)
+    passes_filled c.args.self.now _ c.read_held.new.self (g.R.Source.shown c.args.reader.now) (g.R.Source.shown c.refill.new.reader) (g.R.Source.shown c.read_held.new.reader) c.requires.reading (ap (λ lines. lines.count) (sym c.self.view_is))
+    (to_come-nothing_held c.args.self.now (g.R.Source.shown c.args.reader.now).left c.requires.none ∙ c.in-Ok.ensures.bytes)
+    (gave_more c.in-Ok.field-0 _ _ _ (omega (arith, c.in-Ok.field-0-test)) (moved_none Gave (g.R.Source.shown c.args.reader.now).calls) c.in-Ok.ensures.told)
     c.read_held.result c.refill.ensures.whole c.read_held.ensures

@@ -7,12 +7,12 @@ use Rattle.mtrace_log.proofs.lines.Lines.read_held.Goals as goal
 
 pub returns-then-self : goal.returns-then-self
 returns-then-self g c =
-    let left = g.R.Source.left c.args.reader.now in
+    let left = (g.R.Source.shown c.args.reader.now).left in
     let some : 0 < length c.self.inside.buffer.unread = omega (arith, c.requires.some, ap (λ lines. length lines.held) c.self.view_is) in record {
       nothing_held = λ is. absurd (cc);
       whole = refl;
       reads = (
         (refl, ap (λ lines. lines.count) c.self.view_is, (ap (λ lines. lines.count) (sym c.self.view_is) ∙ c.if-self.true, ap (λ lines. to_come lines left) (sym c.self.view_is), has_more c.self.inside.buffer.unread left some)),
-        moved_none Gave (g.R.Source.trace c.args.reader.now),
+        moved_none Gave (g.R.Source.shown c.args.reader.now).calls,
       );
     }

@@ -15,8 +15,7 @@ use Rattle.tlsf_heap.proofs.image.writing.put_image.Goals.{then-is_full+in_ok-pu
 pub loop-number-preserved : goal.loop-number-preserved
 loop-number-preserved g c =
     let parts : Parts = g.T.HasParts.parts c.args.table.now in
-    let taken = g.W.Sink.taken in
-    let trace = g.W.Sink.trace in
+    let shown = g.W.Sink.shown in
     let number : ℕ = c.loop-number.number in
     let items : List ℕ = c.loop-number.piece.items in
     let counted : c.count-number-end.result ≡ length parts.records =
@@ -27,12 +26,12 @@ loop-number-preserved g c =
     let read : c.record.result ≡ record_at parts.records number = c.record.ensures.value ∙ ap (λ (p : Parts). record_at p.records number) c.loop-number.invariant.read.same in
     let whole : c.push_record.new.piece.items ++ later ≡ rest =
     pushed record_bytes parts.records blank number items c.push_record.new.piece.items rest c.record.result within read c.push_record.ensures.appended.bytes refl in
-    let I : List ℕ → g.row.W.Denot → Type 0 = λ text writer. IsPutting taken trace (image_of parts) text c.args.writer.now writer in
+    let I : List ℕ → g.row.W.Denot → Type 0 = λ text writer. IsPutting (image_of parts) text (shown c.args.writer.now) (shown writer) in
     elim c.if-is_full.branch [
       | then-is_full+in_ok-put_all w ↦
-          let P : List ℕ → Type 0 = λ text. PutsAll taken trace text c.loop-number.writer w.put_all.new.writer in
+          let P : List ℕ → Type 0 = λ text. PutsAll text (shown c.loop-number.writer) (shown w.put_all.new.writer) in
           let put = subst P w.deref.ensures.0 w.in_ok-put_all.ensures in
-          let more = putting_more taken trace c.args.writer.now c.loop-number.writer w.put_all.new.writer (image_of parts) rest c.push_record.new.piece.items later c.loop-number.invariant.put (sym whole) put in
+          let more = putting_more (shown c.args.writer.now) (shown c.loop-number.writer) (shown w.put_all.new.writer) (image_of parts) rest c.push_record.new.piece.items later c.loop-number.invariant.put (sym whole) put in
           rw (w.writer-is, w.piece-is) (record {
             read = and_reads c.loop-number.invariant.read c.record.ensures.read;
             room = omega (arith, ap length w.clear.ensures);
@@ -51,8 +50,7 @@ loop-number-preserved g c =
 pub returns-in_err-put_all-clause-put : goal.returns-in_err-put_all-clause-put
 returns-in_err-put_all-clause-put g c =
     let parts : Parts = g.T.HasParts.parts c.args.table.now in
-    let taken = g.W.Sink.taken in
-    let trace = g.W.Sink.trace in
+    let shown = g.W.Sink.shown in
     let number : ℕ = c.loop-number.number in
     let items : List ℕ = c.loop-number.piece.items in
     let counted : c.count-number-end.result ≡ length parts.records =
@@ -63,20 +61,19 @@ returns-in_err-put_all-clause-put g c =
     let read : c.record.result ≡ record_at parts.records number = c.record.ensures.value ∙ ap (λ (p : Parts). record_at p.records number) c.loop-number.invariant.read.same in
     let whole : c.push_record.new.piece.items ++ later ≡ rest =
     pushed record_bytes parts.records blank number items c.push_record.new.piece.items rest c.record.result within read c.push_record.ensures.appended.bytes refl in
-    let P : List ℕ → Type 0 = λ text. PutsPart taken trace text c.loop-number.writer c.put_all.new.writer in
-    puts_exit taken trace c.from_residual.result _ c.from_residual.ensures.1 (image_of parts) c.args.writer.now c.put_all.new.writer
-    (putting_fails taken trace c.args.writer.now c.loop-number.writer c.put_all.new.writer (image_of parts) rest c.push_record.new.piece.items later c.loop-number.invariant.put (sym whole) (subst P c.deref.ensures.0 c.in_err-put_all.ensures))
+    let P : List ℕ → Type 0 = λ text. PutsPart text (shown c.loop-number.writer) (shown c.put_all.new.writer) in
+    puts_exit c.from_residual.result _ c.from_residual.ensures.1 (image_of parts) (shown c.args.writer.now) (shown c.put_all.new.writer)
+    (putting_fails (shown c.args.writer.now) (shown c.loop-number.writer) (shown c.put_all.new.writer) (image_of parts) rest c.push_record.new.piece.items later c.loop-number.invariant.put (sym whole) (subst P c.deref.ensures.0 c.in_err-put_all.ensures))
 
 pub returns-clause-put : goal.returns-clause-put
 returns-clause-put g c =
     let parts : Parts = g.T.HasParts.parts c.args.table.now in
-    let taken = g.W.Sink.taken in
-    let trace = g.W.Sink.trace in
+    let shown = g.W.Sink.shown in
     let number : ℕ = c.loop-number.number in
     let items : List ℕ = c.loop-number.piece.items in
     let counted : c.count-number-end.result ≡ length parts.records =
     c.count-number-end.ensures.value ∙ ap (λ (p : Parts). length p.records) (c.push_heads.ensures.read.same ∙ c.push_entries.ensures.read.same ∙ c.push_header.ensures.read.same) in
     let rest : List ℕ = items ++ flat_map record_bytes (drop number parts.records) in
     let none : items ≡ rest = appended_all record_bytes parts.records number items rest (omega (arith, c.loop-number-test.false, counted)) refl in
-    let P : List ℕ → Type 0 = λ text. Puts taken trace c.put_all-2.result text c.loop-number.writer c.put_all-2.new.writer in
-    putting_last taken trace c.put_all-2.result c.args.writer.now c.loop-number.writer c.put_all-2.new.writer (image_of parts) rest c.loop-number.invariant.put (subst P (c.deref-2.ensures.0 ∙ none) c.put_all-2.ensures)
+    let P : List ℕ → Type 0 = λ text. Puts c.put_all-2.result text (shown c.loop-number.writer) (shown c.put_all-2.new.writer) in
+    putting_last c.put_all-2.result (shown c.args.writer.now) (shown c.loop-number.writer) (shown c.put_all-2.new.writer) (image_of parts) rest c.loop-number.invariant.put (subst P (c.deref-2.ensures.0 ∙ none) c.put_all-2.ensures)

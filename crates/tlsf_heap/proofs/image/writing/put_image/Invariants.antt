@@ -14,5 +14,5 @@ invariant-loop-number g l =
       read : OnlyReads g.T.HasParts.parts g.T.HasParts.cells g.T.HasParts.touches l.fn.table l.table;
       room : array_vec_len l.piece < 4096;
       whole : array_vec_len l.piece % 16 ≡ 0;
-      put : IsPutting g.W.Sink.taken g.W.Sink.trace (image_of parts) (l.piece.items ++ flat_map record_bytes (drop l.number parts.records)) l.fn.writer l.writer;
+      put : IsPutting (image_of parts) (l.piece.items ++ flat_map record_bytes (drop l.number parts.records)) (g.W.Sink.shown l.fn.writer) (g.W.Sink.shown l.writer);
     }
