@@ -26,7 +26,6 @@ mod PlanLemmas
 mod Points
 mod RowLemmas
 mod RunLemmas
-mod RunOutcomes
 mod RunsAgain
 pub mod SaveLemmas
 mod SearchLemmas

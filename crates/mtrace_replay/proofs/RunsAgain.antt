@@ -1,14 +1,15 @@
 -- A run that reads its log again.
 use Rattle.std.proofs.Common.{◌≡◌, ℕ, List, refl, subst}
-use Rattle.std.specs.Prelude.{Result, Ok, Err}
+use Rattle.std.specs.Prelude.{◌↔◌, Result, Ok, Err, IsErrOf, IsTrue}
 use Rattle.mtrace_log.specs.Shown.{Bytes, ReaderState, WriterState}
 use Rattle.mtrace_replay.specs.declared.report.Report.TheVariants.{Nothing}
 use Rattle.mtrace_replay.specs.declared.settings.Settings.{Settings}
 use Rattle.mtrace_replay.specs.declared.status.Status.{Status}
 use Rattle.mtrace_replay.specs.declared.status.RunFault.{RunFault}
-use Rattle.mtrace_replay.specs.declared.status.RunFault.TheVariants.{Read}
+use Rattle.mtrace_replay.specs.declared.status.RunFault.TheVariants.{Read, BadSettings}
+use Rattle.mtrace_replay.specs.Settings.{are_bad}
 use Rattle.mtrace_replay.specs.Moment.{ReadLine}
-use Rattle.mtrace_replay.specs.Run.{Runs}
+use Rattle.mtrace_replay.specs.Run.{Runs, RunEnds}
 use Rattle.mtrace_replay.specs.Again.{Follows, EndsAgain, RunsAgain}
 use Rattle.mtrace_replay.proofs.RunLemmas.{same_error}
 
@@ -50,6 +51,11 @@ module _ {R W : Type 0} (settings : Settings) (After : List ReadLine → Result 
     run_fault = λ other is. (is, refl, refl);
     finished = λ status is. absurd (cc);
   }
+
+  -- nothing was done
+  pub again_undone : (fault : RunFault) (reader : R) (writer : W) → RunEnds Nothing settings reads writes (Err fault) reader reader writer writer
+      → IsErrOf {T = Status} (Err fault) BadSettings ↔ IsTrue (are_bad settings) → RunsAgain settings After reads writes (Err fault) reader reader writer writer
+  again_undone fault reader writer ends bad = again_fault fault reader reader writer writer (record { ends = ends; bad_settings = bad; whole = refl })
 
   -- it reached the end of the log, and then the log was read again
   pub again_ended : (status : Status) (result : Result Status RunFault) (reader_old reader_middle reader_new : R) (writer_old writer_middle writer_new : W)

@@ -73,7 +73,6 @@ pub record EndsAgain {R W : Type 0} (settings : Settings) (Follows : List ReadLi
     (reads : R → ReaderState) (writes : W → WriterState) (result : Result Status RunFault) (reader_old reader_middle reader_new : R) (writer_old writer_middle writer_new : W) : Type 0 where
   pub reports : Reports Nothing settings status (reads reader_old) (reads reader_middle) (writes writer_old) (writes writer_middle)
   pub answer : IfOk result (λ answered. answered ≡ status)
-  pub whole_kept : (reads reader_middle).whole ≡ (reads reader_old).whole
   pub follow : Follows reports.lines result reader_middle reader_new writer_middle writer_new
 
 -- What a run leaves that reads its log again: first a run without a report, in the middle. Where that fails, this is the answer,

@@ -105,27 +105,45 @@ pub record StopsAtWrite (report : Report) (settings : Settings) (reader_old read
   pub unused : List ℕ
   pub begun : BeginsText report settings reader_old (with_unused unused reader_new) writer_old writer_new lines
 
--- What a run leaves, by what it answers. Where it answers a status, all of the log was read, what was written is its
--- whole text, and the status is that text's. Bad settings come exactly where they are bad, and then nothing is done.
+-- all of the log was read, and the whole text was written and flushed
+pub record RunsToEnd (report : Report) (settings : Settings) (status : Status) (reader_old reader_new : ReaderState) (writer_old writer_new : WriterState) : Type 0 where
+  pub finished : Reports report settings status reader_old reader_new writer_old writer_new
+  pub reader_ended : HasGivenAll reader_old.calls reader_new.calls
+  pub writer_flushed : HasTakenAndFlushed writer_old.calls writer_new.calls
+
+-- the reading stopped, and then the writer was asked to flush
+pub record RunsToRead (settings : Settings) (reader_old reader_new : ReaderState) (writer_old writer_new : WriterState) : Type 0 where
+  pub read_fault : StopsAtRead settings reader_old reader_new writer_old writer_new
+  pub flush_asked : FlushWasAsked writer_old.calls writer_new.calls
+
+-- the writer failed, and the reader did not
+pub record RunsToWrite (report : Report) (settings : Settings) (reader_old reader_new : ReaderState) (writer_old writer_new : WriterState) : Type 0 where
+  pub write_fault : StopsAtWrite report settings reader_old reader_new writer_old writer_new
+  pub writer_failed : HasFailedToWrite writer_old.calls writer_new.calls
+  pub reader_not_failed : HasNotFailed reader_old.calls reader_new.calls
+
+-- nothing was asked of the reader, nor of the writer
+abbrev pub NothingDone : {R W : Type 0} → (reader_old reader_new : R) (writer_old writer_new : W) → Type 0
+NothingDone reader_old reader_new writer_old writer_new = (reader_new ≡ reader_old) × (writer_new ≡ writer_old)
+
+-- how a run ended, by what it answers, which is never `Image`
+abbrev pub RunEnds : {R W : Type 0} → Report → Settings → (reads : R → ReaderState) (writes : W → WriterState) → Result Status RunFault
+    → (reader_old reader_new : R) (writer_old writer_new : W) → Type 0
+RunEnds report settings reads writes (Ok status) reader_old reader_new writer_old writer_new =
+    RunsToEnd report settings status (reads reader_old) (reads reader_new) (writes writer_old) (writes writer_new)
+RunEnds report settings reads writes (Err Read) reader_old reader_new writer_old writer_new =
+    RunsToRead settings (reads reader_old) (reads reader_new) (writes writer_old) (writes writer_new)
+RunEnds report settings reads writes (Err Write) reader_old reader_new writer_old writer_new =
+    RunsToWrite report settings (reads reader_old) (reads reader_new) (writes writer_old) (writes writer_new)
+RunEnds report settings reads writes (Err OutOfMemory) reader_old reader_new writer_old writer_new = NothingDone reader_old reader_new writer_old writer_new
+RunEnds report settings reads writes (Err BadSettings) reader_old reader_new writer_old writer_new = NothingDone reader_old reader_new writer_old writer_new
+RunEnds report settings reads writes (Err Image) reader_old reader_new writer_old writer_new = ⊥
+
+-- What a run leaves. The answer is bad settings exactly where they are bad, and the reader has the same bytes in whole.
 pub record Runs {R W : Type 0} (report : Report) (settings : Settings) (reads : R → ReaderState) (writes : W → WriterState)
     (result : Result Status RunFault) (reader_old reader_new : R) (writer_old writer_new : W) : Type 0 where
-  pub finished : IfOk result (λ status. Reports report settings status (reads reader_old) (reads reader_new) (writes writer_old) (writes writer_new))
-  pub reader_ended : OnOk result (HasGivenAll (reads reader_old).calls (reads reader_new).calls)
-  pub writer_flushed : OnOk result (HasTakenAndFlushed (writes writer_old).calls (writes writer_new).calls)
-  pub read_fault : IsErrOf result Read → StopsAtRead settings (reads reader_old) (reads reader_new) (writes writer_old) (writes writer_new)
-  pub flush_asked : IsErrOf result Read → FlushWasAsked (writes writer_old).calls (writes writer_new).calls
-  pub write_fault : IsErrOf result Write → StopsAtWrite report settings (reads reader_old) (reads reader_new) (writes writer_old) (writes writer_new)
-  pub writer_failed : IsErrOf result Write → HasFailedToWrite (writes writer_old).calls (writes writer_new).calls
-  pub no_memory : IsErrOf result OutOfMemory → (reader_new ≡ reader_old) × (writer_new ≡ writer_old)
-  pub reader_not_failed : result ≢ Err Read → HasNotFailed (reads reader_old).calls (reads reader_new).calls
+  pub ends : RunEnds report settings reads writes result reader_old reader_new writer_old writer_new
   pub bad_settings : IsErrOf result BadSettings ↔ IsTrue (are_bad settings)
-  pub nothing_done : IsErrOf result BadSettings → (reader_new ≡ reader_old) × (writer_new ≡ writer_old)
-  pub no_image_fault : result ≢ Err Image
-
--- a run as `Runs` tells it, after which the reader has the same bytes in whole
-pub record RunsOnce {R W : Type 0} (report : Report) (settings : Settings) (reads : R → ReaderState) (writes : W → WriterState)
-    (result : Result Status RunFault) (reader_old reader_new : R) (writer_old writer_new : W) : Type 0 where
-  pub runs : Runs report settings reads writes result reader_old reader_new writer_old writer_new
   pub whole : (reads reader_new).whole ≡ (reads reader_old).whole
 
 -- what a replay writes at the end: the diagnostic of the last line, and the report

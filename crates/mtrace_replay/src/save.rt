@@ -1,6 +1,5 @@
 //! The run that saves the heap of a log.
 
-ghost use Rattle.std.specs.Prelude.{◌≡◌};
 ghost use Rattle.mtrace_replay.specs.Saving.{SavesLast, RunsAndSaves};
 
 use crate::replay::Replay;
@@ -39,8 +38,7 @@ pub fn run_save<R: Source, W: Sink, I: Sink>(
     image: &mut I,
     settings: Settings,
 ) -> Result<Status, RunFault>
-    ensures saves { RunsAndSaves settings R.shown W.shown I.shown result reader.old reader.new writer.old writer.new image.old image.new }
-    ensures whole { (R.shown reader.new).whole ≡ (R.shown reader.old).whole }
+    ensures { RunsAndSaves settings R.shown W.shown I.shown result reader.old reader.new writer.old writer.new image.old image.new }
 {
     let FinishedRun { status, mut replay } = match replay_log(
         alloc,

@@ -37,7 +37,6 @@ returns-in-Ok-tell_fit g c =
           (record {
             reports = last.reports;
             answer = refl;
-            whole_kept = c.in-Ok.ensures.whole;
             follow = follows_ok _ _ _ reads writes c.replay_log.new.reader c.tell_fit.new.reader c.replay_log.new.writer c.tell_fit.new.writer ended.status follow;
           });
     }
@@ -61,7 +60,6 @@ returns g c =
           (record {
             reports = last.reports;
             answer = tt;
-            whole_kept = c.in-Ok.ensures.whole;
             follow = follows_err _ _ _ reads writes c.replay_log.new.reader c.tell_fit.new.reader c.replay_log.new.writer c.tell_fit.new.writer fault follow;
           });
     }

@@ -5,7 +5,6 @@ use Rattle.mtrace_replay.specs.Run.{end_text}
 use Rattle.mtrace_log.specs.declared.call.Call.TheVariants.{Took, Flushed}
 use Rattle.mtrace_log.proofs.TraceLemmas.{moved_then_append, flush_after, failed_after}
 use Rattle.mtrace_replay.proofs.RunLemmas.{report_all, ends_at, report_write}
-use Rattle.mtrace_replay.proofs.RunOutcomes.{runs_to_status, runs_to_read, runs_to_write}
 use Rattle.mtrace_replay.proofs.run.replay_log.Goals as goal
 
 -- the log has ended, and all was written
@@ -15,10 +14,13 @@ returns-in-Ok-finish-clause-ran g c =
     let writes = g.W.Sink.shown in
     let done = c.in-Ok-replay_lines.ensures.done c.args.settings c.in-Ok.ensures.made in
     let took = c.in-Ok-replay_lines.ensures.writer_took (λ e. cc) in
-    runs_to_status c.args.report c.args.settings reads writes c.in-Ok-finish.status c.args.reader.now c.replay_lines.new.reader c.args.writer.now c.finish.new.writer
-    (report_all c.args.report c.args.settings c.replay_lines.new.replay c.in-Ok-replay_lines.has_diagnostics c.in-Ok-finish.status (reads c.args.reader.now) (reads c.replay_lines.new.reader)
-    (writes c.args.writer.now) (writes c.replay_lines.new.writer) (writes c.finish.new.writer) done c.in-Ok-finish.ensures.all c.in-Ok-finish.ensures.status)
-    (search rules) (moved_then_append Took Flushed _ _ _ took c.in-Ok-finish.ensures.flushed) (search rules) (search rules)
+    let reports = report_all c.args.report c.args.settings c.replay_lines.new.replay c.in-Ok-replay_lines.has_diagnostics c.in-Ok-finish.status (reads c.args.reader.now) (reads c.replay_lines.new.reader)
+    (writes c.args.writer.now) (writes c.replay_lines.new.writer) (writes c.finish.new.writer) done c.in-Ok-finish.ensures.all c.in-Ok-finish.ensures.status in
+    record {
+      ends = record { finished = reports; reader_ended = search rules; writer_flushed = moved_then_append Took Flushed _ _ _ took c.in-Ok-finish.ensures.flushed };
+      bad_settings = search rules;
+      whole = search rules;
+    }
 
 pub returns-in-Ok-finish-clause-last : goal.returns-in-Ok-finish-clause-last
 returns-in-Ok-finish-clause-last g c =
@@ -36,19 +38,28 @@ returns-in-Ok-replay_lines-clause-ran g c =
     let writes = g.W.Sink.shown in
     let done = c.in-Ok-replay_lines.ensures.done c.args.settings c.in-Ok.ensures.made in
     let took = c.in-Ok-replay_lines.ensures.writer_took (λ e. cc) in
-    runs_to_write c.args.report c.args.settings reads writes c.args.reader.now c.replay_lines.new.reader c.args.writer.now c.finish.new.writer
-    (report_write c.args.report c.args.settings c.replay_lines.new.replay c.in-Ok-replay_lines.has_diagnostics (reads c.args.reader.now) (reads c.replay_lines.new.reader)
-    (writes c.args.writer.now) (writes c.replay_lines.new.writer) (writes c.finish.new.writer) done c.in-Err.ensures.beginning)
-    (failed_after _ _ _ took c.in-Err.ensures.failed) (search rules) (search rules)
+    let stops = report_write c.args.report c.args.settings c.replay_lines.new.replay c.in-Ok-replay_lines.has_diagnostics (reads c.args.reader.now) (reads c.replay_lines.new.reader)
+    (writes c.args.writer.now) (writes c.replay_lines.new.writer) (writes c.finish.new.writer) done c.in-Err.ensures.beginning in
+    record {
+      ends = record { write_fault = stops; writer_failed = failed_after _ _ _ took c.in-Err.ensures.failed; reader_not_failed = search rules };
+      bad_settings = search rules;
+      whole = search rules;
+    }
 
 -- the reader failed
 pub returns-clause-ran : goal.returns-clause-ran
 returns-clause-ran g c =
-    runs_to_read c.args.report c.args.settings g.R.Source.shown g.W.Sink.shown c.args.reader.now c.replay_lines.new.reader c.args.writer.now c.ask_flush.new.writer
-    (search rules) (flush_after _ _ _ (c.in-Err-Reader.ensures.writer_took (λ is. cc)) c.ask_flush.ensures.asked) (search rules)
+    record {
+      ends = record { read_fault = search rules; flush_asked = flush_after _ _ _ (c.in-Err-Reader.ensures.writer_took (λ is. cc)) c.ask_flush.ensures.asked };
+      bad_settings = search rules;
+      whole = search rules;
+    }
 
 -- the writer failed before the end
 pub returns-in-Err-Writer-clause-ran : goal.returns-in-Err-Writer-clause-ran
 returns-in-Err-Writer-clause-ran g c =
-    runs_to_write c.args.report c.args.settings g.R.Source.shown g.W.Sink.shown c.args.reader.now c.replay_lines.new.reader c.args.writer.now c.replay_lines.new.writer
-    (search rules) (search rules) (search rules) (search rules)
+    record {
+      ends = record { write_fault = search rules; writer_failed = search rules; reader_not_failed = search rules };
+      bad_settings = search rules;
+      whole = search rules;
+    }

@@ -11,8 +11,8 @@ use Rattle.mtrace_replay.proofs.save.run_save.Goals as goal
 same_status : (one other : Status) → (let first : Result Status RunFault = Ok one in first ≡ Ok other) → one ≡ other
 same_status one other same = cc
 
-pub returns-in-Ok-save-clause-saves : goal.returns-in-Ok-save-clause-saves
-returns-in-Ok-save-clause-saves g c =
+pub returns-in-Ok-save : goal.returns-in-Ok-save
+returns-in-Ok-save g c =
     let reads = g.R.Source.shown in
     let writes = g.W.Sink.shown in
     let saves = g.I.Sink.shown in
@@ -29,8 +29,8 @@ returns-in-Ok-save-clause-saves g c =
     } in
     record { run = answer; runs = c.in-Ok.ensures.ran; run_fault = λ fault is. absurd (cc); finished = λ status is. subst E (same_status ended.status status is) ends }
 
-pub returns-clause-saves : goal.returns-clause-saves
-returns-clause-saves g c =
+pub returns : goal.returns
+returns g c =
     let reads = g.R.Source.shown in
     let writes = g.W.Sink.shown in
     let saves = g.I.Sink.shown in

@@ -1,22 +1,16 @@
 use Rattle.std.proofs.Common.{rules, refl}
 use Rattle.std.specs.Prelude.{Ok, Err}
-use Rattle.mtrace_replay.specs.declared.report.Report.TheVariants.{Nothing}
 use Rattle.mtrace_replay.specs.RunSites.{SitesFollow}
-use Rattle.mtrace_replay.proofs.RunsAgain.{follows_ok, follows_err, again_fault, again_ended}
-use Rattle.mtrace_replay.proofs.RunOutcomes.{runs_without_memory, runs_by_bad_settings}
+use Rattle.mtrace_replay.proofs.RunsAgain.{follows_ok, follows_err, again_undone, again_ended}
 use Rattle.mtrace_replay.proofs.sites.run_sites.Goals as goal
 
 pub returns-in-Err-BadSettings : goal.returns-in-Err-BadSettings
 returns-in-Err-BadSettings g c =
-    let runs = runs_by_bad_settings Nothing c.args.settings g.R.Source.shown g.W.Sink.shown c.args.reader.now c.args.writer.now (search rules) (search rules) in
-    again_fault c.args.settings (λ lines. SitesFollow c.args.settings lines g.R.Source.shown g.W.Sink.shown) g.R.Source.shown g.W.Sink.shown _
-    c.args.reader.now c.args.reader.now c.args.writer.now c.args.writer.now runs
+    again_undone c.args.settings (λ lines. SitesFollow c.args.settings lines g.R.Source.shown g.W.Sink.shown) g.R.Source.shown g.W.Sink.shown _ c.args.reader.now c.args.writer.now (refl, refl) (search rules)
 
 pub returns-in-Err-OutOfMemory : goal.returns-in-Err-OutOfMemory
 returns-in-Err-OutOfMemory g c =
-    let runs = runs_without_memory Nothing c.args.settings g.R.Source.shown g.W.Sink.shown c.args.reader.now c.args.writer.now (search rules) (search rules) in
-    again_fault c.args.settings (λ lines. SitesFollow c.args.settings lines g.R.Source.shown g.W.Sink.shown) g.R.Source.shown g.W.Sink.shown _
-    c.args.reader.now c.args.reader.now c.args.writer.now c.args.writer.now runs
+    again_undone c.args.settings (λ lines. SitesFollow c.args.settings lines g.R.Source.shown g.W.Sink.shown) g.R.Source.shown g.W.Sink.shown _ c.args.reader.now c.args.writer.now (refl, refl) (search rules)
 
 pub returns-in-Ok-tell_sites : goal.returns-in-Ok-tell_sites
 returns-in-Ok-tell_sites g c =
@@ -31,7 +25,6 @@ returns-in-Ok-tell_sites g c =
     (record {
       reports = last.reports;
       answer = refl;
-      whole_kept = c.in-Ok-replay_log.ensures.whole;
       follow = follows_ok _ _ _ reads writes c.replay_log.new.reader c.tell_sites.new.reader c.replay_log.new.writer c.tell_sites.new.writer ended.status follow;
     })
 
@@ -49,6 +42,5 @@ returns g c =
     (record {
       reports = last.reports;
       answer = tt;
-      whole_kept = c.in-Ok-replay_log.ensures.whole;
       follow = follows_err _ _ _ reads writes c.replay_log.new.reader c.tell_sites.new.reader c.replay_log.new.writer c.tell_sites.new.writer fault follow;
     })

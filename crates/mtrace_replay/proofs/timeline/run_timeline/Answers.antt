@@ -1,9 +1,7 @@
 use Rattle.std.proofs.Common.{rules, ◌≡◌, Bool, true, false, refl, sym, ◌∙◌}
 use Rattle.std.specs.Prelude.{Ok, Err}
-use Rattle.mtrace_replay.specs.declared.report.Report.TheVariants.{Nothing}
 use Rattle.mtrace_replay.specs.RunTimeline.{TimelineFollows}
-use Rattle.mtrace_replay.proofs.RunsAgain.{follows_ok, follows_err, again_fault, again_ended}
-use Rattle.mtrace_replay.proofs.RunOutcomes.{runs_without_memory, runs_by_bad_settings}
+use Rattle.mtrace_replay.proofs.RunsAgain.{follows_ok, follows_err, again_undone, again_ended}
 use Rattle.mtrace_replay.proofs.timeline.run_timeline.Goals as goal
 
 not_both : {bad : Bool} → bad ≡ true → bad ≡ false → ⊥
@@ -11,16 +9,12 @@ not_both is is_not = cc
 
 pub returns-in-Err-BadSettings : goal.returns-in-Err-BadSettings
 returns-in-Err-BadSettings g c =
-    let runs = runs_by_bad_settings Nothing c.args.settings g.R.Source.shown g.W.Sink.shown c.args.reader.now c.args.writer.now (search rules) (search rules) in
-    let again = again_fault c.args.settings (λ lines. TimelineFollows c.args.settings c.args.parts lines g.R.Source.shown g.W.Sink.shown) g.R.Source.shown g.W.Sink.shown _
-    c.args.reader.now c.args.reader.now c.args.writer.now c.args.writer.now runs in
+    let again = again_undone c.args.settings (λ lines. TimelineFollows c.args.settings c.args.parts lines g.R.Source.shown g.W.Sink.shown) g.R.Source.shown g.W.Sink.shown _ c.args.reader.now c.args.writer.now (refl, refl) (search rules) in
     record { bad_parts = λ bad. absurd (not_both bad (sym c.is_bad_parts.ensures ∙ c.if-is_bad_parts.false)); runs = λ good. again }
 
 pub returns-in-Err-OutOfMemory : goal.returns-in-Err-OutOfMemory
 returns-in-Err-OutOfMemory g c =
-    let runs = runs_without_memory Nothing c.args.settings g.R.Source.shown g.W.Sink.shown c.args.reader.now c.args.writer.now (search rules) (search rules) in
-    let again = again_fault c.args.settings (λ lines. TimelineFollows c.args.settings c.args.parts lines g.R.Source.shown g.W.Sink.shown) g.R.Source.shown g.W.Sink.shown _
-    c.args.reader.now c.args.reader.now c.args.writer.now c.args.writer.now runs in
+    let again = again_undone c.args.settings (λ lines. TimelineFollows c.args.settings c.args.parts lines g.R.Source.shown g.W.Sink.shown) g.R.Source.shown g.W.Sink.shown _ c.args.reader.now c.args.writer.now (refl, refl) (search rules) in
     record { bad_parts = λ bad. absurd (not_both bad (sym c.is_bad_parts.ensures ∙ c.if-is_bad_parts.false)); runs = λ good. again }
 
 pub returns-in-Ok-tell_timeline : goal.returns-in-Ok-tell_timeline
@@ -36,7 +30,6 @@ returns-in-Ok-tell_timeline g c =
     (record {
       reports = last.reports;
       answer = refl;
-      whole_kept = c.in-Ok-replay_log.ensures.whole;
       follow = follows_ok _ _ _ reads writes c.replay_log.new.reader c.tell_timeline.new.reader c.replay_log.new.writer c.tell_timeline.new.writer ended.status follow;
     }) in
     record { bad_parts = λ bad. absurd (not_both bad (sym c.is_bad_parts.ensures ∙ c.if-is_bad_parts.false)); runs = λ good. again }
@@ -55,7 +48,6 @@ returns g c =
     (record {
       reports = last.reports;
       answer = tt;
-      whole_kept = c.in-Ok-replay_log.ensures.whole;
       follow = follows_err _ _ _ reads writes c.replay_log.new.reader c.tell_timeline.new.reader c.replay_log.new.writer c.tell_timeline.new.writer fault follow;
     }) in
     record { bad_parts = λ bad. absurd (not_both bad (sym c.is_bad_parts.ensures ∙ c.if-is_bad_parts.false)); runs = λ good. again }
