@@ -17,14 +17,14 @@ append_known-nil : (old : Option (List ℕ)) → old ≡ append_known old []
 append_known-nil None = refl
 append_known-nil (Some bytes) = ap Some (sym (append-nil bytes))
 
-pub Wrote-nothing : (old : Option (List ℕ)) → Wrote old old []
-Wrote-nothing old = append_known-nil old
+pub Wrote-nothing : (old : WriterState) → Wrote old old []
+Wrote-nothing old = append_known-nil old.taken
 
-pub Wrote-append : (old middle new : Option (List ℕ)) (first second : List ℕ) → Wrote old middle first → Wrote middle new second → Wrote old new (first ++ second)
-Wrote-append old middle new first second w v = v ∙ ap (λ known. append_known known second) w ∙ append_known-append old first second
+pub Wrote-append : (old middle new : WriterState) (first second : List ℕ) → Wrote old middle first → Wrote middle new second → Wrote old new (first ++ second)
+Wrote-append old middle new first second w v = v ∙ ap (λ known. append_known known second) w ∙ append_known-append old.taken first second
 
 -- a text that begins behind one that was written begins as a whole
-pub Begins-after : (old middle new : Option (List ℕ)) (first second : List ℕ) → Wrote old middle first → Begins middle new second → Begins old new (first ++ second)
+pub Begins-after : (old middle new : WriterState) (first second : List ℕ) → Wrote old middle first → Begins middle new second → Begins old new (first ++ second)
 Begins-after old middle new first second w b = record {
   part = first ++ b.part;
   rest = b.rest;
@@ -33,7 +33,7 @@ Begins-after old middle new first second w b = record {
 }
 
 -- a beginning of a text is one of a longer text
-pub Begins-longer : (old new : Option (List ℕ)) (text more : List ℕ) → Begins old new text → Begins old new (text ++ more)
+pub Begins-longer : (old new : WriterState) (text more : List ℕ) → Begins old new text → Begins old new (text ++ more)
 Begins-longer old new text more b = record {
   part = b.part;
   rest = b.rest ++ more;
@@ -42,18 +42,18 @@ Begins-longer old new text more b = record {
 }
 
 -- all of a text is a beginning of it
-pub Begins-all : (old new : Option (List ℕ)) (text : List ℕ) → Wrote old new text → Begins old new text
+pub Begins-all : (old new : WriterState) (text : List ℕ) → Wrote old new text → Begins old new text
 Begins-all old new text w = record { part = text; rest = []; whole = sym (append-nil text); wrote = w }
 
 -- nothing is put
 pub puts_nothing : (writer : WriterState) → PutsAll [] writer writer
-puts_nothing writer = record { wrote = Wrote-nothing writer.taken; took = moved_none Took writer.calls }
+puts_nothing writer = record { wrote = Wrote-nothing writer; took = moved_none Took writer.calls }
 
 -- a text is put, and then another
 pub puts_on : (old middle new : WriterState) (first second : List ℕ)
     → PutsAll first old middle → PutsAll second middle new → PutsAll (first ++ second) old new
 puts_on old middle new first second one other = record {
-  wrote = Wrote-append old.taken middle.taken new.taken first second one.wrote other.wrote;
+  wrote = Wrote-append old middle new first second one.wrote other.wrote;
   took = moved_append Took old.calls middle.calls new.calls one.took other.took;
 }
 
@@ -61,14 +61,14 @@ puts_on old middle new first second one other = record {
 pub fails_on : (old middle new : WriterState) (first second : List ℕ)
     → PutsAll first old middle → PutsPart second middle new → PutsPart (first ++ second) old new
 fails_on old middle new first second one other = record {
-  begun = Begins-after old.taken middle.taken new.taken first second one.wrote other.begun;
+  begun = Begins-after old middle new first second one.wrote other.begun;
   failed = moved_then_append Took Failed old.calls middle.calls new.calls one.took other.failed;
 }
 
 -- a text is begun that goes on
 pub fails_early : (old new : WriterState) (text more : List ℕ)
     → PutsPart text old new → PutsPart (text ++ more) old new
-fails_early old new text more one = record { begun = Begins-longer old.taken new.taken text more one.begun; failed = one.failed }
+fails_early old new text more one = record { begun = Begins-longer old new text more one.begun; failed = one.failed }
 
 -- a text is put, and then a call puts another
 pub puts_then : {T E : Type 0} (result : Result T E) (old middle new : WriterState) (first second : List ℕ)

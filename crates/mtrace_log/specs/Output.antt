@@ -1,15 +1,15 @@
 -- What was written of a text, in words that hold whether or not the writer tells its bytes.
 use Rattle.std.specs.Prelude.{◌≡◌, ℕ, List, ◌++◌, Result, Ok, Err}
 use Rattle.std.specs.Io.KnownBytes.{append_known}
-use Rattle.mtrace_log.specs.Shown.{Bytes, WriterState}
+use Rattle.mtrace_log.specs.Shown.{WriterState}
 use Rattle.mtrace_log.specs.Trace.{HasTaken, HasTakenAndFailed}
 
 -- all of the text was taken, and nothing else
-abbrev pub Wrote : (old new : Bytes) (text : List ℕ) → Type 0
-Wrote old new text = new ≡ append_known old text
+abbrev pub Wrote : (old new : WriterState) (text : List ℕ) → Type 0
+Wrote old new text = new.taken ≡ append_known old.taken text
 
 -- a beginning of the text was taken, and nothing else
-pub record Begins (old new : Bytes) (text : List ℕ) : Type 0 where
+pub record Begins (old new : WriterState) (text : List ℕ) : Type 0 where
   pub part : List ℕ
   pub rest : List ℕ
   pub whole : text ≡ part ++ rest
@@ -17,12 +17,12 @@ pub record Begins (old new : Bytes) (text : List ℕ) : Type 0 where
 
 -- all of the text was put, in pieces
 pub record PutsAll (text : List ℕ) (old new : WriterState) : Type 0 where
-  pub wrote : Wrote old.taken new.taken text
+  pub wrote : Wrote old new text
   pub took : HasTaken old.calls new.calls
 
 -- a beginning of the text was put, in pieces, and then, once and last, the writer failed
 pub record PutsPart (text : List ℕ) (old new : WriterState) : Type 0 where
-  pub begun : Begins old.taken new.taken text
+  pub begun : Begins old new text
   pub failed : HasTakenAndFailed old.calls new.calls
 
 -- what a call leaves that puts a text: all of it is put, or, where it fails, a beginning

@@ -35,7 +35,7 @@ use Rattle.mtrace_log.proofs.Writing.{Wrote-nothing, Wrote-append, Begins-after,
 -- the lines so far were read and replayed, and their diagnostics written
 pub record IsUnderWay (settings : Settings) (progress : Progress) (replay : Replayed) (has_diagnostics : Bool) (reader_start reader_now : ReaderState) (writer_start writer_now : WriterState) : Type 0 where
   pub so_far : IsReplaying settings progress replay reader_start reader_now
-  pub wrote : Wrote writer_start.taken writer_now.taken (text_of_notes settings so_far.lines)
+  pub wrote : Wrote writer_start writer_now (text_of_notes settings so_far.lines)
   pub has_diagnostics_is : has_diagnostics ≡ is_some_diagnostic (notes (history settings so_far.lines))
 
 -- before the first line
@@ -45,7 +45,7 @@ underway_start settings replay reader writer stands =
     let none : history settings [] ≡ [] = moments-none (started settings) in
     record {
       so_far = replaying_start settings replay reader stands;
-      wrote = (let P : List Moment → Type 0 = λ past. Wrote writer.taken writer.taken (diagnostics_text (notes past)) in subst P (sym none) (Wrote-nothing writer.taken));
+      wrote = (let P : List Moment → Type 0 = λ past. Wrote writer writer (diagnostics_text (notes past)) in subst P (sym none) (Wrote-nothing writer));
       has_diagnostics_is = ap (λ past. is_some_diagnostic (notes past)) (sym none);
     }
 
@@ -89,8 +89,8 @@ underway_line settings old new replay_old replay_new had_diagnostics more start 
     let whole = history-more settings lines line.event in
     record {
       so_far = replaying_line settings old new replay_old replay_new start before after line under.so_far given gives.stands;
-      wrote = (let Q : List ℕ → Type 0 = λ text. Wrote writer_start.taken writer_new.taken text in
-          subst Q (sym (diagnostics_text-more settings lines line.event)) (Wrote-append writer_start.taken writer_old.taken writer_new.taken (text_of_notes settings lines) (diagnostics_text added) under.wrote gives.wrote));
+      wrote = (let Q : List ℕ → Type 0 = λ text. Wrote writer_start writer_new text in
+          subst Q (sym (diagnostics_text-more settings lines line.event)) (Wrote-append writer_start writer_old writer_new (text_of_notes settings lines) (diagnostics_text added) under.wrote gives.wrote));
       has_diagnostics_is = ap (λ b. b || more) under.has_diagnostics_is ∙ ap (λ b. is_some_diagnostic (notes (history settings lines)) || b) gives.has_diagnostics_is
           ∙ sym (ap (λ past. is_some_diagnostic (notes past)) whole ∙ some_diagnostic-append (notes (history settings lines)) added);
     }
@@ -133,10 +133,10 @@ underway_write report settings old new replay_old replay_new had_diagnostics sta
     let was = under.so_far.lines in
     let now = replaying_line settings old new replay_old replay_new start before after line under.so_far given begins.stands in
     let lines = now.lines in
-    let Q : List ℕ → Type 0 = λ text. Begins writer_start.taken writer_new.taken text in
-    let begun : Begins writer_start.taken writer_new.taken (text_of_notes settings lines) =
+    let Q : List ℕ → Type 0 = λ text. Begins writer_start writer_new text in
+    let begun : Begins writer_start writer_new (text_of_notes settings lines) =
     subst Q (sym (diagnostics_text-more settings was line.event))
-    (Begins-after writer_start.taken writer_old.taken writer_new.taken (text_of_notes settings was) (diagnostics_text (added_diagnostics settings line.event (reverse was))) under.wrote begins.begun) in
+    (Begins-after writer_start writer_old writer_new (text_of_notes settings was) (diagnostics_text (added_diagnostics settings line.event (reverse was))) under.wrote begins.begun) in
     let last = last_text report settings lines replay_new.given replay_new.totals in
     record {
       lines = lines;
@@ -149,7 +149,7 @@ underway_write report settings old new replay_old replay_new had_diagnostics sta
           held = now.stands.held;
           totals = replay_new.totals;
           summed = now.stands.totals;
-          begun = subst Q (sym (whole_is report settings lines replay_new.given replay_new.totals)) (Begins-longer writer_start.taken writer_new.taken (text_of_notes settings lines) last begun);
+          begun = subst Q (sym (whole_is report settings lines replay_new.given replay_new.totals)) (Begins-longer writer_start writer_new (text_of_notes settings lines) last begun);
         })
       ];
     }
@@ -186,12 +186,12 @@ same_error T U first second is = let same : first ≡ second = cc in ap Err same
 -- the writer failed at the end
 pub report_write : (report : Report) (settings : Settings) (replay : Replayed) (has_diagnostics : Bool) (reader_old reader_new : ReaderState) (writer_old writer_middle writer_new : WriterState)
     → HasReplayed settings replay has_diagnostics reader_old reader_new writer_old writer_middle
-    → Begins writer_middle.taken writer_new.taken (end_text report replay)
+    → Begins writer_middle writer_new (end_text report replay)
     → StopsAtWrite report settings reader_old reader_new writer_old writer_new
 report_write report settings replay has_diagnostics reader_old reader_new writer_old writer_middle writer_new done begins =
     let P : Bytes → Type 0 = λ after. HasReadAll reader_old.left after done.lines in
-    let Q : List ℕ → Type 0 = λ text. Begins writer_old.taken writer_new.taken text in
-    let R : List ℕ → Type 0 = λ text. Begins writer_middle.taken writer_new.taken text in
+    let Q : List ℕ → Type 0 = λ text. Begins writer_old writer_new text in
+    let R : List ℕ → Type 0 = λ text. Begins writer_middle writer_new text in
     let last = last_text report settings done.lines replay.given replay.totals in
     record {
       lines = done.lines;
@@ -203,7 +203,7 @@ report_write report settings replay has_diagnostics reader_old reader_new writer
         totals = replay.totals;
         summed = done.stands.totals;
         begun = subst Q (sym (whole_is report settings done.lines replay.given replay.totals))
-            (Begins-after writer_old.taken writer_middle.taken writer_new.taken (text_of_notes settings done.lines) last done.wrote (subst R (end_is report settings replay done.lines done.stands) begins));
+            (Begins-after writer_old writer_middle writer_new (text_of_notes settings done.lines) last done.wrote (subst R (end_is report settings replay done.lines done.stands) begins));
       });
     }
 
@@ -218,12 +218,12 @@ status-is [] [] [] = refl
 -- all was written
 abbrev pub report_all : (report : Report) (settings : Settings) (replay : Replayed) (has_diagnostics : Bool) (status : Status) (reader_old reader_new : ReaderState) (writer_old writer_middle writer_new : WriterState)
     → HasReplayed settings replay has_diagnostics reader_old reader_new writer_old writer_middle
-    → Wrote writer_middle.taken writer_new.taken (end_text report replay)
+    → Wrote writer_middle writer_new (end_text report replay)
     → status ≡ (if has_diagnostics || (is_some_diagnostic (half replay.totals.lines replay.pending) || is_some_entry (entries replay)) then Found else Clean)
     → Reports report settings status reader_old reader_new writer_old writer_new
 report_all report settings replay has_diagnostics status reader_old reader_new writer_old writer_middle writer_new done wrote is =
-    let Q : List ℕ → Type 0 = λ text. Wrote writer_old.taken writer_new.taken text in
-    let R : List ℕ → Type 0 = λ text. Wrote writer_middle.taken writer_new.taken text in
+    let Q : List ℕ → Type 0 = λ text. Wrote writer_old writer_new text in
+    let R : List ℕ → Type 0 = λ text. Wrote writer_middle writer_new text in
     let last = half (length done.lines) (pending (reverse done.lines)) in
     let told = last_text report settings done.lines replay.given replay.totals in
     record {
@@ -234,7 +234,7 @@ report_all report settings replay has_diagnostics status reader_old reader_new w
       totals = replay.totals;
       summed = done.stands.totals;
       wrote = subst Q (sym (whole_is report settings done.lines replay.given replay.totals))
-          (Wrote-append writer_old.taken writer_middle.taken writer_new.taken (text_of_notes settings done.lines) told done.wrote (subst R (end_is report settings replay done.lines done.stands) wrote));
+          (Wrote-append writer_old writer_middle writer_new (text_of_notes settings done.lines) told done.wrote (subst R (end_is report settings replay done.lines done.stands) wrote));
       status_is = is
           ∙ ap (λ b. if b || (is_some_diagnostic (half replay.totals.lines replay.pending) || is_some_entry (entries replay)) then Found else Clean) done.has_diagnostics_is
           ∙ ap (λ more. if is_some_diagnostic (notes (history settings done.lines)) || (is_some_diagnostic more || is_some_entry (entries replay)) then Found else Clean) (half-is settings replay done.lines done.stands)
@@ -244,7 +244,7 @@ report_all report settings replay has_diagnostics status reader_old reader_new w
 -- all was written of a run that makes no report, and the replay in the end
 pub ends_at : (settings : Settings) (replay end : Replayed) (has_diagnostics : Bool) (status : Status) (reader_old reader_new : ReaderState) (writer_old writer_middle writer_new : WriterState)
     → HasReplayed settings replay has_diagnostics reader_old reader_new writer_old writer_middle
-    → Wrote writer_middle.taken writer_new.taken (end_text Nothing replay)
+    → Wrote writer_middle writer_new (end_text Nothing replay)
     → status ≡ (if has_diagnostics || (is_some_diagnostic (half replay.totals.lines replay.pending) || is_some_entry (entries replay)) then Found else Clean)
     → end ≡ replay → replay.content.records ≡ settings.records
     → EndsAt settings status end reader_old reader_new writer_old writer_new

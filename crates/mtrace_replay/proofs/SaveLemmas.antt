@@ -13,7 +13,7 @@ use Rattle.mtrace_replay.specs.Saving.{PutsAndFlushes}
 
 -- a call that failed put a beginning
 pub put_failed : {T E : Type 0} (result : Result T E) (text : List ℕ) (old new : WriterState)
-    → true ≡ is_err result → Puts result text old new → Begins old.taken new.taken text × HasFailedToWrite old.calls new.calls
+    → true ≡ is_err result → Puts result text old new → Begins old new text × HasFailedToWrite old.calls new.calls
 put_failed (Ok done) text old new is put = absurd (cc)
 put_failed (Err failure) text old new is put = (put.begun, inl put.failed)
 
@@ -22,4 +22,4 @@ pub flushed_then : (result : Result (Unit {0}) Failed) (text : List ℕ) (old mi
     → PutsAll text old middle → new.taken ≡ middle.taken → new.calls ≡ flushed result ∷ middle.calls → PutsAndFlushes result text old new
 flushed_then (Ok done) text old middle new put kept told = (kept ∙ put.wrote, moved_then_last Took Flushed old.calls middle.calls new.calls put.took told)
 flushed_then (Err failure) text old middle new put kept told =
-    (Begins-all old.taken new.taken text (kept ∙ put.wrote), inr (moved_then_last Took FlushFailed old.calls middle.calls new.calls put.took told))
+    (Begins-all old new text (kept ∙ put.wrote), inr (moved_then_last Took FlushFailed old.calls middle.calls new.calls put.took told))

@@ -49,7 +49,7 @@ pub record Reports (report : Report) (settings : Settings) (status : Status) (re
   pub held : AreHeld all (history settings lines)
   pub totals : Totals
   pub summed : AreTotals (started settings) (history settings lines) totals
-  pub wrote : Wrote writer_old.taken writer_new.taken (whole_text report settings lines all totals)
+  pub wrote : Wrote writer_old writer_new (whole_text report settings lines all totals)
   pub status_is : status ≡ clean_or_found (diagnostics settings lines) (entries_of all)
 
 -- a run without a report, and what its heap holds in the end
@@ -77,7 +77,7 @@ pub record BeginsWhole (report : Report) (settings : Settings) (reader_old reade
   pub held : AreHeld all (history settings lines)
   pub totals : Totals
   pub summed : AreTotals (started settings) (history settings lines) totals
-  pub begun : Begins writer_old.taken writer_new.taken (whole_text report settings lines all totals)
+  pub begun : Begins writer_old writer_new (whole_text report settings lines all totals)
 
 -- the reader failed, once and last: whole lines were read, and perhaps a piece of the next one, which is lost
 abbrev pub FailedInPiece : (reader_old reader_new : ReaderState) → List ReadLine → Type 0
@@ -90,12 +90,12 @@ pub record StopsAtRead (settings : Settings) (reader_old reader_new : ReaderStat
   pub lines : List ReadLine
   pub reason : FailedInPiece reader_old reader_new lines
       ⊎ ((unused : List ℕ) × IsPastLastNumber reader_old (with_unused unused reader_new) lines)
-  pub wrote : Wrote writer_old.taken writer_new.taken (text_of_notes settings lines)
+  pub wrote : Wrote writer_old writer_new (text_of_notes settings lines)
 
 -- a beginning of the diagnostics of the lines read, or of the whole text where the log had ended
 abbrev pub BeginsText : Report → Settings → (reader_old reader_new : ReaderState) (writer_old writer_new : WriterState) → List ReadLine → Type 0
 BeginsText report settings reader_old reader_new writer_old writer_new lines =
-    (HasRead reader_old.left reader_new.left lines × Begins writer_old.taken writer_new.taken (text_of_notes settings lines))
+    (HasRead reader_old.left reader_new.left lines × Begins writer_old writer_new (text_of_notes settings lines))
     ⊎ BeginsWhole report settings reader_old reader_new writer_old writer_new lines
 
 -- The writer failed, after a beginning of what was to be written. Unused are the bytes that were asked of
@@ -164,20 +164,20 @@ is_some_entry (first ∷ entries) = true
 -- one line more was replayed, and its diagnostics were written
 pub record LineGives (new : Replayed) (settings : Settings) (line : ReadLine) (past : List ReadLine) (writer_old writer_new : WriterState) (has_diagnostics : Bool) : Type 0 where
   pub stands : StandsFor new settings (line ∷ past)
-  pub wrote : Wrote writer_old.taken writer_new.taken (diagnostics_text (added_diagnostics settings line past))
+  pub wrote : Wrote writer_old writer_new (diagnostics_text (added_diagnostics settings line past))
   pub has_diagnostics_is : has_diagnostics ≡ is_some_diagnostic (added_diagnostics settings line past)
 
 -- one line more was replayed, and its diagnostics were begun
 pub record LineBegins (new : Replayed) (settings : Settings) (line : ReadLine) (past : List ReadLine) (writer_old writer_new : WriterState) : Type 0 where
   pub stands : StandsFor new settings (line ∷ past)
-  pub begun : Begins writer_old.taken writer_new.taken (diagnostics_text (added_diagnostics settings line past))
+  pub begun : Begins writer_old writer_new (diagnostics_text (added_diagnostics settings line past))
 
 -- all lines of the log were read and replayed, and their diagnostics were written
 pub record HasReplayed (settings : Settings) (replay : Replayed) (has_diagnostics : Bool) (reader_old reader_new : ReaderState) (writer_old writer_new : WriterState) : Type 0 where
   pub lines : List ReadLine
   pub read : HasReadAll reader_old.left reader_new.left lines
   pub stands : StandsFor replay settings (reverse lines)
-  pub wrote : Wrote writer_old.taken writer_new.taken (text_of_notes settings lines)
+  pub wrote : Wrote writer_old writer_new (text_of_notes settings lines)
   pub has_diagnostics_is : has_diagnostics ≡ is_some_diagnostic (notes (history settings lines))
 
 -- What a call leaves that replays one line and puts what is wrong with it, for all lines before it.
@@ -218,11 +218,11 @@ pub record PutsReport {T E : Type 0} (result : Result T E) (report : Report) (te
 -- What a call leaves that puts all that is written at the end, and flushes. It answers the status, by whether a line had a diagnostic.
 pub record Finishes {E : Type 0} (report : Report) (has_diagnostics : Bool) (result : Result Status E)
     (replay_old replay_new : Replayed) (writer_old writer_new : WriterState) : Type 0 where
-  pub all : OnOk result (Wrote writer_old.taken writer_new.taken (end_text report replay_old))
+  pub all : OnOk result (Wrote writer_old writer_new (end_text report replay_old))
   pub status : IfOk result (λ status. status
       ≡ (if has_diagnostics || (is_some_diagnostic (half replay_old.totals.lines replay_old.pending) || is_some_entry (entries replay_old)) then Found else Clean))
   pub flushed : OnOk result (HasTakenAndFlushed writer_old.calls writer_new.calls)
-  pub beginning : OnErr result (Begins writer_old.taken writer_new.taken (end_text report replay_old))
+  pub beginning : OnErr result (Begins writer_old writer_new (end_text report replay_old))
   pub failed : OnErr result (HasFailedToWrite writer_old.calls writer_new.calls)
   pub kept : report ≡ Nothing → replay_new ≡ replay_old
 

@@ -22,8 +22,8 @@ pub record PutsImage {T E : Type 0} (result : Result T E) (content : Bare) (old 
 
 -- what a call leaves that puts a text and flushes: both are done, or, where it fails, a beginning is put
 abbrev pub PutsAndFlushes : {T E : Type 0} → Result T E → (text : List ℕ) (old new : WriterState) → Type 0
-PutsAndFlushes (Ok done) text old new = Wrote old.taken new.taken text × HasTakenAndFlushed old.calls new.calls
-PutsAndFlushes (Err failure) text old new = Begins old.taken new.taken text × HasFailedToWrite old.calls new.calls
+PutsAndFlushes (Ok done) text old new = Wrote old new text × HasTakenAndFlushed old.calls new.calls
+PutsAndFlushes (Err failure) text old new = Begins old new text × HasFailedToWrite old.calls new.calls
 
 -- what a call leaves that puts an image of this content, slots left out, and flushes
 pub record SavesLast {T E : Type 0} (result : Result T E) (content : Bare) (old new : WriterState) : Type 0 where

@@ -53,14 +53,14 @@ check_status (Some rule) = Found
 pub record Checks (status : Status) (reader_old reader_new : ReaderState) (writer_old writer_new : WriterState) : Type 0 where
   pub bytes : List ℕ
   pub read : HasReadImage bytes reader_old.left reader_new.left
-  pub wrote : Wrote writer_old.taken writer_new.taken (check_text (first_broken bytes))
+  pub wrote : Wrote writer_old writer_new (check_text (first_broken bytes))
   pub status_is : status ≡ check_status (first_broken bytes)
 
 -- the image was read, and of what is wrong with it a beginning was written
 pub record ChecksInPart (reader_old reader_new : ReaderState) (writer_old writer_new : WriterState) : Type 0 where
   pub bytes : List ℕ
   pub read : HasReadImage bytes reader_old.left reader_new.left
-  pub begun : Begins writer_old.taken writer_new.taken (check_text (first_broken bytes))
+  pub begun : Begins writer_old writer_new (check_text (first_broken bytes))
 
 -- what one call of the reader gives at the front of a piece, of which it has this room
 pub record Pulls (result : Result ℕ Failed) (piece : List ℕ) (room : ℕ) (old new : ReaderState) : Type 0 where

@@ -18,7 +18,7 @@ returns-then-is_empty g c =
           let none = sym empty ∙ c.in-Ok.ensures.diagnostics settings past stands in
           record {
             stands = c.in-Ok.ensures.stands settings past stands;
-            wrote = subst (λ diagnostics. Wrote writer.taken writer.taken (diagnostics_text diagnostics)) none (Wrote-nothing writer.taken);
+            wrote = subst (λ diagnostics. Wrote writer writer (diagnostics_text diagnostics)) none (Wrote-nothing writer);
             has_diagnostics_is = ap is_some_diagnostic none;
           };
       counted = c.in-Ok.ensures.counted;
@@ -31,7 +31,7 @@ returns-then-is_empty g c =
 
 pub returns-in-Ok-put_findings : goal.returns-in-Ok-put_findings
 returns-in-Ok-put_findings g c =
-    let P : List Diagnostic → Type 0 = λ diagnostics. Wrote (g.W.Sink.shown c.args.writer.now).taken (g.W.Sink.shown c.put_findings.new.writer).taken (diagnostics_text diagnostics) in
+    let P : List Diagnostic → Type 0 = λ diagnostics. Wrote (g.W.Sink.shown c.args.writer.now) (g.W.Sink.shown c.put_findings.new.writer) (diagnostics_text diagnostics) in
     record {
       done = λ settings past stands.
           let is = c.in-Ok.ensures.diagnostics settings past stands in
@@ -50,7 +50,7 @@ returns-in-Ok-put_findings g c =
 
 pub returns-in-Err : goal.returns-in-Err
 returns-in-Err g c =
-    let P : List Diagnostic → Type 0 = λ diagnostics. Begins (g.W.Sink.shown c.args.writer.now).taken (g.W.Sink.shown c.put_findings.new.writer).taken (diagnostics_text diagnostics) in
+    let P : List Diagnostic → Type 0 = λ diagnostics. Begins (g.W.Sink.shown c.args.writer.now) (g.W.Sink.shown c.put_findings.new.writer) (diagnostics_text diagnostics) in
     record {
       done = tt;
       counted = tt;

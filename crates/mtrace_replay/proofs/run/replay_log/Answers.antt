@@ -27,7 +27,7 @@ returns-in-Ok-finish-clause-last g c =
     let reads = g.R.Source.shown in
     let writes = g.W.Sink.shown in
     let done = c.in-Ok-replay_lines.ensures.done c.args.settings c.in-Ok.ensures.made in
-    λ only. let P : Report → Type 0 = λ report. Wrote (writes c.replay_lines.new.writer).taken (writes c.finish.new.writer).taken (end_text report c.replay_lines.new.replay) in
+    λ only. let P : Report → Type 0 = λ report. Wrote (writes c.replay_lines.new.writer) (writes c.finish.new.writer) (end_text report c.replay_lines.new.replay) in
     ends_at c.args.settings c.replay_lines.new.replay c.finish.new.replay c.in-Ok-replay_lines.has_diagnostics c.in-Ok-finish.status (reads c.args.reader.now) (reads c.replay_lines.new.reader)
     (writes c.args.writer.now) (writes c.replay_lines.new.writer) (writes c.finish.new.writer) done (subst P only c.in-Ok-finish.ensures.all) c.in-Ok-finish.ensures.status (c.in-Ok-finish.ensures.kept only) (c.in-Ok-replay_lines.ensures.records ∙ c.in-Ok.ensures.records)
 

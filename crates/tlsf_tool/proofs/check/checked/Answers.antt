@@ -21,7 +21,7 @@ pub returns-in-Ok-put_text : goal.returns-in-Ok-put_text
 returns-in-Ok-put_text g c =
     let writes = g.W.Sink.shown in
     let rule = c.in-Ok.ensures ∙ ap first_broken c.as_slice.ensures.value in
-    let P : List ℕ → Type 0 = λ text. Wrote (writes c.args.writer.now).taken (writes c.put_text.new.writer).taken text in
+    let P : List ℕ → Type 0 = λ text. Wrote (writes c.args.writer.now) (writes c.put_text.new.writer) text in
     record {
       checks = record {
         bytes = c.in_ok-bytes.bytes.items;
@@ -42,7 +42,7 @@ pub returns : goal.returns
 returns g c =
     let writes = g.W.Sink.shown in
     let rule = c.in-Ok.ensures ∙ ap first_broken c.as_slice.ensures.value in
-    let P : List ℕ → Type 0 = λ text. Begins (writes c.args.writer.now).taken (writes c.put_text.new.writer).taken text in
+    let P : List ℕ → Type 0 = λ text. Begins (writes c.args.writer.now) (writes c.put_text.new.writer) text in
     record {
       checks = tt;
       flushed = tt;
