@@ -1,6 +1,6 @@
 -- A run under way, and how it goes on and ends.
 use Rattle.std.proofs.Common.{true, ◌≡◌, ℕ, Bool, false, ◌||◌, List, [], ◌∷◌, ◌++◌, length, refl, sym, ap, ◌∙◌, subst, arith, Some, reverse, inl, inr, append_assoc, if◌then◌else◌, not, ◌==◌}
-use Rattle.std.specs.Prelude.{Result, Err, IsErrOf}
+use Rattle.std.specs.Prelude.{Result}
 use Rattle.std.proofs.lemmas.Grind.{flat_map-append}
 use Rattle.std.proofs.lemmas.Bool.Decides.{nat_tests}
 use Rattle.std.proofs.lemmas.List.{length-reverse}
@@ -178,10 +178,6 @@ underway_fault reads settings old new replay has_diagnostics start reader_old re
   reason = replaying_fault reads settings old new replay start reader_old reader_new fault under.so_far given nothing came;
   wrote = under.wrote;
 }
-
--- an error is the same, whatever else could have been answered
-pub same_error : {E : Type 0} (T U : Type 0) (first second : E) → IsErrOf {T = T} (Err first) second → IsErrOf {T = U} (Err first) second
-same_error T U first second is = let same : first ≡ second = cc in ap Err same
 
 -- the writer failed at the end
 pub report_write : (report : Report) (settings : Settings) (replay : Replayed) (has_diagnostics : Bool) (reader_old reader_new : ReaderState) (writer_old writer_middle writer_new : WriterState)

@@ -12,7 +12,7 @@ use Rattle.mtrace_replay.specs.declared.status.Status.{Status}
 use Rattle.mtrace_replay.specs.declared.status.RunFault.{RunFault}
 use Rattle.mtrace_replay.specs.declared.status.RunFault.TheVariants.{Read, Write}
 use Rattle.mtrace_replay.specs.Saving.{PutsAndFlushes}
-use Rattle.mtrace_replay.specs.Run.{Reports, Runs, FailedInPiece}
+use Rattle.mtrace_replay.specs.Run.{Reports, Runs, NothingDone, FailedInPiece}
 use Rattle.mtrace_log.specs.declared.call.Call.TheVariants.{Began, Failed}
 
 -- The first lines of a text were read, this many. Unused are the bytes that were asked of the reader and belong to none of
@@ -58,10 +58,15 @@ pub record ReplaysFirst {E : Type 0} (start : ReaderState) (Fails : Type 0) (man
   pub whole : reader_new.whole ≡ reader_old.whole
   pub records : replay_new.content.records ≡ replay_old.content.records
 
+-- an answer, but for what it gives
+abbrev pub done_of : {T E : Type 0} → Result T E → Result (Unit {0}) E
+done_of (Ok given) = Ok tt
+done_of (Err fault) = Err fault
+
 -- What follows a first reading. The log was read again, and a text was written: a beginning where the writer failed,
 -- nothing where the reader did.
-pub record Follows {R W T : Type 0} (Tells : (left_new : Bytes) (text : List ℕ) → Type 0) (HasWorked Fails : (reader_old reader_new : ReaderState) → Type 0) (reads : R → ReaderState) (writes : W → WriterState)
-    (result : Result T RunFault) (reader_old reader_new : R) (writer_old writer_new : W) : Type 0 where
+pub record Follows {R W : Type 0} (Tells : (left_new : Bytes) (text : List ℕ) → Type 0) (HasWorked Fails : (reader_old reader_new : ReaderState) → Type 0) (reads : R → ReaderState) (writes : W → WriterState)
+    (result : Result (Unit {0}) RunFault) (reader_old reader_new : R) (writer_old writer_new : W) : Type 0 where
   pub faults : IfErr result (λ fault. (fault ≡ Read) ⊎ (fault ≡ Write))
   pub told : result ≢ Err Read → (text : List ℕ) × Tells (reads reader_new).left text × PutsAndFlushes result text (writes writer_old) (writes writer_new)
   pub reader_not_failed : result ≢ Err Read → HasWorked (reads reader_old) (reads reader_new)
@@ -75,8 +80,15 @@ pub record EndsAgain {R W : Type 0} (settings : Settings) (Follows : List ReadLi
   pub answer : IfOk result (λ answered. answered ≡ status)
   pub follow : Follows reports.lines result reader_middle reader_new writer_middle writer_new
 
--- What a run leaves that reads its log again: first a run without a report, in the middle. Where that fails, this is the answer,
--- and nothing more is done.
+-- what follows a run: where that failed nothing more was done, and its fault is the answer
+abbrev pub GoesOnFrom : {R W : Type 0} → (settings : Settings) (Follows : List ReadLine → Result Status RunFault → R → R → W → W → Type 0) (reads : R → ReaderState) (writes : W → WriterState)
+    → (run result : Result Status RunFault) (reader_old reader_middle reader_new : R) (writer_old writer_middle writer_new : W) → Type 0
+GoesOnFrom settings Follows reads writes (Ok status) result reader_old reader_middle reader_new writer_old writer_middle writer_new =
+    EndsAgain settings Follows status reads writes result reader_old reader_middle reader_new writer_old writer_middle writer_new
+GoesOnFrom settings Follows reads writes (Err fault) result reader_old reader_middle reader_new writer_old writer_middle writer_new =
+    (result ≡ Err fault) × NothingDone reader_middle reader_new writer_middle writer_new
+
+-- What a run leaves that reads its log again: first a run without a report, in the middle.
 pub record RunsAgain {R W : Type 0} (settings : Settings) (Follows : List ReadLine → Result Status RunFault → R → R → W → W → Type 0)
     (reads : R → ReaderState) (writes : W → WriterState)
     (result : Result Status RunFault) (reader_old reader_new : R) (writer_old writer_new : W) : Type 0 where
@@ -84,6 +96,4 @@ pub record RunsAgain {R W : Type 0} (settings : Settings) (Follows : List ReadLi
   pub reader_middle : R
   pub writer_middle : W
   pub runs : Runs Nothing settings reads writes run reader_old reader_middle writer_old writer_middle
-  pub run_fault : (fault : RunFault) → run ≡ Err fault → (result ≡ Err fault) × (reader_new ≡ reader_middle) × (writer_new ≡ writer_middle)
-  pub finished : (status : Status) → run ≡ Ok status
-      → EndsAgain settings Follows status reads writes result reader_old reader_middle reader_new writer_old writer_middle writer_new
+  pub goes_on : GoesOnFrom settings Follows reads writes run result reader_old reader_middle reader_new writer_old writer_middle writer_new

@@ -16,7 +16,7 @@ use Rattle.mtrace_replay.specs.Entry.{Entry}
 use Rattle.mtrace_replay.specs.Gather.{Grouped}
 use Rattle.mtrace_replay.specs.Replay.{Replayed, StandsFor}
 use Rattle.mtrace_replay.specs.Texts.{total_size, section, peak_words, end_words, refused_line}
-use Rattle.mtrace_replay.specs.Again.{HasReadFirst, begun_again, FailsAgain, Follows, RunsAgain}
+use Rattle.mtrace_replay.specs.Again.{HasReadFirst, begun_again, FailsAgain, done_of, Follows, RunsAgain}
 
 -- how many entries there are, of how many bytes, and their sites
 pub record Groups (entries : List Entry) (sum : Sum) (grouped : Grouped) : Type 0 where
@@ -64,7 +64,7 @@ abbrev pub SitesFollow : {R W T : Type 0} → (settings : Settings) (lines : Lis
     → Result T RunFault → (reader_old reader_new : R) (writer_old writer_new : W) → Type 0
 SitesFollow settings lines reads writes result reader_old reader_new writer_old writer_new =
     Follows (TellsSites settings lines (reads reader_old).whole) (λ old new. HasNotFailed (begun_again old).calls new.calls) (FailsAgainAtPeak settings lines) reads writes
-    result reader_old reader_new writer_old writer_new
+    (done_of result) reader_old reader_new writer_old writer_new
 
 -- What a run leaves that tells who holds the memory of a log. There is first a run without a report, and then the log
 -- is read again.

@@ -18,7 +18,7 @@ use Rattle.mtrace_replay.specs.Replay.{Replayed, StandsFor}
 use Rattle.mtrace_replay.specs.Texts.{greatest, timeline_text}
 use Rattle.mtrace_replay.specs.Timeline.{is_bad_parts, AreTold, IsPoint, lines_of}
 use Rattle.mtrace_replay.specs.Run.{NothingDone}
-use Rattle.mtrace_replay.specs.Again.{HasReadFirst, begun_again, FailsAgain, Follows, RunsAgain}
+use Rattle.mtrace_replay.specs.Again.{HasReadFirst, begun_again, FailsAgain, done_of, Follows, RunsAgain}
 
 -- The text of what is held over the lines of a log. As many lines as it has are read again, from the first byte on. Each point
 -- is of the first of them.
@@ -42,7 +42,7 @@ abbrev pub TimelineFollows : {R W T : Type 0} → (settings : Settings) (parts :
     → Result T RunFault → (reader_old reader_new : R) (writer_old writer_new : W) → Type 0
 TimelineFollows settings parts lines reads writes result reader_old reader_new writer_old writer_new =
     Follows (TellsTimeline settings parts lines (reads reader_old).whole) (λ old new. HasNotFailed (begun_again old).calls new.calls) (FailsAgainBefore settings lines) reads writes
-    result reader_old reader_new writer_old writer_new
+    (done_of result) reader_old reader_new writer_old writer_new
 
 -- What a run leaves that tells what is held over the lines of a log. Where the log can't be cut in so many parts, nothing is done.
 -- Else there is first a run without a report, and then the log is read again.

@@ -5,10 +5,7 @@ use Rattle.mtrace_replay.specs.declared.settings.Settings.{Settings}
 use Rattle.mtrace_replay.specs.declared.status.Status.{Status}
 use Rattle.mtrace_replay.specs.declared.status.RunFault.{RunFault}
 use Rattle.mtrace_replay.specs.declared.status.RunFault.TheVariants.{Read, Write, BadSettings}
-use Rattle.mtrace_replay.specs.Fit.{greatest_settings}
 use Rattle.mtrace_replay.specs.Run.{Runs, EndsAt}
-use Rattle.mtrace_replay.specs.RunFit.{FitFollows}
-use Rattle.mtrace_replay.proofs.RunsAgain.{follows_ok, follows_err, again_ended}
 use Rattle.mtrace_replay.proofs.fit.run_fit.Goals as goal
 
 not_bad : (bad : Bool) → bad ≡ false → IsTrue bad → ⊥
@@ -32,13 +29,13 @@ returns-in-Ok-tell_fit g c =
     record {
       bad_step = ((λ is. absurd (cc)), (λ bad. absurd (not_bad _ (sym c.is_bad_step.ensures ∙ c.if-is_bad_step.false) bad)));
       nothing_done = λ is. absurd (cc);
-      runs = λ good. again_ended greatest_settings (λ lines. FitFollows c.args.step lines reads writes) reads writes ended.status (Ok ended.status)
-          c.args.reader.now c.replay_log.new.reader c.tell_fit.new.reader c.args.writer.now c.replay_log.new.writer c.tell_fit.new.writer ran
-          (record {
-            reports = last.reports;
-            answer = refl;
-            follow = follows_ok _ _ _ reads writes c.replay_log.new.reader c.tell_fit.new.reader c.replay_log.new.writer c.tell_fit.new.writer ended.status follow;
-          });
+      runs = λ good. record {
+        run = Ok ended.status;
+        reader_middle = c.replay_log.new.reader;
+        writer_middle = c.replay_log.new.writer;
+        runs = ran;
+        goes_on = record { reports = last.reports; answer = refl; follow = follow };
+      };
     }
 
 pub returns : goal.returns
@@ -55,11 +52,11 @@ returns g c =
     record {
       bad_step = ((λ is. absurd (no_bad_settings fault follow.faults is)), (λ bad. absurd (not_bad _ (sym c.is_bad_step.ensures ∙ c.if-is_bad_step.false) bad)));
       nothing_done = λ is. absurd (no_bad_settings fault follow.faults is);
-      runs = λ good. again_ended greatest_settings (λ lines. FitFollows c.args.step lines reads writes) reads writes ended.status (Err fault)
-          c.args.reader.now c.replay_log.new.reader c.tell_fit.new.reader c.args.writer.now c.replay_log.new.writer c.tell_fit.new.writer ran
-          (record {
-            reports = last.reports;
-            answer = tt;
-            follow = follows_err _ _ _ reads writes c.replay_log.new.reader c.tell_fit.new.reader c.replay_log.new.writer c.tell_fit.new.writer fault follow;
-          });
+      runs = λ good. record {
+        run = Ok ended.status;
+        reader_middle = c.replay_log.new.reader;
+        writer_middle = c.replay_log.new.writer;
+        runs = ran;
+        goes_on = record { reports = last.reports; answer = tt; follow = follow };
+      };
     }
