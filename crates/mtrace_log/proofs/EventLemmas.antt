@@ -6,7 +6,7 @@ use Rattle.mtrace_log.specs.Spelling.{location_text, spell, IsEvent, longest_lin
 use Rattle.mtrace_log.specs.Form.{Form, Numbers, fields_text, form_text, form}
 use Rattle.mtrace_log.specs.Form.Form.{alone, marked}
 use Rattle.mtrace_log.specs.Fields.{AreFields, HasForm}
-use Rattle.mtrace_log.specs.Reading.{Reads}
+use Rattle.mtrace_log.specs.Reading.{ReadsAs}
 use Rattle.mtrace_log.specs.Event.{Event}
 use Rattle.mtrace_log.specs.declared.event.Event.TheVariants.{Start, End, Alloc, Free, Old, New, Failed, Aligned}
 use Rattle.mtrace_log.specs.declared.event.LineFault.{LineFault}
@@ -89,7 +89,7 @@ too_long-other same = cc
 
 -- a line behind `@ ` is read by what stands behind its place
 pub located-from_behind : (bytes place rest : List ℕ) (found : Result Event LineFault) → IsLocation place → bytes ≡ place ++ space ∷ rest → length (64 ∷ 32 ∷ bytes) ≤ longest_line
-    → ReadsBehind (Some place) rest found → Reads (64 ∷ 32 ∷ bytes) found
+    → ReadsBehind (Some place) rest found → ReadsAs (64 ∷ 32 ∷ bytes) found
 located-from_behind bytes place rest (Ok event) valid cut short read =
     let whole = behind-spelled (Some place) rest event valid read in
     (whole.0, ap (λ text. 64 ∷ 32 ∷ text) (cut ∙ sym (append_assoc place (space ∷ []) rest)) ∙ whole.1)
@@ -121,7 +121,7 @@ unlocated bytes (Aligned place address align size) start end other valid same =
     unlocated-form bytes (Aligned place address align size) place 42 (Some address) (Some (Some align, size)) refl (Fits-form (Aligned place address align size) valid) other same
 
 pub unlocated-from_behind : (bytes : List ℕ) (found : Result Event LineFault) → bytes ≢ codes "= Start" → bytes ≢ codes "= End" → ((rest : List ℕ) → bytes ≢ 64 ∷ 32 ∷ rest) → length bytes ≤ longest_line
-    → ReadsBehind None bytes found → Reads bytes found
+    → ReadsBehind None bytes found → ReadsAs bytes found
 unlocated-from_behind bytes (Ok event) start end other short read = behind-spelled None bytes event tt read
 unlocated-from_behind bytes (Err TooLong) start end other short none = absurd (too_long-other none.0)
 unlocated-from_behind bytes (Err NotALine) start end other short none = (short, λ event valid same. none.1 event (unlocated bytes event start end other valid same))

@@ -3,7 +3,7 @@ use Rattle.std.proofs.Common.{◌≡◌, ℕ, ◌<◌, List, [], ◌∷◌, ◌+
 use Rattle.std.specs.List.{AllByRecursion, onto_first}
 use Rattle.std.proofs.lemmas.Grind.{flat_map-append}
 use Rattle.mtrace_log.specs.Bytes.{Lacks, newline}
-use Rattle.mtrace_log.specs.Reading.{Reads}
+use Rattle.mtrace_log.specs.Reading.{ReadsAs}
 use Rattle.mtrace_log.specs.Lines.{lines_of, ReadAs}
 use Rattle.mtrace_log.specs.HasRead.{whole_lines}
 use Rattle.mtrace_log.specs.Event.{Event}
@@ -40,7 +40,7 @@ whole_lines-more pieces piece =
     flat_map-append (λ p. p ++ newline ∷ []) pieces (piece ∷ []) ∙ ap (λ last. whole_lines pieces ++ last) (append-nil (piece ++ newline ∷ []))
 
 -- one more line and its answer
-pub ReadAs-more : (lines : List (List ℕ)) (answers : List (Result Event LineFault)) (line : List ℕ) (answer : Result Event LineFault) → ReadAs lines answers → Reads line answer
+pub ReadAs-more : (lines : List (List ℕ)) (answers : List (Result Event LineFault)) (line : List ℕ) (answer : Result Event LineFault) → ReadAs lines answers → ReadsAs line answer
     → ReadAs (lines ++ line ∷ []) (answers ++ answer ∷ [])
 ReadAs-more [] [] line answer before read = (read, tt)
 ReadAs-more [] (a ∷ answers) line answer before read = absurd before

@@ -7,7 +7,7 @@ use Rattle.mtrace_log.specs.Spelling.{location_text, spell, IsEvent, longest_lin
 use Rattle.mtrace_log.specs.Form.{Form, Numbers, numbers_text, fields_text, form_text, form}
 use Rattle.mtrace_log.specs.Form.Form.{alone, marked}
 use Rattle.mtrace_log.specs.Fields.{IsPointer, IsSize, AreNumbers}
-use Rattle.mtrace_log.specs.Reading.{Reads}
+use Rattle.mtrace_log.specs.Reading.{ReadsAs}
 use Rattle.mtrace_log.specs.Event.{Event}
 use Rattle.mtrace_log.specs.declared.event.LineFault.{LineFault}
 use Rattle.mtrace_log.specs.declared.event.LineFault.TheVariants.{TooLong, NotALine}
@@ -82,13 +82,13 @@ length-spell event valid = subst (λ text. length text ≤ longest_line) (sym (s
 
 -- ---- one answer
 
-pub Reads-same : (bytes : List ℕ) (first second : Result Event LineFault) → Reads bytes first → Reads bytes second → first ≡ second
-Reads-same bytes (Ok d) (Ok e) read again = ap (λ event. Ok event) (spell-same d e read.0 again.0 (sym read.1 ∙ again.1))
-Reads-same bytes (Ok d) (Err TooLong) read again = absurd (omega (arith, length-spell d read.0, ap length read.1))
-Reads-same bytes (Ok d) (Err NotALine) read again = absurd (again.1 d read.0 read.1)
-Reads-same bytes (Err TooLong) (Ok e) read again = absurd (omega (arith, length-spell e again.0, ap length again.1))
-Reads-same bytes (Err TooLong) (Err TooLong) read again = refl
-Reads-same bytes (Err TooLong) (Err NotALine) read again = absurd (omega (arith, again.0))
-Reads-same bytes (Err NotALine) (Ok e) read again = absurd (read.1 e again.0 again.1)
-Reads-same bytes (Err NotALine) (Err TooLong) read again = absurd (omega (arith, read.0))
-Reads-same bytes (Err NotALine) (Err NotALine) read again = refl
+pub ReadsAs-same : (bytes : List ℕ) (first second : Result Event LineFault) → ReadsAs bytes first → ReadsAs bytes second → first ≡ second
+ReadsAs-same bytes (Ok d) (Ok e) read again = ap (λ event. Ok event) (spell-same d e read.0 again.0 (sym read.1 ∙ again.1))
+ReadsAs-same bytes (Ok d) (Err TooLong) read again = absurd (omega (arith, length-spell d read.0, ap length read.1))
+ReadsAs-same bytes (Ok d) (Err NotALine) read again = absurd (again.1 d read.0 read.1)
+ReadsAs-same bytes (Err TooLong) (Ok e) read again = absurd (omega (arith, length-spell e again.0, ap length again.1))
+ReadsAs-same bytes (Err TooLong) (Err TooLong) read again = refl
+ReadsAs-same bytes (Err TooLong) (Err NotALine) read again = absurd (omega (arith, again.0))
+ReadsAs-same bytes (Err NotALine) (Ok e) read again = absurd (read.1 e again.0 again.1)
+ReadsAs-same bytes (Err NotALine) (Err TooLong) read again = absurd (omega (arith, read.0))
+ReadsAs-same bytes (Err NotALine) (Err NotALine) read again = refl

@@ -2,7 +2,7 @@
 use Rattle.std.specs.Prelude.{ℕ, ◌∷◌, [], List, Result, ◌==◌, if◌then◌else◌, ⊤}
 use Rattle.std.specs.List.{onto_first}
 use Rattle.mtrace_log.specs.Bytes.{newline}
-use Rattle.mtrace_log.specs.Reading.{Reads}
+use Rattle.mtrace_log.specs.Reading.{ReadsAs}
 use Rattle.mtrace_log.specs.Event.{Event}
 use Rattle.mtrace_log.specs.declared.event.LineFault.{LineFault}
 
@@ -17,4 +17,4 @@ abbrev pub ReadAs : List (List ℕ) → List (Result Event LineFault) → Type 0
 ReadAs [] [] = ⊤
 ReadAs [] (answer ∷ answers) = ⊥
 ReadAs (line ∷ lines) [] = ⊥
-ReadAs (line ∷ lines) (answer ∷ answers) = Reads line answer × ReadAs lines answers
+ReadAs (line ∷ lines) (answer ∷ answers) = ReadsAs line answer × ReadAs lines answers

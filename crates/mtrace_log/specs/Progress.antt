@@ -2,7 +2,7 @@
 use Rattle.std.specs.Prelude.{◌≡◌, ℕ, ◌+◌, ◌-◌, ◌^◌, ◌<◌, List, [], ◌∷◌, ◌++◌, length, Option, Some, None, Result, Ok, Err, IfOk, IfErr, IfSome, IfNone}
 use Rattle.std.specs.Io.KnownBytes.{prepend_known, IsAtEnd}
 use Rattle.mtrace_log.specs.Bytes.{Lacks, newline}
-use Rattle.mtrace_log.specs.Reading.{Reads}
+use Rattle.mtrace_log.specs.Reading.{ReadsAs}
 use Rattle.mtrace_log.specs.Event.{Event}
 use Rattle.mtrace_log.specs.declared.event.LineFault.{LineFault}
 use Rattle.mtrace_log.specs.declared.event.LineFault.TheVariants.{TooLong}
@@ -29,7 +29,7 @@ pub record Progress : Type 0 where
 
 -- what a line says whose bytes are kept, or that is too long
 abbrev pub Says : Option (List ℕ) → Result Event LineFault → Type 0
-Says (Some bytes) answer = Reads bytes answer
+Says (Some bytes) answer = ReadsAs bytes answer
 Says None answer = answer ≡ Err TooLong
 
 -- the text to come: the bytes held, and then what the reader has left
@@ -47,9 +47,9 @@ greatest_number = 2 ^ 64 - 1
 -- One line of the text: while reading a piece with its newline, and at the end a piece that isn't
 -- empty, behind which nothing comes. The piece reads as the answer.
 abbrev pub ReadsLine : Stage → Bytes → Bytes → Result Event LineFault → Type 0
-ReadsLine Reading before after answer = (piece : List ℕ) × Lacks newline piece × Reads piece answer
+ReadsLine Reading before after answer = (piece : List ℕ) × Lacks newline piece × ReadsAs piece answer
     × (before ≡ prepend_known (piece ++ newline ∷ []) after)
-ReadsLine Ended before after answer = (piece : List ℕ) × Lacks newline piece × Reads piece answer
+ReadsLine Ended before after answer = (piece : List ℕ) × Lacks newline piece × ReadsAs piece answer
     × (before ≡ prepend_known piece after) × (0 < length piece) × IsAtEnd after
 ReadsLine (Faulted fault) before after answer = ⊥
 

@@ -6,7 +6,7 @@ use Rattle.mtrace_log.specs.declared.event.LineFault.{LineFault}
 use Rattle.mtrace_log.specs.declared.event.LineFault.TheVariants.{TooLong, NotALine}
 
 -- a line reads as the event whose one line it is, as too long, or as no line at all
-abbrev pub Reads : List ℕ → Result Event LineFault → Type 0
-Reads bytes (Ok event) = IsEvent event × (bytes ≡ spell event)
-Reads bytes (Err TooLong) = longest_line < length bytes
-Reads bytes (Err NotALine) = (length bytes ≤ longest_line) × ((event : Event) → IsEvent event → bytes ≢ spell event)
+abbrev pub ReadsAs : List ℕ → Result Event LineFault → Type 0
+ReadsAs bytes (Ok event) = IsEvent event × (bytes ≡ spell event)
+ReadsAs bytes (Err TooLong) = longest_line < length bytes
+ReadsAs bytes (Err NotALine) = (length bytes ≤ longest_line) × ((event : Event) → IsEvent event → bytes ≢ spell event)

@@ -1,5 +1,5 @@
 //! The bytes that were asked of a reader and aren't read yet.
-ghost use Rattle.std.specs.Prelude.{◌≡◌, ℕ, ◌<◌, ◌==◌, ◌∷◌, [], length, IfOk, OnErr};
+ghost use Rattle.std.specs.Prelude.{◌≡◌, ◌<◌, ◌==◌, ◌∷◌, [], length, IfOk, OnErr};
 ghost use Rattle.std.specs.Io.KnownBytes.{prepend_known, IsAtEnd};
 ghost use Rattle.mtrace_log.specs.Buffer.{Buffered, TakesBufferedLine, TakesFrequent};
 ghost use Rattle.mtrace_log.specs.Trace.{pulled};

@@ -1,4 +1,4 @@
-ghost use Rattle.std.specs.Prelude.{◌≡◌, length};
+ghost use Rattle.std.specs.Prelude.{◌≡◌};
 ghost use Rattle.mtrace_log.specs.Trace.{pulled, began, offered, flushed};
 
 use crate::failed::Failed;

@@ -4,7 +4,7 @@
 ghost use Rattle.std.specs.Prelude.{◌≡◌, ◌∷◌, IfSome, Ok};
 ghost use Rattle.mtrace_log.specs.Bytes.{newline};
 ghost use Rattle.mtrace_log.specs.Frequent.{IsFrequent, BeginsFrequent, BeginsFields};
-ghost use Rattle.mtrace_log.specs.Reading.{Reads};
+ghost use Rattle.mtrace_log.specs.Reading.{ReadsAs};
 
 use crate::addr::Addr;
 use crate::event::Event;
@@ -93,7 +93,7 @@ impl Frequent {
     #[inline(always)]
     pub(crate) fn event(self, line: &[u8]) -> Event<LentLocation<'_>>
         requires { IsFrequent line.now self }
-        ensures { Reads line.now (Ok result) }
+        ensures { ReadsAs line.now (Ok result) }
     {
         let at = Some(LentLocation::of(&line[2..2 + self.place]));
         match self.size {

@@ -2,7 +2,7 @@
 ghost use Rattle.std.specs.Prelude.{◌≡◌, ℕ, ◌<◌, ◌≤◌, List, [], ◌∷◌, ◌++◌, length, Result};
 ghost use Rattle.mtrace_log.specs.Bytes.{Lacks, newline};
 ghost use Rattle.mtrace_log.specs.Spelling.{spell, IsEvent, longest_line};
-ghost use Rattle.mtrace_log.specs.Reading.{Reads};
+ghost use Rattle.mtrace_log.specs.Reading.{ReadsAs};
 ghost use Rattle.mtrace_log.specs.Lines.{lines_of};
 ghost use Rattle.mtrace_log.specs.HasRead.{whole_lines};
 ghost use Rattle.std.specs.List.{AllByRecursion};
@@ -22,7 +22,7 @@ pub fn one_spelling()
 
 /// A line reads as one answer only.
 pub fn one_answer()
-    ensures { (bytes : List ℕ) (first second : Result Event LineFault) → Reads bytes first → Reads bytes second → first ≡ second }
+    ensures { (bytes : List ℕ) (first second : Result Event LineFault) → ReadsAs bytes first → ReadsAs bytes second → first ≡ second }
 {}
 
 /// Pieces that each end in a newline are the first lines of a text. A last piece without newline is

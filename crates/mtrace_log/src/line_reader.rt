@@ -4,7 +4,7 @@ ghost use Rattle.mtrace_log.specs.Address.{IsAddress, address_text, pointer_text
 ghost use Rattle.mtrace_log.specs.Form.{numbers_text, fields_text};
 ghost use Rattle.mtrace_log.specs.Form.Form.{marked};
 ghost use Rattle.mtrace_log.specs.Fields.{Finds, EndsField, IsFront, HasNoFront, IsPointer, IsSize, AreNumbers, AreFields, HasForm};
-ghost use Rattle.mtrace_log.specs.Reading.{Reads};
+ghost use Rattle.mtrace_log.specs.Reading.{ReadsAs};
 ghost use Rattle.mtrace_log.specs.declared.event.LineFault.TheVariants.{TooLong};
 
 use crate::addr::Addr;
@@ -225,7 +225,7 @@ pub(crate) fn behind_at(bytes: &[u8]) -> Option<&[u8]>
 fn read_unlocated(bytes: &[u8]) -> Lent<'_>
     requires short { length bytes.now ≤ LONGEST_LINE }
     requires unlocated { (rest : List ℕ) → bytes.now ≢ codes "@ " ++ rest }
-    ensures { Reads bytes.now result }
+    ensures { ReadsAs bytes.now result }
 {
     if bytes == b"= Start".as_slice() {
         return Ok(Event::Start);
@@ -247,7 +247,7 @@ fn read_unlocated(bytes: &[u8]) -> Lent<'_>
 #[inline(always)]
 pub fn read_lent(bytes: &[u8]) -> Result<Event<LentLocation<'_>>, LineFault>
     // The event whose spelling the line is; or too long; or no event's spelling.
-    ensures reads { Reads bytes.now result }
+    ensures reads { ReadsAs bytes.now result }
     ensures too_long { LONGEST_LINE < length bytes.now → result ≡ Err TooLong }
 {
     if bytes.len() > LONGEST_LINE {
@@ -283,7 +283,7 @@ pub(crate) fn kept(read: &Result<Event<LentLocation<'_>>, LineFault>) -> Result<
 /// more and is the line of no event.
 pub fn read_line(bytes: &[u8]) -> Result<Event, LineFault>
     // The event whose spelling the line is; or too long; or no event's spelling.
-    ensures reads { Reads bytes.now result }
+    ensures reads { ReadsAs bytes.now result }
     ensures too_long { LONGEST_LINE < length bytes.now → result ≡ Err TooLong }
 {
     kept(&read_lent(bytes))

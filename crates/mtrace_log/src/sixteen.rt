@@ -1,6 +1,6 @@
 //! Digits in base 16, sixteen bytes at a time.
 
-ghost use Rattle.std.specs.Prelude.{◌≡◌, ◌≢◌, ℕ, ◌<◌, ◌≤◌, length, not, take, map, slice_index};
+ghost use Rattle.std.specs.Prelude.{◌≡◌, ◌≢◌, ◌<◌, ◌≤◌, length, not, map, slice_index};
 ghost use Rattle.std.specs.Simd.Lanes.{Each1};
 ghost use Rattle.std.specs.List.{prefix_len};
 ghost use Rattle.mtrace_log.specs.Fields.{ReadsDigits};

@@ -59,7 +59,7 @@ alone_alone (key ∷ keys) = one (is_some key.block) refl (alone_alone keys)
     one false is rest = rest
 
 -- what was held before a place stands first, and with what is held from there on it is all
-pub record Leaves (old now : List Key) (at held : ℕ) : Type 0 where
+pub record HeldStandFirst (old now : List Key) (at held : ℕ) : Type 0 where
   pub fewer : held ≤ at
   pub len : length now ≡ length old
   pub left : take held now ++ held_keys (drop at now) ≡ held_keys old
@@ -73,14 +73,14 @@ is_so true is = refl
 is_so false is = cc
 
 -- one place on
-module _ (old now : List Key) (at held : ℕ) (within : at < length old) (has : Leaves old now at held) (key : Key) (there : key ≡ slice_index_or now at key) where
+module _ (old now : List Key) (at held : ℕ) (within : at < length old) (has : HeldStandFirst old now at held) (key : Key) (there : key ≡ slice_index_or now at key) where
   next : suc at ≡ at + 1
   next = omega arith
 
   rest_is : drop at now ≡ key ∷ drop (suc at) now
   rest_is = drop-cons now at key (omega (arith, within, has.len)) ∙ ap (λ (k : Key). k ∷ drop (suc at) now) (sym there)
 
-  pub leaves_vacant : is_some key.block ≡ false → Leaves old now (at + 1) held
+  pub leaves_vacant : is_some key.block ≡ false → HeldStandFirst old now (at + 1) held
   leaves_vacant is = record {
     fewer = omega (arith, has.fewer);
     len = has.len;
@@ -89,7 +89,7 @@ module _ (old now : List Key) (at held : ℕ) (within : at < length old) (has : 
         ∙ has.left;
   }
 
-  pub leaves_held : is_some key.block ≡ true → (new : List Key) → new ≡ slice_set now held key → Leaves old new (at + 1) (held + 1)
+  pub leaves_held : is_some key.block ≡ true → (new : List Key) → new ≡ slice_set now held key → HeldStandFirst old new (at + 1) (held + 1)
   leaves_held is new new_is = record {
     fewer = omega (arith, has.fewer);
     len = ap (length {A = Key}) new_is ∙ length-set now held key ∙ has.len;

@@ -14,7 +14,7 @@ use Rattle.tlsf_heap.specs.Realloc.{realloc}
 use Rattle.tlsf_heap.specs.Good.{IsGood}
 use Rattle.tlsf_heap.specs.Implied.{live_blocks, HasFewRecordsAndOne}
 use Rattle.tlsf_heap.specs.Pools.{add_pool, created}
-use Rattle.tlsf_heap.proofs.Good.Calls.{malloc_is_good, add_pool_is_good, created_is_good}
+use Rattle.tlsf_heap.proofs.Good.MallocIsGood.{malloc_is_good, add_pool_is_good, created_is_good}
 use Rattle.tlsf_heap.proofs.Good.Implied.{malloc_full}
 use Rattle.tlsf_heap.proofs.Good.AlignedImplied.{aligned_full}
 use Rattle.tlsf_heap.proofs.Good.Realloc.{realloc_is_good}
@@ -32,12 +32,12 @@ use Rattle.mtrace_replay.specs.Entry.{Entry}
 use Rattle.mtrace_replay.specs.Totals.{first_moments}
 use Rattle.mtrace_replay.specs.Enough.{HoldsAtMost, IsNeverRefused, IsNeverFull, act_of}
 use Rattle.mtrace_replay.proofs.AskedBlock.{asked_records}
-use Rattle.mtrace_replay.proofs.Served.{moved_records}
+use Rattle.mtrace_replay.proofs.FreeAndRealloc.{moved_records}
 use Rattle.mtrace_replay.proofs.GivenSizes.{IsRounded, asked_sized, moved_sized}
 use Rattle.mtrace_replay.proofs.Moments.{moments-none, moments-line}
 use Rattle.mtrace_replay.proofs.HeldLemmas.{moment_gives}
 use Rattle.mtrace_replay.proofs.PlanLemmas.{Fits, IsNoRefusal, is_planned}
-use Rattle.mtrace_replay.proofs.Stood.{StoodIn, stood_outcome}
+use Rattle.mtrace_replay.proofs.LiveBefore.{StoodIn, stood_outcome}
 use Rattle.mtrace_replay.proofs.TotalsLemmas.{AreAllFree, le_or_more, first_moments_before, first_moments_most, first_moments_all}
 use Rattle.mtrace_replay.proofs.EnoughBlocks.{few_live, freed_elsewhere, stale_elsewhere, realloc_full, moved_elsewhere}
 
@@ -96,7 +96,7 @@ rounded_is : (given : Given) (b : Block (Unit {0})) → IsRounded (asked_size gi
 rounded_is given b is = omega (arith, is.2, ap (λ m. unwrap_or m 0) is.1)
 
 -- what a line leaves of the heap, which answers with a refusal where `answers` says so
-pub record Leaves (answers : Refusal → Type 0) (content : Bare) (held : ℕ → Option Given) (moment : Moment) : Type 0 where
+pub record LeavesHeap (answers : Refusal → Type 0) (content : Bare) (held : ℕ → Option Given) (moment : Moment) : Type 0 where
   pub good : IsGood moment.content
   pub records : moment.content.records ≡ content.records
   pub pools : bytes_of moment.content.pools ≡ bytes_of content.pools
@@ -118,7 +118,7 @@ IsRefusedAs (take address place) content why = ⊥
 IsRefusedAs (move old place entry) content why = realloc (λ one other. true) tt (Some (place, tt)) (asked_size entry.size) content ≡ Err why
 
 module _ (content : Bare) (good : IsGood content) (held : ℕ → Option Given) where
-  leaves_idle : Leaves (IsRefusedAs idle content) content held (unserved [] content)
+  leaves_idle : LeavesHeap (IsRefusedAs idle content) content held (unserved [] content)
   leaves_idle = record {
     good = good;
     records = refl;
@@ -129,7 +129,7 @@ module _ (content : Bare) (good : IsGood content) (held : ℕ → Option Given) 
   }
 
   leaves_asked : (entry : Entry) (align : Option ℕ) (answer : Result (ℕ × Bare) Refusal)
-      → asked_block tt align (asked_size entry.size) content ≡ answer → Leaves (IsRefusedAs (give entry align) content) content held (answered entry content answer)
+      → asked_block tt align (asked_size entry.size) content ≡ answer → LeavesHeap (IsRefusedAs (give entry align) content) content held (answered entry content answer)
   leaves_asked entry align (Ok (place, new)) is =
       let given : Given = record { entry = entry; place = place } in
       record {
@@ -191,7 +191,7 @@ module _ (content : Bare) (good : IsGood content) (held : ℕ → Option Given) 
       let one_is : from ≡ given = (let e : Some from ≡ Some given = sym held_old ∙ ap held same ∙ held_so in cc) in
       gone b has live (at ∙ ap (λ (g : Given). g.place) (sym one_is))
 
-  leaves_taken : (address : ℕ) (from : Given) → held address ≡ Some from → Leaves (IsRefusedAs (take address from.place) content) content held (done (take address from.place) content)
+  leaves_taken : (address : ℕ) (from : Given) → held address ≡ Some from → LeavesHeap (IsRefusedAs (take address from.place) content) content held (done (take address from.place) content)
   leaves_taken address from is =
       let left = is_without from.place in
       record {
@@ -205,7 +205,7 @@ module _ (content : Bare) (good : IsGood content) (held : ℕ → Option Given) 
 
   leaves_moved : (old : ℕ) (from : Given) (entry : Entry) (answer : Result (Option (ℕ × Unit {0}) × Bare) Refusal) → held old ≡ Some from
       → realloc (λ one other. true) tt (Some (from.place, tt)) (asked_size entry.size) content ≡ answer
-      → Leaves (IsRefusedAs (move old from.place entry) content) content held (moved old from.place entry content answer)
+      → LeavesHeap (IsRefusedAs (move old from.place entry) content) content held (moved old from.place entry content answer)
   leaves_moved old from entry (Ok (Some (place, owner), new)) held_old is =
       let given : Given = record { entry = entry; place = place } in
       record {
@@ -246,7 +246,7 @@ module _ (content : Bare) (good : IsGood content) (held : ℕ → Option Given) 
 
   -- other diagnostics stand in front
   leaves_after_diagnostics : (answers : Refusal → Type 0) (diagnostics : List Diagnostic) (moment : Moment) → AreRefusals answers diagnostics
-      → Leaves answers content held moment → Leaves answers content held (after_diagnostics diagnostics moment)
+      → LeavesHeap answers content held moment → LeavesHeap answers content held (after_diagnostics diagnostics moment)
   leaves_after_diagnostics answers diagnostics moment first leaves = record {
     good = leaves.good;
     records = leaves.records;
@@ -261,17 +261,17 @@ module _ (content : Bare) (good : IsGood content) (held : ℕ → Option Given) 
   none_refused answers [] none = tt
   none_refused answers (one ∷ diagnostics) none = ((λ address why told. absurd (none.0 address why told)), none_refused answers diagnostics none.1)
 
-  leaves_done : (number : ℕ) (act : Act) → Fits number held act → Leaves (IsRefusedAs act content) content held (done act content)
+  leaves_done : (number : ℕ) (act : Act) → Fits number held act → LeavesHeap (IsRefusedAs act content) content held (done act content)
   leaves_done number idle fits = leaves_idle
   leaves_done number (give entry align) fits = leaves_asked entry align (asked_block tt align (asked_size entry.size) content) refl
   leaves_done number (take address place) fits =
-      subst (λ (place : ℕ). Leaves (IsRefusedAs (take address place) content) content held (done (take address place) content)) fits.2 (leaves_taken address fits.0 fits.1)
+      subst (λ (place : ℕ). LeavesHeap (IsRefusedAs (take address place) content) content held (done (take address place) content)) fits.2 (leaves_taken address fits.0 fits.1)
   leaves_done number (move old place entry) fits =
       let from = fits.1 in
-      subst (λ (place : ℕ). Leaves (IsRefusedAs (move old place entry) content) content held (done (move old place entry) content)) from.2
+      subst (λ (place : ℕ). LeavesHeap (IsRefusedAs (move old place entry) content) content held (done (move old place entry) content)) from.2
       (leaves_moved old from.0 entry (realloc (λ one other. true) tt (Some (from.0.place, tt)) (asked_size entry.size) content) from.1 refl)
 
-  leaves_outcome : (number : ℕ) (line : ReadLine) (pending : Option ℕ) → Leaves (IsRefusedAs (plan number line pending held).act content) content held (outcome number line pending held content)
+  leaves_outcome : (number : ℕ) (line : ReadLine) (pending : Option ℕ) → LeavesHeap (IsRefusedAs (plan number line pending held).act content) content held (outcome number line pending held content)
   leaves_outcome number line pending =
       let planned = is_planned number held line pending in
       let now = plan number line pending held in
@@ -279,7 +279,7 @@ module _ (content : Bare) (good : IsGood content) (held : ℕ → Option Given) 
       leaves_after_diagnostics answers now.first (done now.act content) (none_refused answers now.first planned.none_refused) (leaves_done number now.act planned.fits)
 
   -- what a line leaves, with what it tells of the line before
-  pub leaves_moment : (before : ℕ) (line : ReadLine) (pending : Option ℕ) → Leaves (IsRefusedAs (plan (suc before) line pending held).act content) content held (moment before line pending held content)
+  pub leaves_moment : (before : ℕ) (line : ReadLine) (pending : Option ℕ) → LeavesHeap (IsRefusedAs (plan (suc before) line pending held).act content) content held (moment before line pending held content)
   leaves_moment before line pending =
       let answers = IsRefusedAs (plan (suc before) line pending held).act content in
       let first = if is_new line then [] else half before pending in
@@ -312,7 +312,7 @@ OwnsLive Fits content held =
     (b : Block (Unit {0})) → Contains (blocks_of content.pools) b → is_free b ≡ false → (given : Given) × (held given.entry.addr ≡ Some given) × (given.place ≡ b.place) × Fits given b
 
 module _ (Fits : Given → Block (Unit {0}) → Type 0) (content : Bare) (held : ℕ → Option Given) (moment : Moment) (owns : OwnsLive Fits content held)
-    (answers : Refusal → Type 0) (leaves : Leaves answers content held moment) (stood : StoodIn content moment)
+    (answers : Refusal → Type 0) (leaves : LeavesHeap answers content held moment) (stood : StoodIn content moment)
     (fresh : (new : Given) → moment.given ≡ Some new → (held new.entry.addr ≡ None) ⊎ (moment.taken ≡ Some new.entry.addr))
     (fits : (new : Given) → moment.given ≡ Some new → (b : Block (Unit {0})) → Contains (blocks_of moment.content.pools) b → is_free b ≡ false → b.place ≡ new.place → Fits new b) where
   given_held : (new : Given) → moment.given ≡ Some new → held_after moment held new.entry.addr ≡ Some new

@@ -221,38 +221,44 @@ put_entry old now entry ptr sets key its under = (
   subst (λ block. IsRow now key.address block) (sym under) (sets.there, ap (λ (row : Entry). row.addr) (sets.is no_row) ∙ sym its),
 )
 
--- where a key of the address stands
-module _ (kept : Kept) (address at : ℕ) (rise : RiseFrom 0 kept.keys) (have : HaveRows kept.rows kept.keys) (stands : StandsAt kept.keys address at) (key : Key) (there : key ≡ slice_index_or kept.keys at key) where
+-- a key of the address stands at the place
+pub record IsKeyAt (kept : Kept) (address at : ℕ) (key : Key) : Type 0 where
+  pub rise : RiseFrom 0 kept.keys
+  pub have : HaveRows kept.rows kept.keys
+  pub stands : StandsAt kept.keys address at
+  pub there : key ≡ slice_index_or kept.keys at key
+
+module _ (kept : Kept) (address at : ℕ) (key : Key) (is_at : IsKeyAt kept address at key) where
   others : List Key
   others = remove kept.keys at
 
   its : key.address ≡ address
-  its = ap (λ (k : Key). k.address) there ∙ stands.1 key
+  its = ap (λ (k : Key). k.address) is_at.there ∙ is_at.stands.1 key
 
   fits : FitsAt (remove kept.keys at) address at
-  fits = fits_there address kept.keys at key rise stands
+  fits = fits_there address kept.keys at key is_at.rise is_at.stands
 
   pub row_there : IsRow kept.rows key.address key.block
-  row_there = subst (λ (k : Key). IsRow kept.rows k.address k.block) (sym there) (all_there (λ (k : Key). IsRow kept.rows k.address k.block) kept.keys at key stands.0 have)
+  row_there = subst (λ (k : Key). IsRow kept.rows k.address k.block) (sym is_at.there) (all_there (λ (k : Key). IsRow kept.rows k.address k.block) kept.keys at key is_at.stands.0 is_at.have)
 
   kept_same : SameRows kept.rows kept.rows (remove kept.keys at)
-  kept_same = same_rows kept.rows (remove kept.keys at) (all_remove (λ (k : Key). IsRow kept.rows k.address k.block) kept.keys at have)
+  kept_same = same_rows kept.rows (remove kept.keys at) (all_remove (λ (k : Key). IsRow kept.rows k.address k.block) kept.keys at is_at.have)
 
   was_its : AllByRecursion (λ (held : Holding). held.entry.addr ≡ address) (option_to_list (holding_of kept.rows key))
   was_its = subst (λ a. AllByRecursion (λ (held : Holding). held.entry.addr ≡ a) (option_to_list (holding_of kept.rows key))) its (own_address kept.rows key)
 
   parts : all_held kept.rows kept.keys ≡ all_held kept.rows (take at (remove kept.keys at)) ++ (option_to_list (holding_of kept.rows key) ++ all_held kept.rows (drop at (remove kept.keys at)))
-  parts = ap (all_held kept.rows) (put_back kept.keys at key stands.0 there) ∙ held_put kept.rows kept.rows (remove kept.keys at) at key fits.0 kept_same
+  parts = ap (all_held kept.rows) (put_back kept.keys at key is_at.stands.0 is_at.there) ∙ held_put kept.rows kept.rows (remove kept.keys at) at key fits.0 kept_same
 
   puts_there : (now : Kept) (new : Key) → new.address ≡ address → SameRows kept.rows now.rows (remove kept.keys at) → IsRow now.rows new.address new.block → now.keys ≡ insert (remove kept.keys at) at new
       → Puts kept now address (holding_of kept.rows key) (holding_of now.rows new)
   puts_there now new new_its same row is =
-      puts kept now (remove kept.keys at) address at (holding_of kept.rows key) new fits new_its (rise_remove 0 kept.keys at rise) same row is was_its parts
+      puts kept now (remove kept.keys at) address at (holding_of kept.rows key) new fits new_its (rise_remove 0 kept.keys at is_at.rise) same row is was_its parts
 
   -- what is held under it
   pub held_there : held_at (all_held kept.rows kept.keys) address ≡ holding_of kept.rows key
   held_there =
-      let same = puts_there kept key its kept_same row_there (put_back kept.keys at key stands.0 there) in
+      let same = puts_there kept key its kept_same row_there (put_back kept.keys at key is_at.stands.0 is_at.there) in
       changes_was address (holding_of kept.rows key) (holding_of kept.rows key) (all_held kept.rows kept.keys) (all_held kept.rows kept.keys) same.changes
 
   -- it is part of all that is held
@@ -277,11 +283,11 @@ module _ (kept : Kept) (address at : ℕ) (rise : RiseFrom 0 kept.keys) (have : 
   vacates now new new_its none is rows =
       subst (λ held. Puts kept now address (holding_of kept.rows key) held) (ap (option_map (held_under new.address now.rows)) none)
       (puts_there now new new_its (subst (λ (now_rows : Rows). SameRows kept.rows now_rows (remove kept.keys at)) (sym rows) kept_same)
-      (subst (λ block. IsRow now.rows new.address block) (sym none) tt) (is ∙ set_is_put kept.keys at new stands.0))
+      (subst (λ block. IsRow now.rows new.address block) (sym none) tt) (is ∙ set_is_put kept.keys at new is_at.stands.0))
 
   -- where it isn't held, the key is vacant
   pub vacant_there : held_at (all_held kept.rows kept.keys) address ≡ None → IsVacantAt kept.keys at
-  vacant_there none = (stands.0, λ default. ap (λ (k : Key). k.block) (get_or_default kept.keys at default key stands.0 ∙ sym there) ∙ by_block key.block (sym held_there ∙ none))
+  vacant_there none = (is_at.stands.0, λ default. ap (λ (k : Key). k.block) (get_or_default kept.keys at default key is_at.stands.0 ∙ sym is_at.there) ∙ by_block key.block (sym held_there ∙ none))
     where
       by_block : (block : Option Pointer) → option_map (held_under key.address kept.rows) block ≡ None → block ≡ None
       by_block None is = refl
@@ -400,8 +406,18 @@ index_in_order rows keys rise = IsStrictlyIncreasing-from_sorted (addresses (all
 
 -- where an address was found in an index that has these keys
 module _ (keys : List Key) (index : Indexed) (seen : keys ≡ index.keys) (found : LookUp) (is_found : IsFound index.keys found) (at : ℕ) where
-  pub found_stands : found.place ≡ Ok at → StandsAt keys found.address at
+  found_stands : found.place ≡ Ok at → StandsAt keys found.address at
   found_stands is = subst (λ all. StandsAt all found.address at) (sym seen) (subst (λ (place : Result ℕ ℕ). IfOk place (StandsAt index.keys found.address)) is is_found.held)
 
   pub found_fits : found.place ≡ Err at → FitsAt keys found.address at
   found_fits is = subst (λ all. FitsAt all found.address at) (sym seen) (subst (λ (place : Result ℕ ℕ). IfErr place (FitsAt index.keys found.address)) is is_found.absent)
+
+-- the key that was read where an address was found
+pub found_key : (kept : Kept) (index : Indexed) → kept.keys ≡ index.keys → (blocks bytes rounded : ℕ) → IsIndex kept blocks bytes rounded → (found : LookUp) → IsFound index.keys found
+    → (at : ℕ) → found.place ≡ Ok at → (key : Key) → key ≡ slice_index_or kept.keys at key → IsKeyAt kept found.address at key
+found_key kept index seen blocks bytes rounded has found is_found at is key there = record {
+  rise = has.rise;
+  have = has.rows;
+  stands = found_stands kept.keys index seen found is_found at is;
+  there = there;
+}

@@ -8,28 +8,23 @@ use Rattle.mtrace_replay.specs.declared.keys.Chunk.{Chunk}
 use Rattle.mtrace_replay.specs.declared.keys.Keys.TheInside.{Inside}
 use Rattle.std.specs.Vec.{vec_capacity}
 use Rattle.std.specs.Prelude.{min}
-use Rattle.mtrace_replay.specs.Keys.{Rows, row_number, row_at, Kept, IsWhole, AreWhole, AreChunks, all_keys, all_rows, KeepsRows, SetsRow}
+use Rattle.mtrace_replay.specs.Keys.{Rows, row_number, row_at, Kept, IsWholeChunk, AreWholeChunks, AreChunks, all_keys, all_rows, KeepsRows, SetsRow}
 use Rattle.mtrace_replay.proofs.Flat.{Each, flat_length, flat_at, flat_put, flat_same}
 
-pub each_keys : (chunks : List Chunk) → AreWhole chunks → Each (λ (c : Chunk). c.keys) chunks
+pub each_keys : (chunks : List Chunk) → AreWholeChunks chunks → Each (λ (c : Chunk). c.keys) chunks
 each_keys [] whole = tt
 each_keys (c ∷ chunks) whole = (whole.0.keys, each_keys chunks whole.1)
 
-pub each_rows : (chunks : List Chunk) → AreWhole chunks → Each (λ (c : Chunk). c.rows) chunks
+pub each_rows : (chunks : List Chunk) → AreWholeChunks chunks → Each (λ (c : Chunk). c.rows) chunks
 each_rows [] whole = tt
 each_rows (c ∷ chunks) whole = (whole.0.rows, each_rows chunks whole.1)
 
-pub whole_at : (chunks : List Chunk) (q : ℕ) (e : Chunk) → AreWhole chunks → q < length chunks → IsWhole (get_or chunks q e)
+pub whole_at : (chunks : List Chunk) (q : ℕ) (e : Chunk) → AreWholeChunks chunks → q < length chunks → IsWholeChunk (get_or chunks q e)
 whole_at [] q e whole within = absurd (omega (arith, within))
 whole_at (c ∷ chunks) zero e whole within = whole.0
 whole_at (c ∷ chunks) (suc q) e whole within = whole_at chunks q e whole.1 (omega (arith, within))
 
-pub whole_set : (chunks : List Chunk) (q : ℕ) (new : Chunk) → AreWhole chunks → IsWhole new → AreWhole (set chunks q new)
-whole_set [] q new whole is = tt
-whole_set (c ∷ chunks) zero new whole is = (is, whole.1)
-whole_set (c ∷ chunks) (suc q) new whole is = (whole.0, whole_set chunks q new whole.1 is)
-
-pub whole_push : (chunks : List Chunk) (new : Chunk) → AreWhole chunks → IsWhole new → AreWhole (chunks ++ new ∷ [])
+pub whole_push : (chunks : List Chunk) (new : Chunk) → AreWholeChunks chunks → IsWholeChunk new → AreWholeChunks (chunks ++ new ∷ [])
 whole_push [] new whole is = (is, tt)
 whole_push (c ∷ chunks) new whole is = (whole.0, whole_push chunks new whole.1 is)
 
@@ -40,7 +35,7 @@ take_put (suc n) [] k a = refl
 take_put (suc n) (x ∷ xs) zero a = refl
 take_put (suc n) (x ∷ xs) (suc k) a = ap (λ rest. x ∷ rest) (take_put n xs k a)
 
-module _ (chunks : List Chunk) (whole : AreWhole chunks) where
+module _ (chunks : List Chunk) (whole : AreWholeChunks chunks) where
   pub rows_length : length (all_rows chunks) ≡ 64 * length chunks
   rows_length = flat_length (λ (c : Chunk). c.rows) chunks (each_rows chunks whole)
 
@@ -115,7 +110,7 @@ module _ (inside : Inside) (has : AreChunks inside.chunks.items (vec_capacity in
   covers count n all = ((λ less. omega (arith, rows_are, less, all)), (λ more. omega (arith, rows_are, more, all)))
 
   -- one more chunk
-  pub added_has : (new : Chunk) → IsWhole new → AreChunks (chunks ++ new ∷ []) memory len room inside.most
+  pub added_has : (new : Chunk) → IsWholeChunk new → AreChunks (chunks ++ new ∷ []) memory len room inside.most
   added_has new new_whole = record {
     whole = whole_push chunks new has.whole new_whole;
     used = omega (arith, has.used, length-append chunks (new ∷ []));

@@ -17,7 +17,7 @@ mod HoldingLemmas
 mod IndexLemmas
 mod KeyLemmas
 mod KeysLemmas
-mod Living
+mod HeldStayLive
 mod LogRows
 mod LookLemmas
 mod Moments
@@ -29,17 +29,17 @@ mod RunLemmas
 mod RunsAgain
 pub mod SaveLemmas
 mod SearchLemmas
-mod Served
+mod FreeAndRealloc
 mod SiteLemmas
 mod SiteRows
 mod SitesLemmas
 mod SlotLemmas
 mod SortedLemmas
-mod Standing
+mod OneLineMore
 mod StartLemmas
 mod StartSteps
 mod StepLemmas
-mod Stood
+mod LiveBefore
 mod SurePool
 mod TextLemmas
 mod TimelineLemmas

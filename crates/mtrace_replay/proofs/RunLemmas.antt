@@ -26,7 +26,7 @@ use Rattle.mtrace_replay.specs.Replay.{Replayed, StandsFor, entries, added_diagn
 use Rattle.mtrace_replay.specs.declared.report.Report.{Report}
 use Rattle.mtrace_replay.specs.declared.report.Report.TheVariants.{Nothing}
 use Rattle.mtrace_replay.specs.declared.totals.Totals.{Totals}
-use Rattle.mtrace_replay.specs.Run.{text_of_notes, whole_text, end_text, StopsAtRead, StopsAtWrite, Reports, Replays, EndsAt, is_some_diagnostic, is_some_entry, LineGives, LineBegins, HasReplayed}
+use Rattle.mtrace_replay.specs.Run.{text_of_notes, whole_text, end_text, StopsAtRead, StopsAtWrite, Reports, HoldsAtEnd, EndsAt, is_some_diagnostic, is_some_entry, LineGives, LineBegins, HasReplayed}
 use Rattle.mtrace_replay.proofs.Moments.{moments-none, moments-line}
 use Rattle.mtrace_replay.specs.Replaying.{IsReplaying}
 use Rattle.mtrace_replay.proofs.ReplayingLemmas.{prepend_nothing, replaying_start, replaying_line, replaying_end, replaying_fault, line_read, reverse-more}
@@ -252,5 +252,5 @@ ends_at settings replay end has_diagnostics status reader_old reader_new writer_
 
 -- and what its heap holds
 pub replays_by : (settings : Settings) (status : Status) (replay : Replayed) (reader_old reader_new : ReaderState) (writer_old writer_new : WriterState)
-    → EndsAt settings status replay reader_old reader_new writer_old writer_new → Replays settings status replay.content reader_old reader_new writer_old writer_new
+    → EndsAt settings status replay reader_old reader_new writer_old writer_new → HoldsAtEnd settings status replay.content reader_old reader_new writer_old writer_new
 replays_by settings status replay reader_old reader_new writer_old writer_new ends = record { reports = ends.reports; content_is = ends.stands.content_is }

@@ -1,17 +1,20 @@
--- A run that reads its log again, and did nothing.
-use Rattle.std.proofs.Common.{List, refl}
-use Rattle.std.specs.Prelude.{◌↔◌, Result, Err, IsErrOf, IsTrue}
-use Rattle.mtrace_log.specs.Shown.{ReaderState, WriterState}
+-- A run that reads its log again.
+use Rattle.std.proofs.Common.{◌≡◌, ℕ, List, refl, inr}
+use Rattle.std.proofs.lemmas.Result.{IfErr-weaker}
+use Rattle.std.specs.Prelude.{◌↔◌, Result, Ok, Err, IfErr, IsErrOf, IsTrue}
+use Rattle.mtrace_log.specs.Shown.{Bytes, ReaderState, WriterState}
 use Rattle.mtrace_replay.specs.declared.report.Report.TheVariants.{Nothing}
 use Rattle.mtrace_replay.specs.declared.settings.Settings.{Settings}
 use Rattle.mtrace_replay.specs.declared.status.Status.{Status}
 use Rattle.mtrace_replay.specs.declared.status.RunFault.{RunFault}
-use Rattle.mtrace_replay.specs.declared.status.RunFault.TheVariants.{BadSettings}
+use Rattle.mtrace_replay.specs.declared.status.RunFault.TheVariants.{Read, Write, BadSettings}
 use Rattle.mtrace_replay.specs.Settings.{are_bad}
 use Rattle.mtrace_replay.specs.Moment.{ReadLine}
 use Rattle.mtrace_replay.specs.Run.{RunEnds}
-use Rattle.mtrace_replay.specs.Again.{RunsAgain}
+use Rattle.mtrace_replay.specs.Saving.{PutsAndFlushes}
+use Rattle.mtrace_replay.specs.Again.{Follows, RunsAgain}
 
+-- nothing was done
 pub again_undone : {R W : Type 0} (settings : Settings) (After : List ReadLine → Result Status RunFault → R → R → W → W → Type 0) (reads : R → ReaderState) (writes : W → WriterState)
     (fault : RunFault) (reader : R) (writer : W) → RunEnds Nothing settings reads writes (Err fault) reader reader writer writer
     → IsErrOf {T = Status} (Err fault) BadSettings ↔ IsTrue (are_bad settings) → RunsAgain settings After reads writes (Err fault) reader reader writer writer
@@ -22,3 +25,22 @@ again_undone settings After reads writes fault reader writer ends bad = record {
   runs = record { ends = ends; bad_settings = bad; whole = refl };
   goes_on = (refl, (refl, refl));
 }
+
+-- where only the writer fails the reader doesn't
+never_read : (result : Result Status RunFault) → IfErr result (λ fault. fault ≡ Write) → IsErrOf result Read → ⊥
+never_read (Ok status) only is = cc
+never_read (Err fault) only is = cc
+
+module _ {R W : Type 0} (Tells : Bytes → List ℕ → Type 0) (HasWorked Fails : ReaderState → ReaderState → Type 0)
+    (reads : R → ReaderState) (writes : W → WriterState) (reader_old reader_new : R) (writer_old writer_new : W) where
+  -- what follows where a text was told
+  pub follows_told : (result : Result Status RunFault) (text : List ℕ) → IfErr result (λ fault. fault ≡ Write) → Tells (reads reader_new).left text
+      → PutsAndFlushes result text (writes writer_old) (writes writer_new) → HasWorked (reads reader_old) (reads reader_new)
+      → Follows Tells HasWorked Fails reads writes result reader_old reader_new writer_old writer_new
+  follows_told result text only tells put worked = record {
+    faults = IfErr-weaker result _ _ (λ fault is. inr is) only;
+    told = λ _. (text, tells, put);
+    reader_not_failed = λ _. worked;
+    read_fault = λ is. absurd (never_read result only is);
+    nothing_put = λ is. absurd (never_read result only is);
+  }

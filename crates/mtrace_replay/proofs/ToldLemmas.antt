@@ -4,7 +4,7 @@ use Rattle.std.specs.Io.KnownBytes.{prepend_known, IsAtEnd}
 use Rattle.mtrace_log.specs.Lines.{lines_of, ReadAs}
 use Rattle.mtrace_log.specs.HasRead.{whole_lines, HasReadAll}
 use Rattle.mtrace_log.proofs.LineLemmas.{lines_of-whole_lines}
-use Rattle.mtrace_log.proofs.SpellingLemmas.{Reads-same}
+use Rattle.mtrace_log.proofs.SpellingLemmas.{ReadsAs-same}
 use Rattle.mtrace_replay.specs.Moment.{ReadLine}
 use Rattle.mtrace_log.specs.Shown.{Bytes}
 use Rattle.mtrace_replay.specs.Again.{HasReadFirst}
@@ -16,7 +16,7 @@ reads_first [] more (answer ∷ first) all read whole = absurd read
 reads_first (line ∷ lines) more [] all read whole = absurd read
 reads_first (line ∷ lines) more (answer ∷ first) [] read whole = absurd whole
 reads_first (line ∷ lines) more (answer ∷ first) (other ∷ all) read whole =
-    ap₂ (λ (one : ReadLine) (rest : List ReadLine). one ∷ rest) (Reads-same line answer other read.0 whole.0) (reads_first lines more first all read.1 whole.1)
+    ap₂ (λ (one : ReadLine) (rest : List ReadLine). one ∷ rest) (ReadsAs-same line answer other read.0 whole.0) (reads_first lines more first all read.1 whole.1)
 
 -- what was taken of a told text is its beginning
 told_front : (text taken : List ℕ) (after : Bytes) → Some text ≡ prepend_known taken after → (rest : List ℕ) × (text ≡ taken ++ rest) × (after ≡ Some rest)

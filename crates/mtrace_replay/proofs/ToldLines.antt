@@ -27,17 +27,6 @@ all_of_one P number is (suc k) other below = absurd (omega (arith, below))
 has_one : (number : ℕ) → Contains (number ∷ []) number
 has_one number = (0, omega arith, refl)
 
-rising_one : (number : ℕ) → IsStrictlyIncreasing (number ∷ [])
-rising_one number k below = absurd (omega (arith, below))
-
--- before the first part
-pub told_none : (lines peak parts : ℕ) → AreToldUpTo lines peak parts 0 (0 ∷ [])
-told_none lines peak parts = record {
-  rising = rising_one 0;
-  within = all_of_one (λ line. IsTold lines peak parts line × (line ≤ 0)) 0 (inl refl, omega arith);
-  all = λ line told none. subst (Contains (0 ∷ [])) (let is : 0 ≡ line = omega (arith, none) in is) (has_one 0);
-}
-
 -- a number behind those below it
 rising_more : (told : List ℕ) (last number : ℕ) → IsStrictlyIncreasing told → All (λ line. line ≤ last) told → last < number → IsStrictlyIncreasing (told ++ number ∷ [])
 rising_more told last number rising within above k below = by_place (cases_lt (k + 1) (length told))

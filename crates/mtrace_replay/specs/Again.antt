@@ -58,15 +58,10 @@ pub record ReplaysFirst {E : Type 0} (start : ReaderState) (Fails : Type 0) (man
   pub whole : reader_new.whole ≡ reader_old.whole
   pub records : replay_new.content.records ≡ replay_old.content.records
 
--- an answer, but for what it gives
-abbrev pub done_of : {T E : Type 0} → Result T E → Result (Unit {0}) E
-done_of (Ok given) = Ok tt
-done_of (Err fault) = Err fault
-
 -- What follows a first reading. The log was read again, and a text was written: a beginning where the writer failed,
 -- nothing where the reader did.
 pub record Follows {R W : Type 0} (Tells : (left_new : Bytes) (text : List ℕ) → Type 0) (HasWorked Fails : (reader_old reader_new : ReaderState) → Type 0) (reads : R → ReaderState) (writes : W → WriterState)
-    (result : Result (Unit {0}) RunFault) (reader_old reader_new : R) (writer_old writer_new : W) : Type 0 where
+    (result : Result Status RunFault) (reader_old reader_new : R) (writer_old writer_new : W) : Type 0 where
   pub faults : IfErr result (λ fault. (fault ≡ Read) ⊎ (fault ≡ Write))
   pub told : result ≢ Err Read → (text : List ℕ) × Tells (reads reader_new).left text × PutsAndFlushes result text (writes writer_old) (writes writer_new)
   pub reader_not_failed : result ≢ Err Read → HasWorked (reads reader_old) (reads reader_new)

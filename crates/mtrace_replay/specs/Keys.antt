@@ -32,16 +32,16 @@ abbrev pub all_rows : List Chunk → List Entry
 all_rows chunks = flat_map (λ chunk. chunk.rows) chunks
 
 -- each chunk has 64 keys and 64 rows
-pub record IsWhole (chunk : Chunk) : Type 0 where
+pub record IsWholeChunk (chunk : Chunk) : Type 0 where
   pub keys : length chunk.keys ≡ 64
   pub rows : length chunk.rows ≡ 64
 
-abbrev pub AreWhole : List Chunk → Type 0
-AreWhole chunks = AllByRecursion IsWhole chunks
+abbrev pub AreWholeChunks : List Chunk → Type 0
+AreWholeChunks chunks = AllByRecursion IsWholeChunk chunks
 
 -- the chunks have the keys in use, and there is memory for exactly as many chunks as the index was made for
 pub record AreChunks (chunks : List Chunk) (memory len room most : ℕ) : Type 0 where
-  pub whole : AreWhole chunks
+  pub whole : AreWholeChunks chunks
   pub used : len ≤ 64 * length chunks
   pub within : len ≤ room
   pub fits : room ≤ most

@@ -53,7 +53,7 @@ pub record Reports (report : Report) (settings : Settings) (status : Status) (re
   pub status_is : status ≡ clean_or_found (diagnostics settings lines) (entries_of all)
 
 -- a run without a report, and what its heap holds in the end
-pub record Replays (settings : Settings) (status : Status) (content : Bare) (reader_old reader_new : ReaderState) (writer_old writer_new : WriterState) : Type 0 where
+pub record HoldsAtEnd (settings : Settings) (status : Status) (content : Bare) (reader_old reader_new : ReaderState) (writer_old writer_new : WriterState) : Type 0 where
   pub reports : Reports Nothing settings status reader_old reader_new writer_old writer_new
   pub content_is : content ≡ content_after (started settings) (history settings reports.lines)
 

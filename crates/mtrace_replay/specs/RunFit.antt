@@ -19,7 +19,7 @@ use Rattle.mtrace_replay.specs.Fit.{one_pool, greatest_settings, enough_records,
 use Rattle.mtrace_replay.specs.Texts.{greatest_line, most_line, fitted_lines, untried_lines, refused_line}
 use Rattle.mtrace_replay.specs.Run.{NothingDone}
 use Rattle.mtrace_replay.specs.Replay.{Replayed}
-use Rattle.mtrace_replay.specs.Again.{HasReadFirst, FailsAgain, done_of, Follows, RunsAgain}
+use Rattle.mtrace_replay.specs.Again.{HasReadFirst, FailsAgain, Follows, RunsAgain}
 
 -- how many of the lines are refused on a heap by the settings
 abbrev pub refusals : Settings → List ReadLine → ℕ
@@ -97,10 +97,10 @@ pub record ReadsAgain {T E : Type 0} (many : ℕ) (Tells : T → Type 0) (result
   pub read : OnErr result (FailsLater many old new)
 
 -- the log whose lines these are was read again for each size, and what they tell was written
-abbrev pub FitFollows : {R W T : Type 0} → (step : Option ℕ) (lines : List ReadLine) (reads : R → ReaderState) (writes : W → WriterState)
-    → Result T RunFault → (reader_old reader_new : R) (writer_old writer_new : W) → Type 0
+abbrev pub FitFollows : {R W : Type 0} → (step : Option ℕ) (lines : List ReadLine) (reads : R → ReaderState) (writes : W → WriterState)
+    → Result Status RunFault → (reader_old reader_new : R) (writer_old writer_new : W) → Type 0
 FitFollows step lines reads writes result reader_old reader_new writer_old writer_new =
-    Follows (λ left_new. TellsFit step lines (reads reader_old).whole) (λ old new. NoneFailed old.calls new.calls) (FailsLater (length lines)) reads writes (done_of result) reader_old reader_new writer_old writer_new
+    Follows (λ left_new. TellsFit step lines (reads reader_old).whole) (λ old new. NoneFailed old.calls new.calls) (FailsLater (length lines)) reads writes result reader_old reader_new writer_old writer_new
 
 -- What a run leaves that tells how large a pool a log needs. `BadSettings` comes exactly where the step is bad, and
 -- then nothing is done. Else there is first a run without a report on the greatest pool, and then the log is read

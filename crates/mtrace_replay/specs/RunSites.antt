@@ -16,7 +16,7 @@ use Rattle.mtrace_replay.specs.Entry.{Entry}
 use Rattle.mtrace_replay.specs.Gather.{Grouped}
 use Rattle.mtrace_replay.specs.Replay.{Replayed, StandsFor}
 use Rattle.mtrace_replay.specs.Texts.{total_size, section, peak_words, end_words, refused_line}
-use Rattle.mtrace_replay.specs.Again.{HasReadFirst, begun_again, FailsAgain, done_of, Follows, RunsAgain}
+use Rattle.mtrace_replay.specs.Again.{HasReadFirst, begun_again, FailsAgain, Follows, RunsAgain}
 
 -- how many entries there are, of how many bytes, and their sites
 pub record Groups (entries : List Entry) (sum : Sum) (grouped : Grouped) : Type 0 where
@@ -60,11 +60,11 @@ FailsAgainAtPeak settings lines reader_old reader_new =
     (totals : Totals) × AreTotals (started settings) (history settings lines) totals × FailsAgain totals.peak_line reader_old reader_new
 
 -- the log whose lines these are was read again, and who holds its memory was written
-abbrev pub SitesFollow : {R W T : Type 0} → (settings : Settings) (lines : List ReadLine) (reads : R → ReaderState) (writes : W → WriterState)
-    → Result T RunFault → (reader_old reader_new : R) (writer_old writer_new : W) → Type 0
+abbrev pub SitesFollow : {R W : Type 0} → (settings : Settings) (lines : List ReadLine) (reads : R → ReaderState) (writes : W → WriterState)
+    → Result Status RunFault → (reader_old reader_new : R) (writer_old writer_new : W) → Type 0
 SitesFollow settings lines reads writes result reader_old reader_new writer_old writer_new =
     Follows (TellsSites settings lines (reads reader_old).whole) (λ old new. HasNotFailed (begun_again old).calls new.calls) (FailsAgainAtPeak settings lines) reads writes
-    (done_of result) reader_old reader_new writer_old writer_new
+    result reader_old reader_new writer_old writer_new
 
 -- What a run leaves that tells who holds the memory of a log. There is first a run without a report, and then the log
 -- is read again.

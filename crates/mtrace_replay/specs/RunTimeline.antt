@@ -18,7 +18,7 @@ use Rattle.mtrace_replay.specs.Replay.{Replayed, StandsFor}
 use Rattle.mtrace_replay.specs.Texts.{greatest, timeline_text}
 use Rattle.mtrace_replay.specs.Timeline.{is_bad_parts, AreTold, IsPoint, lines_of}
 use Rattle.mtrace_replay.specs.Run.{NothingDone}
-use Rattle.mtrace_replay.specs.Again.{HasReadFirst, begun_again, FailsAgain, done_of, Follows, RunsAgain}
+use Rattle.mtrace_replay.specs.Again.{HasReadFirst, begun_again, FailsAgain, Follows, RunsAgain}
 
 -- The text of what is held over the lines of a log. As many lines as it has are read again, from the first byte on. Each point
 -- is of the first of them.
@@ -38,11 +38,11 @@ FailsAgainBefore settings lines reader_old reader_new =
     (totals : Totals) × AreTotals (started settings) (history settings lines) totals × FailsAgain totals.lines reader_old reader_new
 
 -- the log whose lines these are was read again, and what is held over its lines was written
-abbrev pub TimelineFollows : {R W T : Type 0} → (settings : Settings) (parts : ℕ) (lines : List ReadLine) (reads : R → ReaderState) (writes : W → WriterState)
-    → Result T RunFault → (reader_old reader_new : R) (writer_old writer_new : W) → Type 0
+abbrev pub TimelineFollows : {R W : Type 0} → (settings : Settings) (parts : ℕ) (lines : List ReadLine) (reads : R → ReaderState) (writes : W → WriterState)
+    → Result Status RunFault → (reader_old reader_new : R) (writer_old writer_new : W) → Type 0
 TimelineFollows settings parts lines reads writes result reader_old reader_new writer_old writer_new =
     Follows (TellsTimeline settings parts lines (reads reader_old).whole) (λ old new. HasNotFailed (begun_again old).calls new.calls) (FailsAgainBefore settings lines) reads writes
-    (done_of result) reader_old reader_new writer_old writer_new
+    result reader_old reader_new writer_old writer_new
 
 -- What a run leaves that tells what is held over the lines of a log. Where the log can't be cut in so many parts, nothing is done.
 -- Else there is first a run without a report, and then the log is read again.

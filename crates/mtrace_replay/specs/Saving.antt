@@ -12,7 +12,7 @@ use Rattle.mtrace_replay.specs.declared.status.Status.{Status}
 use Rattle.mtrace_replay.specs.declared.status.RunFault.{RunFault}
 use Rattle.mtrace_replay.specs.declared.status.RunFault.TheVariants.{Image}
 use Rattle.mtrace_replay.specs.Started.{Bare}
-use Rattle.mtrace_replay.specs.Run.{Runs, Replays}
+use Rattle.mtrace_replay.specs.Run.{Runs, HoldsAtEnd}
 
 -- what a call leaves that saves a heap of which this is the content, slots left out
 pub record PutsImage {T E : Type 0} (result : Result T E) (content : Bare) (old new : WriterState) : Type 0 where
@@ -37,7 +37,7 @@ pub record SavesLast {T E : Type 0} (result : Result T E) (content : Bare) (old 
 pub record EndsWithImage (settings : Settings) (status : Status) (reader_old reader_new : ReaderState) (writer_old writer_new : WriterState)
     (result : Result Status RunFault) (image_old image_new : WriterState) : Type 0 where
   pub content : Bare
-  pub replays : Replays settings status content reader_old reader_new writer_old writer_new
+  pub replays : HoldsAtEnd settings status content reader_old reader_new writer_old writer_new
   pub saves : SavesLast result content image_old image_new
   pub answer : (result ≡ Ok status) ⊎ (result ≡ Err Image)
 

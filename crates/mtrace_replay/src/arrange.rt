@@ -84,7 +84,7 @@ fn is_its_place(left: usize, held: usize, end: usize, all: usize) -> bool
 }
 
 /// Spreads the first this many keys over all places, with vacant ones before each.
-fn spread(keys: &mut Keys, held: usize)
+fn space_out(keys: &mut Keys, held: usize)
     requires some { 0 < held }
     requires within { held ≤ length keys.old.keys }
     requires rise { RiseFrom 0 (take held keys.old.keys) }
@@ -127,5 +127,5 @@ pub(crate) fn arrange(keys: &mut Keys, came: &Came)
     }
     let vacant = came.share(keys.room() - held).min(held);
     keys.resize(held + vacant);
-    spread(keys, held);
+    space_out(keys, held);
 }

@@ -6,14 +6,13 @@ ghost use Rattle.mtrace_replay.specs.Again.{FailsAgain};
 ghost use Rattle.tlsf_heap.specs.Pools.{most_records};
 ghost use Rattle.mtrace_replay.specs.Moment.{ReadLine};
 ghost use Rattle.mtrace_replay.specs.Replay.{StandsFor};
-ghost use Rattle.mtrace_replay.specs.Saving.{PutsAndFlushes};
 ghost use Rattle.mtrace_replay.specs.Settings.{are_bad};
 ghost use Rattle.mtrace_replay.specs.Fit.{one_pool, greatest_settings, enough_records, is_bad_step, step_of, first_number, last_number, multiples, Verdict, fitted as fitted_by};
 ghost use Rattle.mtrace_replay.specs.RunFit.{IsTried, TriesLog, AreVerdicts, TriesRanges, TellsFit, ReadsAgain, FitFollows, RunsFit};
 
 use crate::fit_text::{fitted_text, untried_text};
 use crate::fitted::Fitted;
-use crate::flush::put_and_flush;
+use crate::flush::flush_behind;
 use crate::line_text::LineText;
 use crate::replay::Replay;
 use crate::report::Report;
@@ -22,7 +21,7 @@ use crate::settings::{GREATEST_POOL, Settings, UNIT};
 use crate::status::{RunFault, Status};
 use crate::tried::is_served;
 use crate::watch::Watch;
-use mtrace_log::{Again, Failed, Sink};
+use mtrace_log::{Again, Failed, Sink, put_all};
 use std::alloc::Global;
 use tlsf_heap::{Heap, MOST_RECORDS, sure_pool};
 
@@ -224,26 +223,26 @@ fn fit_text<R: Again, T: Watch>(
     Ok(fitted_text(totals, most, trial.records, fitted, sure))
 }
 
-/// Tells how large a pool the log needs that was replayed on the greatest one.
+/// Tells how large a pool the log needs that was replayed on the greatest one. Answers this status.
 fn tell_fit<R: Again, W: Sink, T: Watch>(
     reader: &mut R,
     writer: &mut W,
     replay: &mut Replay<Heap>,
     step: Option<u64>,
+    status: Status,
     watch: &T,
-) -> Result<(), RunFault>
+) -> Result<Status, RunFault>
     requires good { is_bad_step step ≡ false }
     requires records { replay.old.content.records ≡ most_records }
-    ensures { (lines : List ReadLine) → StandsFor replay.old greatest_settings (reverse lines)
+    ensures answer { IfOk result (λ answered. answered ≡ status) }
+    ensures told { (lines : List ReadLine) → StandsFor replay.old greatest_settings (reverse lines)
         → FitFollows step lines R.shown W.shown result reader.old reader.new writer.old writer.new }
 {
     let Ok(text) = fit_text(reader, replay, step, watch) else {
         return Err(RunFault::Read);
     };
-    match put_and_flush(writer, text.as_slice()) {
-        Ok(()) => Ok(()),
-        Err(_) => Err(RunFault::Write),
-    }
+    let put = put_all(writer, text.as_slice());
+    flush_behind(writer, put, status)
 }
 
 /// Reads a log of mtrace(3), and replays it on the greatest pool with the most records. Writes what is wrong with its
@@ -279,8 +278,5 @@ pub fn run_fit<R: Again, W: Sink, T: Watch>(
         Ok(ended) => ended,
         Err(fault) => return Err(fault),
     };
-    match tell_fit(reader, writer, &mut ended.replay, step, watch) {
-        Ok(()) => Ok(ended.status),
-        Err(fault) => Err(fault),
-    }
+    tell_fit(reader, writer, &mut ended.replay, step, ended.status, watch)
 }

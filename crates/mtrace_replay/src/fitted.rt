@@ -1,6 +1,6 @@
 //! What the sizes tell that a log was tried on.
 
-ghost use Rattle.std.specs.Prelude.{◌≡◌, ◌++◌, ◌∷◌, ◌+◌, ◌<◌, ◌≤◌, ◌^◌, [], List, length};
+ghost use Rattle.std.specs.Prelude.{◌≡◌, ◌++◌, ◌∷◌, ◌+◌, ◌<◌, ◌≤◌, ◌^◌, [], List};
 ghost use Rattle.mtrace_replay.specs.Fit.{Verdict, fitted};
 
 /// What the sizes tell that were tried so far, in rising order.

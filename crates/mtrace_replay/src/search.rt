@@ -1,6 +1,6 @@
 //! Where an address stands among the keys of an index, and where a new one comes between them.
 
-ghost use Rattle.std.specs.Prelude.{◌≡◌, ℕ, ◌*◌, ◌<◌, ◌≤◌, length, take, drop, IfOk, IfErr, IsTrue};
+ghost use Rattle.std.specs.Prelude.{◌≡◌, ℕ, ◌*◌, ◌<◌, ◌≤◌, length, IfOk, IfErr, IsTrue};
 ghost use Rattle.std.specs.List.{remove};
 ghost use Rattle.mtrace_replay.specs.Key.{all_held, RiseFrom};
 ghost use Rattle.mtrace_replay.specs.Keys.{KeepsRows};

@@ -1,6 +1,6 @@
 //! The run that tells who holds the memory of a log.
 
-ghost use Rattle.std.specs.Prelude.{◌≡◌, ◌∷◌, ◌++◌, ◌≤◌, ◌↔◌, List, [], reverse, flat_map, IfOk, IsErrOf, IsTrue};
+ghost use Rattle.std.specs.Prelude.{◌≡◌, ◌++◌, ◌≤◌, ◌↔◌, List, [], reverse, flat_map, IfOk, IsErrOf, IsTrue};
 ghost use Rattle.mtrace_log.specs.Output.{Puts};
 ghost use Rattle.mtrace_replay.specs.declared.settings.Settings.{Settings};
 ghost use Rattle.mtrace_replay.specs.Settings.{are_bad};
@@ -109,7 +109,7 @@ fn put_both<W: Sink>(
     put_all(writer, refused_text(totals.refused).as_slice())
 }
 
-/// Reads the log again, up to the line of the peak, and puts who holds its memory.
+/// Reads the log again, up to the line of the peak, and puts who holds its memory. Answers this status.
 fn tell_sites<'a, R: Again, W: Sink>(
     reader: &mut R,
     writer: &mut W,
@@ -117,12 +117,14 @@ fn tell_sites<'a, R: Again, W: Sink>(
     at_peak: &'a mut Replay<Heap>,
     mut end: Grouping<'a>,
     mut peak: Grouping<'a>,
-) -> Result<(), RunFault>
+    status: Status,
+) -> Result<Status, RunFault>
     requires start { at_peak.old.totals.lines ≡ 0 }
     requires as_few { at_peak.old.content.records ≡ at_end.now.content.records }
     requires end_room { at_end.now.content.records ≤ end.room }
     requires peak_room { at_end.now.content.records ≤ peak.room }
-    ensures { (settings : Settings) (lines : List ReadLine) → StandsFor at_end.now settings (reverse lines) → StandsFor at_peak.old settings []
+    ensures answer { IfOk result (λ answered. answered ≡ status) }
+    ensures told { (settings : Settings) (lines : List ReadLine) → StandsFor at_end.now settings (reverse lines) → StandsFor at_peak.old settings []
         → SitesFollow settings lines R.shown W.shown result reader.old reader.new writer.old writer.new }
 {
     let totals = at_end.totals();
@@ -132,10 +134,7 @@ fn tell_sites<'a, R: Again, W: Sink>(
     };
     let peak_sum = group_held(at_peak, &mut peak);
     let put = put_both(writer, totals, peak_sum, peak.sites(), end_sum, end.sites());
-    match flush_behind(writer, put) {
-        Ok(()) => Ok(()),
-        Err(_) => Err(RunFault::Write),
-    }
+    flush_behind(writer, put, status)
 }
 
 /// What a run takes memory for beside its first replay. This is a replay to the peak, and room to group what is held
@@ -187,8 +186,13 @@ pub fn run_sites<R: Again, W: Sink>(
         Ok(ended) => ended,
         Err(fault) => return Err(fault),
     };
-    match tell_sites(reader, writer, &ended.replay, &mut at_peak, end, peak) {
-        Ok(()) => Ok(ended.status),
-        Err(fault) => Err(fault),
-    }
+    tell_sites(
+        reader,
+        writer,
+        &ended.replay,
+        &mut at_peak,
+        end,
+        peak,
+        ended.status,
+    )
 }

@@ -1,16 +1,15 @@
 //! How much memory is always enough for a program, without a log of it.
 
-ghost use Rattle.std.specs.Prelude.{◌≡◌, ◌++◌, ◌<◌, ◌^◌};
-ghost use Rattle.mtrace_replay.specs.Saving.{PutsAndFlushes};
+ghost use Rattle.std.specs.Prelude.{◌≡◌, ◌<◌};
 ghost use Rattle.mtrace_replay.specs.Size.{align_of, are_bad_bounds, blocks_bytes, size_text, RunsSize};
 
 use crate::fit_text::{push_records, push_size_line};
-use crate::flush::put_and_flush;
+use crate::flush::flush_behind;
 use crate::line_text::LineText;
 use crate::status::{RunFault, Status};
 use crate::step::rounded_bytes;
 use arrayvec::ArrayVec;
-use mtrace_log::Sink;
+use mtrace_log::{Sink, put_all};
 use tlsf_heap::{class_size, is_alignment, sure_pool};
 
 /// What a program keeps to, whatever it asks for and in whatever order.
@@ -78,8 +77,6 @@ pub fn run_size<W: Sink>(writer: &mut W, bounds: Bounds) -> Result<Status, RunFa
     if are_bad(bounds) {
         return Err(RunFault::BadSettings);
     }
-    match put_and_flush(writer, size_text(bounds).as_slice()) {
-        Ok(()) => Ok(Status::Clean),
-        Err(_) => Err(RunFault::Write),
-    }
+    let put = put_all(writer, size_text(bounds).as_slice());
+    flush_behind(writer, put, Status::Clean)
 }

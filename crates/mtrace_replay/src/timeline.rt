@@ -1,12 +1,12 @@
 //! The run that tells what is held over the lines of a log.
 
-ghost use Rattle.std.specs.Prelude.{◌≡◌, ◌∷◌, ◌+◌, ◌<◌, ◌≤◌, ◌↔◌, ◌++◌, false, List, [], ℕ, reverse, flat_map, length, vec_capacity, IfOk, OnOk, IsErrOf, IsTrue};
+ghost use Rattle.std.specs.Prelude.{◌≡◌, ◌+◌, ◌<◌, ◌≤◌, ◌↔◌, false, List, [], reverse, flat_map, length, vec_capacity, IfOk, IsErrOf, IsTrue};
 ghost use Rattle.std.specs.List.Sorted.{IsStrictlyIncreasing};
 ghost use Rattle.mtrace_log.specs.Output.{Puts};
 ghost use Rattle.mtrace_replay.specs.Settings.{are_bad};
 ghost use Rattle.mtrace_replay.specs.Moment.{ReadLine};
 ghost use Rattle.mtrace_replay.specs.Replay.{StandsFor};
-ghost use Rattle.mtrace_replay.specs.Texts.{point_text, timeline_words, timeline_text};
+ghost use Rattle.mtrace_replay.specs.Texts.{point_text, timeline_text};
 ghost use Rattle.mtrace_replay.specs.RunTimeline.{HasRoom, ReadsPoints, TimelineFollows, RunsTimeline};
 
 use crate::again::replay_up_to;
@@ -94,7 +94,7 @@ impl Room {
     }
 }
 
-/// Reads the log again, and puts what was held after the lines that are told.
+/// Reads the log again, and puts what was held after the lines that are told. Answers this status.
 fn tell_timeline<R: Again, W: Sink>(
     reader: &mut R,
     writer: &mut W,
@@ -102,12 +102,14 @@ fn tell_timeline<R: Again, W: Sink>(
     settings: Settings,
     parts: u32,
     mut room: Room,
-) -> Result<(), RunFault>
+    status: Status,
+) -> Result<Status, RunFault>
     requires good { are_bad settings ≡ false }
     requires records { replay.old.content.records ≡ settings.records }
     requires some { 0 < parts }
     requires room { HasRoom parts room.numbers room.points }
-    ensures { (lines : List ReadLine) → StandsFor replay.old settings (reverse lines)
+    ensures answer { IfOk result (λ answered. answered ≡ status) }
+    ensures told { (lines : List ReadLine) → StandsFor replay.old settings (reverse lines)
         → TimelineFollows settings parts lines R.shown W.shown result reader.old reader.new writer.old writer.new }
 {
     let totals = replay.totals();
@@ -117,10 +119,7 @@ fn tell_timeline<R: Again, W: Sink>(
         return Err(RunFault::Read);
     };
     let put = put_timeline(writer, room.points.as_slice(), totals.refused);
-    match flush_behind(writer, put) {
-        Ok(()) => Ok(()),
-        Err(_) => Err(RunFault::Write),
-    }
+    flush_behind(writer, put, status)
 }
 
 /// Room for what is told, where the settings aren't bad.
@@ -172,8 +171,13 @@ pub fn run_timeline<R: Again, W: Sink>(
         Ok(ended) => ended,
         Err(fault) => return Err(fault),
     };
-    match tell_timeline(reader, writer, &mut ended.replay, settings, parts, room) {
-        Ok(()) => Ok(ended.status),
-        Err(fault) => Err(fault),
-    }
+    tell_timeline(
+        reader,
+        writer,
+        &mut ended.replay,
+        settings,
+        parts,
+        room,
+        ended.status,
+    )
 }

@@ -3,7 +3,7 @@ mod FewRows
 mod FilledRows
 mod FromPlace
 mod LoadLemmas
-mod PlacedLemmas
+mod RoomLemmas
 mod ReallocGives
 mod SavedLemmas
 mod Values

@@ -43,11 +43,6 @@ module _ (new : Content ℕ) where
   none_chosen true false freed other another never e = absurd (never e)
   none_chosen true true freed other another never e = (refl, e)
 
-  some_chosen : (live none : Bool) (freed : Content ℕ) (other : Answered) (x : ℕ × ℕ) → cond (not live) (Err BadPointer) (cond none (Ok (None, freed)) other) ≡ Ok (Some x, new) → none ≡ false
-  some_chosen false none freed other x e = (let apart = ap is_block e in absurd (cc))
-  some_chosen true false freed other x e = refl
-  some_chosen true true freed other x e = (let apart = ap is_block e in absurd (cc))
-
   module _ (owner place known n : ℕ) (content : Content ℕ) where
     abbrev live : Bool
     live = is_live (λ other. other == known) place (blocks_of content.pools)
@@ -57,7 +52,3 @@ module _ (new : Content ℕ) where
         → ((n == 0) ≡ true) × (realloc (λ a b. a == b) another (Some (place, known)) n content ≡ Ok (None, new))
     gives_none another e = none_chosen live (n == 0) (after_free place content) (realloc_rounded owner place known (round n) content) (realloc_rounded another place known (round n) content)
         (rounded_some owner place known (round n) content) e
-
-    -- a block is given only where bytes are asked for
-    pub gives_some : (x : ℕ × ℕ) → realloc (λ a b. a == b) owner (Some (place, known)) n content ≡ Ok (Some x, new) → (n == 0) ≡ false
-    gives_some x e = some_chosen live (n == 0) (after_free place content) (realloc_rounded owner place known (round n) content) x e

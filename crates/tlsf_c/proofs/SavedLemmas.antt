@@ -4,7 +4,7 @@ use Rattle.std.specs.Prelude.{min, nat_le}
 use Rattle.std.proofs.lemmas.List.{take_at, drop_at, length-append}
 use Rattle.std.specs.Io.KnownBytes.{append_known}
 use Rattle.mtrace_log.specs.Output.{Puts, PutsAll}
-use Rattle.tlsf_c.specs.Placed.{placed, has_failed}
+use Rattle.tlsf_c.specs.Room.{put_over, has_failed}
 use Rattle.tlsf_c.specs.declared.window.Window.{Window}
 use Rattle.tlsf_c.specs.Window.{shown}
 
@@ -16,7 +16,7 @@ puts_all (Err failure) text old new puts = absurd (true≢false (sym (ap has_fai
 -- the same bytes are lent, the text is in them, and where it ends and whether it is whole is told
 pub record HasText (text : List ℕ) (old new : Window) : Type 0 where
   pub lent : new.room.ghost_name ≡ old.room.ghost_name
-  pub bytes : new.room.now ≡ placed text old.room.now
+  pub bytes : new.room.now ≡ put_over text old.room.now
   pub ends : new.end ≡ min (length text) (length old.room.now)
   pub all : new.fits ≡ nat_le (length text) (length old.room.now)
 
@@ -32,7 +32,7 @@ has_text result text old new puts first =
     let count : length new.trace.bytes - length new.room.now ≡ length text = omega (arith, ap length told, length-append room text, long) in
     record {
       lent = cc;
-      bytes = new.kept ∙ ap (λ (bytes : List ℕ). placed bytes (take (length new.room.now) new.trace.bytes)) put ∙ ap (λ (bytes : List ℕ). placed text bytes) stood;
+      bytes = new.kept ∙ ap (λ (bytes : List ℕ). put_over bytes (take (length new.room.now) new.trace.bytes)) put ∙ ap (λ (bytes : List ℕ). put_over text bytes) stood;
       ends = new.ends ∙ ap (λ (n : ℕ). min n (length new.room.now)) count ∙ ap (λ (n : ℕ). min (length text) n) long;
       all = new.all ∙ ap (λ (n : ℕ). nat_le n (length new.room.now)) count ∙ ap (λ (n : ℕ). nat_le (length text) n) long;
     }

@@ -3,7 +3,7 @@ pub mod Creation
 pub mod Given
 pub mod Lends
 pub mod Owned
-pub mod Placed
+pub mod Room
 pub mod Rows
 pub mod Saving
 pub mod Status

@@ -8,7 +8,7 @@ use Rattle.tlsf_heap.specs.declared.image_fault.ImageFault.{ImageFault}
 use Rattle.tlsf_heap.specs.declared.image_fault.ImageFault.TheVariants.{Broken, OutOfMemory, Write}
 use Rattle.tlsf_heap.specs.Counted.{Counted}
 use Rattle.tlsf_heap.specs.Images.Described.{described, IsImageOf}
-use Rattle.tlsf_c.specs.Placed.{placed}
+use Rattle.tlsf_c.specs.Room.{put_over}
 
 -- the image isn't whole: there is no room for its end
 abbrev pub no_room : ℕ
@@ -18,7 +18,7 @@ no_room = 14
 pub record SavesInto (content : Content ℕ) (status count : ℕ) (old new : List ℕ) : Type 0 where
   pub image : List ℕ
   pub is_image : IsImageOf content image
-  pub bytes : new ≡ placed image old
+  pub bytes : new ≡ put_over image old
   pub count_is : count ≡ min (length image) (length old)
   pub status_is : status ≡ (if nat_le (length image) (length old) then 0 else no_room)
 

@@ -8,9 +8,9 @@ ghost use Rattle.tlsf_c.specs.Zeros.{zeros};
 ghost use Rattle.tlsf_heap.specs.declared.refusal.Refusal.TheVariants.{OutOfMemory};
 
 use crate::handle::Handle;
-use crate::loose::Loose;
 use crate::made::Made;
 use crate::status::{BAD_COUNT, OUT_OF_MEMORY, SERVED};
+use crate::unboxed::Unboxed;
 use std::alloc::Global;
 use std::mem::replace;
 use tlsf_heap::{Heap, StoreError};
@@ -41,7 +41,7 @@ pub(crate) fn put(alloc: Global, heap: Heap, out: &mut Made) -> u32
 {
     match Box::new(alloc, heap) {
         Ok(boxed) => {
-            *out = Made::of(Handle::of_loose(Loose::of(boxed)));
+            *out = Made::of(Handle::of_unboxed(Unboxed::of(boxed)));
             SERVED
         }
         Err(_) => OUT_OF_MEMORY,
@@ -55,6 +55,6 @@ pub extern "C" fn tlsf_heap_destroy(alloc: Global, heap: &mut Made)
     ensures nothing { heap.old.value ≡ None → heap.new ≡ heap.old }
 {
     if let Some(handle) = replace(heap, Made::zeros()).into_handle() {
-        drop(handle.into_loose(alloc).into_box());
+        drop(handle.into_unboxed(alloc).into_box());
     }
 }

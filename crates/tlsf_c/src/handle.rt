@@ -2,7 +2,7 @@
 
 ghost use Rattle.tlsf_heap.specs.Counted.{Counted};
 
-use crate::loose::Loose;
+use crate::unboxed::Unboxed;
 use std::alloc::Global;
 use std::marker::Model;
 use tlsf_heap::Heap;
@@ -26,19 +26,19 @@ impl Handle {
     ghost use Rattle.tlsf_c.specs.Lends.{LendsHeap};
 
     /// The handle of a heap whose box was taken apart.
-    pub(crate) fn of_loose(loose: Loose<Heap, Global>) -> Handle
-        ensures { result.value ≡ loose.value }
+    pub(crate) fn of_unboxed(unboxed: Unboxed<Heap, Global>) -> Handle
+        ensures { result.value ≡ unboxed.value }
     {
-        let Loose { at, alloc: _ } = loose;
+        let Unboxed { at, alloc: _ } = unboxed;
         Handle { at: at as *mut u8 }
     }
 
     /// The parts of the heap's box.
-    pub(crate) fn into_loose(self, alloc: Global) -> Loose<Heap, Global>
+    pub(crate) fn into_unboxed(self, alloc: Global) -> Unboxed<Heap, Global>
         ensures { result.value ≡ self.value }
     {
         let Handle { at } = self;
-        Loose {
+        Unboxed {
             at: at as *mut Heap,
             alloc,
         }

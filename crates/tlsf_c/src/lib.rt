@@ -3,16 +3,17 @@
 
 mod block;
 mod blocks;
+mod check;
 mod creation;
+mod figures;
 mod handle;
 mod images;
-mod loose;
 mod made;
-mod place;
 mod pools;
-mod readings;
+mod room;
 mod row;
 mod status;
+mod unboxed;
 mod walk;
 mod window;
 mod window_trace;

@@ -1,6 +1,6 @@
 //! The numbers that C programs get for what a call answers.
 
-ghost use Rattle.std.specs.Prelude.{◌≡◌, ◌<◌, Result, Err};
+ghost use Rattle.std.specs.Prelude.{◌≡◌, ◌<◌};
 ghost use Rattle.tlsf_c.specs.Status.{number};
 ghost use Rattle.tlsf_c.specs.Saving.{fault_number};
 

@@ -1,9 +1,9 @@
 //! A writer into bytes that a C program hands in.
 
 ghost use Rattle.std.specs.Prelude.{◌≡◌, ◌-◌, ◌≤◌, length, min, take, drop, false, nat_le};
-ghost use Rattle.tlsf_c.specs.Placed.{placed, has_failed};
+ghost use Rattle.tlsf_c.specs.Room.{put_over, has_failed};
 
-use crate::place::place;
+use crate::room::put_bytes;
 use crate::window_trace::WindowTrace;
 use mtrace_log::{Call, Failed, Sink};
 
@@ -17,7 +17,7 @@ pub(crate) struct Window<'a> {
     pub(crate) fits: bool,
     pub(crate) trace: WindowTrace,
     ghost told_room: { length room.now ≤ length trace.bytes },
-    ghost kept: { room.now ≡ placed (drop (length room.now) trace.bytes) (take (length room.now) trace.bytes) },
+    ghost kept: { room.now ≡ put_over (drop (length room.now) trace.bytes) (take (length room.now) trace.bytes) },
     ghost ends: { end ≡ min (length trace.bytes - length room.now) (length room.now) },
     ghost all: { fits ≡ nat_le (length trace.bytes - length room.now) (length room.now) },
     ghost served: { has_failed trace.calls ≡ false },
@@ -51,7 +51,7 @@ impl<'a> Sink for Window<'a> {
     fn put(&mut self, bytes: &[u8]) -> Result<usize, Failed> {
         let start = self.end;
         let left = self.room.len() - start;
-        place(self.room, start, bytes);
+        put_bytes(self.room, start, bytes);
         self.end = start + bytes.len().min(left);
         self.fits = self.fits && bytes.len() <= left;
         self.trace.add(&Call::Took(bytes.len()), bytes);

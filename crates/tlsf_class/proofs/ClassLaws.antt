@@ -1,9 +1,9 @@
 -- The laws of the class of a size and of the first class that holds a size.
-use Rattle.std.proofs.Common.{◌≡◌, ℕ, pred, ◌+◌, ◌<◌, ◌≤◌, leb, Option, Some, None, ◌∙◌, ap, subst, inl, inr, refl, arith}
+use Rattle.std.proofs.Common.{◌≡◌, ℕ, pred, ◌+◌, ◌<◌, ◌≤◌, leb, Option, Some, None, ap, subst, inl, inr, refl, arith}
 use Rattle.std.proofs.lemmas.Bool.{cases_lt, le-leb, leb-true, leb-false}
-use Rattle.tlsf_class.specs.Classes.{unit, classes, low, class, need}
+use Rattle.tlsf_class.specs.Classes.{classes, low, class, need}
 use Rattle.tlsf_class.proofs.Extremes.{greatest_le, greatest_passes, greatest_above, AnswersLeast, IsLeast, least_answers}
-use Rattle.tlsf_class.proofs.LowestSizes.{low-0, low-1, low-lt, low-le}
+use Rattle.tlsf_class.proofs.LowestSizes.{low-0, low-lt, low-le}
 
 -- ---- the class of a size
 
@@ -45,10 +45,6 @@ class_from s c below most next =
 -- the class of a lowest size is its own
 pub class-low : (c : ℕ) → c < classes → class (low c) ≡ c
 class-low c below = class_from (low c) c below (omega arith) (λ within. low-lt c (c + 1) (omega arith))
-
--- a greater size is of no lower class
-pub class-le : (s t : ℕ) → s ≤ t → class s ≤ class t
-class-le s t most = le-class t (class s) (class-lt s) (omega (arith, low-class s))
 
 -- a size is below the lowest size of each class above its own
 pub lt-low_above : (s c : ℕ) → class s < c → c < classes → s < low c
@@ -114,29 +110,6 @@ need_above m above = of (need m) refl
     of (Some d) is =
         let none : ⊥ = omega (arith, le-low_need m d is, low-le d (pred classes) (omega (arith, need-lt m d is))) in absurd none
 
--- what is at most the last lowest size has a class that holds it
-pub need_within : (m : ℕ) → m ≤ low (pred classes) → (c : ℕ) × (need m ≡ Some c)
-need_within m most = of (need m) refl
-  where
-    of : (answer : Option ℕ) → need m ≡ answer → (c : ℕ) × (need m ≡ Some c)
-    of None is = let none : ⊥ = omega (arith, need-None m is) in absurd none
-    of (Some c) is = (c, is)
-
 -- the class that a lowest size needs is its own
 pub need-low : (c : ℕ) → c < classes → need (low c) ≡ Some c
 need-low c below = need_from (low c) c below (omega arith) (λ k less. low-lt k c less)
-
--- class 0 is always empty: a block has at least one unit
-pub class_pos : (s : ℕ) → unit ≤ s → 0 < class s
-class_pos s most = omega (arith, le-class s 1 (omega arith), low-1)
-
--- and no request is for it
-pub need_pos : (m c : ℕ) → 0 < m → need m ≡ Some c → 0 < c
-need_pos m c some is =
-    elim (cases_lt 0 c) [
-      | inl later ↦ later
-      | inr none ↦
-          let first : c ≡ 0 = omega arith in
-          let at_0 : low c ≡ 0 = ap low first ∙ low-0 in
-          let never : ⊥ = omega (arith, le-low_need m c is) in absurd never
-    ]

@@ -66,10 +66,6 @@ pub low-0 : low 0 ≡ 0
 unfolding low
 low-0 = refl
 
--- the lowest sizes but the first are above 0
-pub low_pos : (c : ℕ) → 0 < c → 0 < low c
-low_pos c later = omega (arith, low-lt 0 c later)
-
 low_at-unit : (f g : ℕ) → low_at f g % unit ≡ 0
 low_at-unit zero g = omega (arith, low_at-first g)
 low_at-unit (suc f) g =

@@ -1,5 +1,5 @@
 -- The laws of rounding up to the unit.
-use Rattle.std.proofs.Common.{◌≡◌, ℕ, ◌+◌, ◌-◌, ◌%◌, ◌<◌, ◌≤◌, ◌⊎◌, eqb, ltb, Option, Some, None, ◌∙◌, ap, refl, inl, inr, arith}
+use Rattle.std.proofs.Common.{◌≡◌, ℕ, ◌+◌, ◌-◌, ◌%◌, ◌<◌, ◌≤◌, eqb, ltb, Option, Some, None, ◌∙◌, ap, refl, inl, inr, arith}
 use Rattle.std.specs.Prelude.{unwrap_or}
 use Rattle.std.proofs.lemmas.Bool.{cases_lt, eqb-true, eqb-false, lt-ltb, le-ltb, ne_eqb, or_right, or_from, cond-true, cond-false}
 use Rattle.tlsf_class.specs.Classes.{unit, greatest_size, least}
@@ -44,10 +44,6 @@ rounded-le n m whole most = omega (arith, rounded-unit n, rounded-lt n)
 -- a multiple at or above `n` by less than a unit is what `n` is rounded to
 pub rounded_from : (n m : ℕ) → m % unit ≡ 0 → n ≤ m → m < n + unit → rounded n ≡ m
 rounded_from n m whole most near = omega (arith, rounded-unit n, le-rounded n, rounded-lt n)
-
--- a multiple of the unit is rounded to itself
-pub rounded_whole : (n : ℕ) → n % unit ≡ 0 → rounded n ≡ n
-rounded_whole n whole = rounded_from n n whole (omega arith) (omega arith)
 
 pub rounded-le-greatest_size : (n : ℕ) → n ≤ greatest_size → rounded n ≤ greatest_size
 rounded-le-greatest_size n most = rounded-le n greatest_size refl most
@@ -95,17 +91,5 @@ round-Some n m is =
                   near = omega (arith, rounded-lt n);
                   within = omega (arith, rounded-le-greatest_size n most);
                 }
-          ]
-    ]
-
--- no answer comes for 0 and above the greatest size alone
-pub round-None : (n : ℕ) → round n ≡ None → (n ≡ 0) ⊎ (greatest_size < n)
-round-None n is =
-    elim (cases_lt 0 n) [
-      | inr none ↦ inl (omega arith)
-      | inl some ↦
-          elim (cases_lt greatest_size n) [
-            | inl above ↦ inr above
-            | inr most ↦ let never : ⊥ = cc (is, round_within n some most) in absurd never
           ]
     ]

@@ -1,5 +1,5 @@
 -- What keeps a content good, and what a good content implies.
-pub mod Calls
+pub mod MallocIsGood
 pub mod Slots
 pub mod SlotsLeft
 pub mod Implied

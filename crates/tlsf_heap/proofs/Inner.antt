@@ -24,7 +24,7 @@ pub mod Gapped
 pub mod SplitAligned
 pub mod Allotted
 pub mod Spans
-pub mod Served
+pub mod TakenBlock
 pub mod Picked
 pub mod Empty
 pub mod Standing

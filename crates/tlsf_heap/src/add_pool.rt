@@ -11,7 +11,7 @@ ghost use Rattle.tlsf_heap.specs.Inner.Entries.{is_entry_apart, free_record};
 ghost use Rattle.tlsf_heap.specs.Inner.Nodes.{Layout};
 ghost use Rattle.tlsf_heap.specs.Inner.Represents.{Represents};
 ghost use Rattle.tlsf_heap.specs.Inner.Following.{Stands};
-ghost use Rattle.tlsf_heap.specs.Inner.Answers.{Answers};
+ghost use Rattle.tlsf_heap.specs.Inner.Answers.{AnswersOver};
 ghost use Rattle.tlsf_heap.specs.Inner.Entering.{pool_laid};
 
 use crate::Refusal;
@@ -28,7 +28,7 @@ use tlsf_store::{Pool, Record, State, Store, can_be_pool};
 /// As `Heap::add_pool`.
 pub(crate) fn add_pool(store: &mut Store, base: u64, bytes: u64) -> Result<(), Refusal>
     requires { Stands store.old.cells }
-    ensures { Answers result (λ done old new. add_pool base bytes old ≡ Ok new) (λ refusal old. add_pool base bytes old ≡ Err refusal) add_pool_touches store.old store.new }
+    ensures { AnswersOver result (λ done old new. add_pool base bytes old ≡ Ok new) (λ refusal old. add_pool base bytes old ≡ Err refusal) add_pool_touches store.old store.new }
 {
     let entries = entries(store);
     if !can_enter(entries.as_slice(), base, bytes) {

@@ -120,7 +120,7 @@ pub(crate) fn entries_without(entries: &[Pool], number: usize) -> ArrayVec<Pool,
 }
 
 /// The number of the pool that begins at `base`, if there is one.
-pub(crate) fn number_of(entries: &[Pool], base: u64) -> Option<usize>
+pub(crate) fn pool_number(entries: &[Pool], base: u64) -> Option<usize>
     ensures found { IfSome result (λ number. (number < length entries.now) × ((d : _) → (slice_index_or entries.now number d).base ≡ base)) }
     ensures none { IfNone result (All (λ entry. entry.base ≢ base) entries.now) }
 {

@@ -13,7 +13,7 @@ ghost use Rattle.tlsf_heap.specs.Inner.Nodes.{NodeState, InUse, Listed, Loose, i
 ghost use Rattle.tlsf_heap.specs.Inner.Following.{Stands, content_of};
 ghost use Rattle.tlsf_heap.specs.Inner.At.{At, StandsAt, previous_merged, next_merged, at_listed, at_freed};
 ghost use Rattle.tlsf_heap.specs.Inner.Spans.{IsRead, IsRecordOf, CanMerge, merged_by};
-ghost use Rattle.tlsf_heap.specs.Inner.Answers.{Answers, Leaves};
+ghost use Rattle.tlsf_heap.specs.Inner.Answers.{AnswersOver, Leaves};
 
 use crate::chains::{merge_behind, turn};
 use crate::free_lists::{link, unlink};
@@ -30,7 +30,7 @@ use tlsf_store::{Record, Slot, State, Store};
 #[inline(always)]
 pub(crate) fn free(store: &mut Store, ptr: Ptr) -> Result<(), Refusal>
     requires { Stands store.old.cells }
-    ensures { Answers result (λ done old new. free_ptr ptr old ≡ Ok new) (λ refusal old. free_ptr ptr old ≡ Err refusal) free_touches store.old store.new }
+    ensures { AnswersOver result (λ done old new. free_ptr ptr old ≡ Ok new) (λ refusal old. free_ptr ptr old ≡ Err refusal) free_touches store.old store.new }
 {
     let Some(block) = live(store, ptr) else {
         return Err(Refusal::BadPointer);

@@ -15,7 +15,7 @@ mod lists;
 mod pools;
 mod rule;
 mod rules;
-mod told;
+mod store_parts;
 mod whole;
 mod writing;
 

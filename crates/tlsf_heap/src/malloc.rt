@@ -12,7 +12,7 @@ ghost use Rattle.tlsf_heap.specs.Inner.Following.{Stands, content_of};
 ghost use Rattle.tlsf_heap.specs.Inner.Nodes.{NodeState, InUse, Listed, is_listed};
 ghost use Rattle.tlsf_heap.specs.Inner.At.{At, StandsAt, with_slot, at_turned, at_taken, at_split_off, at_split_rest};
 ghost use Rattle.tlsf_heap.specs.Inner.Spans.{IsRead, IsOfClass};
-ghost use Rattle.tlsf_heap.specs.Inner.Answers.{Answers, Leaves};
+ghost use Rattle.tlsf_heap.specs.Inner.Answers.{AnswersOver, Leaves};
 
 use crate::chains::{split, turn};
 use crate::free_lists::{link, unlink};
@@ -29,7 +29,7 @@ use tlsf_store::{Record, Slot, State, Store};
 /// As `Heap::malloc`.
 pub(crate) fn malloc(store: &mut Store, n: u64) -> Result<Ptr, Refusal>
     requires { Stands store.old.cells }
-    ensures { Answers result (IsServed (λ slot. malloc slot n)) (λ refusal old. (slot : ℕ) → malloc slot n old ≡ Err refusal) malloc_touches store.old store.new }
+    ensures { AnswersOver result (IsServed (λ slot. malloc slot n)) (λ refusal old. (slot : ℕ) → malloc slot n old ≡ Err refusal) malloc_touches store.old store.new }
 {
     if n == 0 {
         return Err(Refusal::ZeroSize);
@@ -49,7 +49,7 @@ pub(crate) fn allocate(store: &mut Store, asked: u32) -> Result<Ptr, Refusal>
     requires stands { Stands store.old.cells }
     requires whole { asked % unit ≡ 0 }
     requires some { 0 < asked }
-    ensures { Answers result (IsServed (λ slot. malloc_rounded slot (Some asked))) (λ refusal old. (slot : ℕ) → malloc_rounded slot (Some asked) old ≡ Err refusal) malloc_touches store.old store.new }
+    ensures { AnswersOver result (IsServed (λ slot. malloc_rounded slot (Some asked))) (λ refusal old. (slot : ℕ) → malloc_rounded slot (Some asked) old ≡ Err refusal) malloc_touches store.old store.new }
 {
     let Some((class, slot)) = pick(store, asked) else {
         return Err(Refusal::NoFit);
@@ -87,7 +87,7 @@ fn take(store: &mut Store, class: Class, slot: Slot, asked: u32) -> Result<Ptr, 
     requires of_class { IsOfClass class (record_at store.old.cells.records slot) }
     requires free { (record_at store.old.cells.records slot).state ≡ Free }
     requires found { pick asked (content_of store.old.cells).lists ≡ Some (record_at store.old.cells.records slot).place }
-    ensures { Answers result (IsServed (λ owner. malloc_rounded owner (Some asked))) (λ refusal old. (owner : ℕ) → malloc_rounded owner (Some asked) old ≡ Err refusal) 19 store.old store.new }
+    ensures { AnswersOver result (IsServed (λ owner. malloc_rounded owner (Some asked))) (λ refusal old. (owner : ℕ) → malloc_rounded owner (Some asked) old ≡ Err refusal) 19 store.old store.new }
 {
     let block = store.read_used(slot);
     if block.size == asked {

@@ -13,7 +13,7 @@ ghost use Rattle.tlsf_heap.specs.Inner.Following.{Stands, content_of};
 ghost use Rattle.tlsf_heap.specs.Inner.Nodes.{InUse};
 ghost use Rattle.tlsf_heap.specs.Inner.At.{At, StandsAt, at_gapped};
 ghost use Rattle.tlsf_heap.specs.Inner.Spans.{IsRead, IsOfClass};
-ghost use Rattle.tlsf_heap.specs.Inner.Answers.{Answers};
+ghost use Rattle.tlsf_heap.specs.Inner.Answers.{AnswersOver};
 
 use crate::chains::split;
 use crate::free::enter;
@@ -34,7 +34,7 @@ const GREATEST_ALIGNMENT: u64 = 1 << 29;
 /// As `Heap::memalign`.
 pub(crate) fn memalign(store: &mut Store, align: u64, n: u64) -> Result<Ptr, Refusal>
     requires { Stands store.old.cells }
-    ensures { Answers result (IsServed (λ slot. memalign slot align n)) (λ refusal old. (slot : ℕ) → memalign slot align n old ≡ Err refusal) memalign_touches store.old store.new }
+    ensures { AnswersOver result (IsServed (λ slot. memalign slot align n)) (λ refusal old. (slot : ℕ) → memalign slot align n old ≡ Err refusal) memalign_touches store.old store.new }
 {
     if !is_alignment(align) {
         return Err(Refusal::BadAlign);
@@ -72,7 +72,7 @@ fn split_aligned(
     requires of_class { IsOfClass class (record_at store.old.cells.records slot) }
     requires free { (record_at store.old.cells.records slot).state ≡ Free }
     requires found { pick (size_asked align asked) (content_of store.old.cells).lists ≡ Some (record_at store.old.cells.records slot).place }
-    ensures { Answers result (IsServed (λ owner. memalign_rounded owner align (Some asked))) (λ refusal old. (owner : ℕ) → memalign_rounded owner align (Some asked) old ≡ Err refusal) 34 store.old store.new }
+    ensures { AnswersOver result (IsServed (λ owner. memalign_rounded owner align (Some asked))) (λ refusal old. (owner : ℕ) → memalign_rounded owner align (Some asked) old ≡ Err refusal) 34 store.old store.new }
 {
     let block = store.read_used(slot);
     let start = start_of(block.place, align);

@@ -117,13 +117,13 @@ pub(crate) fn row(store: &mut Store, cursor: Cursor) -> Option<(Row, Cursor)>
         used: block.state.is_live(),
     };
     let behind = Cursor {
-        next: number_of(block.next),
+        next: slot_number(block.next),
     };
     Some((row, behind))
 }
 
 /// The number of a slot, if there is one.
-fn number_of(slot: Option<Slot>) -> Option<u32>
+fn slot_number(slot: Option<Slot>) -> Option<u32>
     ensures { result ≡ slot }
 {
     match slot {

@@ -14,7 +14,7 @@ ghost use Rattle.tlsf_heap.specs.Inner.Nodes.{InUse};
 ghost use Rattle.tlsf_heap.specs.Inner.Merging.{listed_first};
 ghost use Rattle.tlsf_heap.specs.Inner.At.{At, StandsAt};
 ghost use Rattle.tlsf_heap.specs.Inner.Spans.{IsRead};
-ghost use Rattle.tlsf_heap.specs.Inner.Answers.{Answers, Leaves};
+ghost use Rattle.tlsf_heap.specs.Inner.Answers.{AnswersOver, Leaves};
 
 use crate::free::{free, live, merge_next, release};
 use crate::malloc::{allocate, malloc, split_rest};
@@ -30,7 +30,7 @@ use tlsf_store::{Slot, State, Store};
 /// As `Heap::realloc`.
 pub(crate) fn realloc(store: &mut Store, ptr: Option<Ptr>, n: u64) -> Result<Option<Ptr>, Refusal>
     requires { Stands store.old.cells }
-    ensures { Answers result (IsMoved (realloc_ptr ptr n) ptr) (λ refusal old. (owner : ℕ) → realloc_ptr ptr n owner old ≡ Err refusal) realloc_touches store.old store.new }
+    ensures { AnswersOver result (IsMoved (realloc_ptr ptr n) ptr) (λ refusal old. (owner : ℕ) → realloc_ptr ptr n owner old ≡ Err refusal) realloc_touches store.old store.new }
 {
     match ptr {
         Some(ptr) => reallocate(store, ptr, n),
@@ -49,7 +49,7 @@ pub(crate) fn realloc(store: &mut Store, ptr: Option<Ptr>, n: u64) -> Result<Opt
 /// As `Heap::realloc`.
 fn reallocate(store: &mut Store, ptr: Ptr, n: u64) -> Result<Option<Ptr>, Refusal>
     requires { Stands store.old.cells }
-    ensures { Answers result (IsMoved (realloc_ptr (Some ptr) n) (Some ptr)) (λ refusal old. (owner : ℕ) → realloc_ptr (Some ptr) n owner old ≡ Err refusal) realloc_touches store.old store.new }
+    ensures { AnswersOver result (IsMoved (realloc_ptr (Some ptr) n) (Some ptr)) (λ refusal old. (owner : ℕ) → realloc_ptr (Some ptr) n owner old ≡ Err refusal) realloc_touches store.old store.new }
 {
     if n == 0 {
         return match free(store, ptr) {
@@ -83,7 +83,7 @@ fn resize(store: &mut Store, ptr: Ptr, block: Span, asked: u32) -> Result<Ptr, R
     requires read { IsRead block store.old.cells.records }
     requires some { 0 < asked }
     requires whole { asked % unit ≡ 0 }
-    ensures { Answers result (λ given. IsMoved (λ slot. realloc_sized slot ptr.place ptr.slot asked) (Some ptr) (Some given)) (λ refusal old. (owner : ℕ) → realloc_sized owner ptr.place ptr.slot asked old ≡ Err refusal) 57 store.old store.new }
+    ensures { AnswersOver result (λ given. IsMoved (λ slot. realloc_sized slot ptr.place ptr.slot asked) (Some ptr) (Some given)) (λ refusal old. (owner : ℕ) → realloc_sized owner ptr.place ptr.slot asked old ≡ Err refusal) 57 store.old store.new }
 {
     if asked == block.size {
         return Ok(ptr);
@@ -158,7 +158,7 @@ fn relocate(store: &mut Store, ptr: Ptr, asked: u32) -> Result<Ptr, Refusal>
     requires live { is_live (λ slot. slot == ptr.slot) ptr.place (blocks_of (content_of store.old.cells).pools) ≡ true }
     requires some { 0 < asked }
     requires whole { asked % unit ≡ 0 }
-    ensures { Answers result (λ given. IsMoved (λ slot old. moved slot ptr.place (malloc_rounded slot (Some asked) old)) (Some ptr) (Some given)) (λ refusal old. (owner : ℕ) → moved owner ptr.place (malloc_rounded owner (Some asked) old) ≡ Err refusal) 55 store.old store.new }
+    ensures { AnswersOver result (λ given. IsMoved (λ slot old. moved slot ptr.place (malloc_rounded slot (Some asked) old)) (Some ptr) (Some given)) (λ refusal old. (owner : ℕ) → moved owner ptr.place (malloc_rounded owner (Some asked) old) ≡ Err refusal) 55 store.old store.new }
 {
     match allocate(store, asked) {
         Ok(given) => {

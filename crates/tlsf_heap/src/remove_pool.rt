@@ -12,10 +12,10 @@ ghost use Rattle.tlsf_heap.specs.Inner.Entering.{entries_in};
 ghost use Rattle.tlsf_heap.specs.Inner.Represents.{Represents};
 ghost use Rattle.tlsf_heap.specs.Inner.At.{At, StandsAt, without_area};
 ghost use Rattle.tlsf_heap.specs.Inner.Following.{Stands};
-ghost use Rattle.tlsf_heap.specs.Inner.Answers.{Answers};
+ghost use Rattle.tlsf_heap.specs.Inner.Answers.{AnswersOver};
 
 use crate::Refusal;
-use crate::entries::{entries, entries_without, number_of, set_entries};
+use crate::entries::{entries, entries_without, pool_number, set_entries};
 use crate::malloc::take_whole;
 use tlsf_class::class_of;
 use tlsf_store::{Pool, Record, Slot, Store};
@@ -27,10 +27,10 @@ use tlsf_store::{Pool, Record, Slot, Store};
 /// As `Heap::remove_pool`.
 pub(crate) fn remove_pool(store: &mut Store, base: u64) -> Result<(), Refusal>
     requires { Stands store.old.cells }
-    ensures { Answers result (λ done old new. remove_pool base old ≡ Ok new) (λ refusal old. remove_pool base old ≡ Err refusal) remove_pool_touches store.old store.new }
+    ensures { AnswersOver result (λ done old new. remove_pool base old ≡ Ok new) (λ refusal old. remove_pool base old ≡ Err refusal) remove_pool_touches store.old store.new }
 {
     let entries = entries(store);
-    let Some(number) = number_of(entries.as_slice(), base) else {
+    let Some(number) = pool_number(entries.as_slice(), base) else {
         return Err(Refusal::NoPool);
     };
     let entry = entries.as_slice()[number];

@@ -7,7 +7,7 @@ use Rattle.tlsf_heap.specs.Counted.{range_of}
 use Rattle.tlsf_heap.specs.Free.{is_live}
 use Rattle.tlsf_heap.specs.Good.{Covers, AreGoodPools}
 use Rattle.tlsf_heap.proofs.Content.Blocks.{Found}
-use Rattle.tlsf_heap.proofs.Good.Calls.{Covers-le, all-append, IsWhole, whole_in_pools}
+use Rattle.tlsf_heap.proofs.Good.MallocIsGood.{Covers-le, all-append, IsWholeBlock, whole_in_pools}
 use Rattle.tlsf_region.specs.Region.{EndBelow}
 
 -- the first live block at a place is one of the blocks, and its size is the size there
@@ -58,4 +58,4 @@ module _ {A : Type 0} (end : ℕ) where
 -- a live block isn't empty
 pub live_is_positive : {A : Type 0} (is_meant : A → Bool) (place : ℕ) (pools : List (Pool A)) → AreGoodPools 0 pools → is_live is_meant place (blocks_of pools) ≡ true → 0 < size_at place (blocks_of pools)
 live_is_positive is_meant place pools good live =
-    let there = live_is_there IsWhole is_meant place (blocks_of pools) (whole_in_pools 0 pools good) live in omega (arith, there.1.positive, there.3)
+    let there = live_is_there IsWholeBlock is_meant place (blocks_of pools) (whole_in_pools 0 pools good) live in omega (arith, there.1.positive, there.3)

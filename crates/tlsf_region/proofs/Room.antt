@@ -12,7 +12,7 @@ use Rattle.tlsf_heap.specs.Malloc.{allocated, malloc_picked, malloc_rounded}
 use Rattle.tlsf_heap.specs.Free.{is_live, after_free}
 use Rattle.tlsf_heap.specs.Realloc.{fits_in_place, resized, moved, realloc_sized, realloc_rounded, realloc}
 use Rattle.tlsf_heap.specs.Good.{IsGood}
-use Rattle.tlsf_heap.proofs.Good.Calls.{picked}
+use Rattle.tlsf_heap.proofs.Good.MallocIsGood.{picked}
 use Rattle.tlsf_heap.specs.BlockSize.{block_size}
 use Rattle.tlsf_heap.specs.Pointer.{Pointer, place_and_slot, slot_of}
 use Rattle.tlsf_region.specs.Region.{IsWithin}

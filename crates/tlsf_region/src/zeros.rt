@@ -1,6 +1,6 @@
 //! Bytes that are all zero.
 
-ghost use Rattle.std.specs.Prelude.{◌≡◌, ◌<◌, ◌^◌, IfOk, replicate, vec_capacity};
+ghost use Rattle.std.specs.Prelude.{◌≡◌, ◌<◌, IfOk, replicate, vec_capacity};
 
 use std::alloc::{AllocError, Global};
 

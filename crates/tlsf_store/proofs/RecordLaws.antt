@@ -2,11 +2,11 @@
 use Rattle.std.proofs.Common.{◌≡◌, ◌≢◌, ℕ, zero, suc, ◌+◌, ◌<◌, ◌≤◌, true, false, cond, List, length, set, replicate, Option, Some, None, ap, refl, arith}
 use Rattle.std.proofs.lemmas.Bool.{cond-true, cond-false, ne_eqb}
 use Rattle.std.proofs.lemmas.List.{get_or-set_same, get_or-set_other}
-use Rattle.std.proofs.lemmas.List.Sums.{sum_by-set, sum_by-cons, count_by-le-length}
+use Rattle.std.proofs.lemmas.List.Sums.{sum_by-set, sum_by-cons}
 use Rattle.tlsf_store.specs.declared.records.State.{State}
 use Rattle.tlsf_store.specs.declared.records.State.TheVariants.{Vacant, Free, Live}
 use Rattle.tlsf_store.specs.declared.records.Record.{Record}
-use Rattle.tlsf_store.specs.Records.{blank, record_at, is_vacant, vacant_count, IsBelow, IsKept}
+use Rattle.tlsf_store.specs.Records.{blank, record_at, is_vacant, vacant_count, IsBelow}
 use Rattle.tlsf_store.specs.Slots.{missing, link_of}
 
 -- a word that isn't that of a missing link is that of a slot
@@ -39,26 +39,11 @@ pub vacant_count-replicate : (n : ℕ) → vacant_count (replicate n blank) ≡ 
 vacant_count-replicate zero = refl
 vacant_count-replicate (suc n) = omega (arith, vacant_count-replicate n, sum_by-cons mark blank (replicate n blank))
 
--- a used record written over a used one leaves the count
-pub vacant_count-write : (records : List Record) (slot : ℕ) (r : Record) → slot < length records → (record_at records slot).state ≢ Vacant →
-    r.state ≢ Vacant → vacant_count (set records slot r) ≡ vacant_count records
-vacant_count-write records slot r within used new =
-    omega (arith, vacant_count-set records slot r within, mark-used (record_at records slot) (used_state (record_at records slot).state used), mark-used r (used_state r.state new))
-
 -- a used record written over a vacant one leaves one vacant record less
 pub vacant_count-take : (records : List Record) (slot : ℕ) (r : Record) → slot < length records → record_at records slot ≡ blank →
     r.state ≢ Vacant → vacant_count (set records slot r) + 1 ≡ vacant_count records
 vacant_count-take records slot r within was new =
     omega (arith, vacant_count-set records slot r within, mark-vacant (record_at records slot) (ap (λ v. is_vacant v.state) was), mark-used r (used_state r.state new))
-
--- a blank record written over a used one leaves one vacant record more
-pub vacant_count-give : (records : List Record) (slot : ℕ) → slot < length records → (record_at records slot).state ≢ Vacant →
-    vacant_count (set records slot blank) ≡ vacant_count records + 1
-vacant_count-give records slot within used =
-    omega (arith, vacant_count-set records slot blank within, mark-used (record_at records slot) (used_state (record_at records slot).state used), mark-vacant blank refl)
-
-pub vacant_count-le : (records : List Record) → vacant_count records ≤ length records
-vacant_count-le records = count_by-le-length (λ r. is_vacant r.state) records
 
 -- the record that was written
 pub record_at-set_same : (records : List Record) (slot : ℕ) (r : Record) → slot < length records → record_at (set records slot r) slot ≡ r
@@ -72,14 +57,3 @@ record_at-set_other records slot q r other = get_or-set_other records slot q r b
 pub below_more : (count more : ℕ) (link : Option ℕ) → count ≤ more → IsBelow count link → IsBelow more link
 below_more count more None most below = tt
 below_more count more (Some slot) most below = omega arith
-
-pub kept_more : (count more : ℕ) (r : Record) → count ≤ more → IsKept count r → IsKept more r
-kept_more count more r most kept =
-    record {
-      place = kept.place;
-      size = kept.size;
-      prev = below_more count more r.prev most kept.prev;
-      next = below_more count more r.next most kept.next;
-      prev_free = below_more count more r.prev_free most kept.prev_free;
-      next_free = below_more count more r.next_free most kept.next_free;
-    }

@@ -17,9 +17,6 @@ pub record IsBegun (count : ℕ) (records : List Record) (first : Option ℕ) (n
   pub chained : IsChain (IsVacantAt records) (next_at records) number first
   pub seen_as : map seen records ≡ replicate number blank
 
-pub begun_none : (count : ℕ) → IsBegun count [] None 0
-begun_none count = record { long = refl; kept = λ k d within. absurd (let h : k < 0 = within in let n : ⊥ = omega arith in n); chained = refl; seen_as = refl }
-
 -- one more record at the end, linked to the one before
 pub begun_more : (count : ℕ) (records : List Record) (first : Option ℕ) (number : ℕ) → IsBegun count records first number → (r : Record) →
     is_vacant r.state ≡ true → r.next ≡ first → IsKept count r → IsBegun count (records ++ r ∷ []) (Some number) (number + 1)

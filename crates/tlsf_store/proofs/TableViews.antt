@@ -10,9 +10,6 @@ use Rattle.tlsf_store.specs.Table.{seen, seen_in, next_at, IsTable, IsStored}
 use Rattle.tlsf_store.proofs.RecordLaws.{mark, used_state}
 use Rattle.tlsf_store.proofs.TableLaws.{table_write, table_give, table_take, table_none, first_below, IsTaken}
 
-pub seen-blank : seen blank ≡ blank
-seen-blank = refl
-
 seen_in-state : (s : State) (r : Record) → r.state ≡ s → is_vacant (seen_in s r).state ≡ is_vacant s
 seen_in-state Vacant r is = refl
 seen_in-state Free r is = ap is_vacant is

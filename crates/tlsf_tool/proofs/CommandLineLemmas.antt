@@ -16,7 +16,8 @@ use Rattle.mtrace_replay.specs.declared.settings.Settings.{Settings}
 use Rattle.mtrace_replay.specs.declared.size.Bounds.{Bounds}
 use Rattle.mtrace_replay.specs.declared.status.RunFault.TheVariants.{OutOfMemory}
 use Rattle.tlsf_tool.specs.declared.asked.Command.{Command}
-use Rattle.tlsf_tool.specs.declared.asked.Command.TheVariants.{Report, Sites, Timeline, Fit, Size, Save, Check}
+use Rattle.tlsf_tool.specs.declared.asked.Command.TheVariants.{Report, Reread, Size, Save, Check}
+use Rattle.tlsf_tool.specs.declared.asked.Rereading.TheVariants.{Sites, Timeline, Fit}
 use Rattle.tlsf_tool.specs.declared.asked.Name.{Name}
 use Rattle.tlsf_tool.specs.declared.asked.Name.TheVariants.{Leaks, Peak, Walk}
 use Rattle.tlsf_tool.specs.declared.asked.ToolFault.{ToolFault}
@@ -90,18 +91,18 @@ no_such one text none some = let e : None ≡ Some text = sym none ∙ some in c
 -- the subcommand of a command
 abbrev subcommand_text : Command → Text
 subcommand_text (Report name settings log) = name_text name
-subcommand_text (Sites settings log) = codes "sites"
-subcommand_text (Timeline settings parts log) = codes "timeline"
-subcommand_text (Fit step log) = codes "fit"
+subcommand_text (Reread (Sites settings) log) = codes "sites"
+subcommand_text (Reread (Timeline settings parts) log) = codes "timeline"
+subcommand_text (Reread (Fit step) log) = codes "fit"
 subcommand_text (Size bounds) = codes "size"
 subcommand_text (Save settings log image) = codes "save"
 subcommand_text (Check image) = codes "check"
 
 asked_under : (found : Text × List Row) (command : Command) → MatchesAskFor (Some found) command → found.0 ≡ subcommand_text command
 asked_under found (Report name settings log) asks = asks.0
-asked_under found (Sites settings log) asks = asks.0
-asked_under found (Timeline settings parts log) asks = asks.0
-asked_under found (Fit step log) asks = asks.0
+asked_under found (Reread (Sites settings) log) asks = asks.0
+asked_under found (Reread (Timeline settings parts) log) asks = asks.0
+asked_under found (Reread (Fit step) log) asks = asks.0
 asked_under found (Size bounds) asks = asks.0
 asked_under found (Save settings log image) asks = asks.0
 asked_under found (Check image) asks = asks.0
@@ -128,10 +129,10 @@ module _ (rows : List Row) where
   has_all text (Report Leaks settings log) asks missing = no_log settings log missing asks.1 asks.2
   has_all text (Report Peak settings log) asks missing = no_log settings log missing asks.1 asks.2
   has_all text (Report Walk settings log) asks missing = no_log settings log missing asks.1 asks.2
-  has_all text (Sites settings log) asks missing = no_log settings log missing asks.1 asks.2
-  has_all text (Timeline settings parts log) asks (inl never) = never parts asks.2
-  has_all text (Timeline settings parts log) asks (inr missing) = no_log settings log missing asks.1 asks.3
-  has_all text (Fit step log) asks none = no_such (first_of (codes "LOG") rows) (string_bytes log) none asks.2
+  has_all text (Reread (Sites settings) log) asks missing = no_log settings log missing asks.1 asks.2
+  has_all text (Reread (Timeline settings parts) log) asks (inl never) = never parts asks.2
+  has_all text (Reread (Timeline settings parts) log) asks (inr missing) = no_log settings log missing asks.1 asks.3
+  has_all text (Reread (Fit step) log) asks none = no_such (first_of (codes "LOG") rows) (string_bytes log) none asks.2
   has_all text (Size bounds) asks never = never bounds asks.1
   has_all text (Save settings log image) asks (inl missing) = no_log settings log missing asks.1 asks.2
   has_all text (Save settings log image) asks (inr none) = no_such (first_of (codes "IMAGE") rows) (string_bytes image) none asks.3
@@ -159,9 +160,6 @@ module _ (rows : List Row) where
 
   pub save_asks_nothing : HasNoLog rows ⊎ (first_of (codes "IMAGE") rows ≡ None) → AsksNothing (Some (codes "save", rows))
   save_asks_nothing missing = text_asks_nothing (codes "save") missing
-
-  pub check_asks_nothing : first_of (codes "IMAGE") rows ≡ None → AsksNothing (Some (codes "check", rows))
-  check_asks_nothing none = text_asks_nothing (codes "check") none
 
 pub refuses : {P : Type 0} (fault : ToolFault) → IsUsage fault ⊎ (fault ≡ Run OutOfMemory) → P
     → (fault ≡ Run OutOfMemory) ⊎ (IsUsage fault × P)

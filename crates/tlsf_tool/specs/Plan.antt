@@ -9,8 +9,7 @@ use Rattle.tlsf_tool.specs.declared.plan.Origin.{Origin}
 use Rattle.tlsf_tool.specs.declared.plan.Origin.TheVariants.{Standard, File}
 use Rattle.tlsf_tool.specs.declared.plan.Plan.{Plan}
 use Rattle.tlsf_tool.specs.declared.plan.Plan.TheVariants.{Report, Reread, Save, Size, Check}
-use Rattle.tlsf_tool.specs.declared.plan.Rereading.{Rereading}
-use Rattle.tlsf_tool.specs.declared.plan.Rereading.TheVariants.{Sites, Timeline, Fit}
+use Rattle.tlsf_tool.specs.declared.asked.Rereading.{Rereading}
 use Rattle.tlsf_tool.specs.declared.plan.Terminals.{Terminals}
 use Rattle.tlsf_tool.specs.CommandLine.{AskFor}
 use Rattle.tlsf_tool.specs.Asks.{WordsGive}
@@ -35,9 +34,7 @@ again_for terminals log what = if is_dash log then Err ReadsOnce else Ok (Reread
 -- the plan of a command, among these terminals
 abbrev pub plan_for : Terminals → Command → Result Plan ToolFault
 plan_for terminals (command.Report name settings log) = Ok (Report (origin_of log) name settings (is_told terminals (origin_of log)))
-plan_for terminals (command.Sites settings log) = again_for terminals log (Sites settings)
-plan_for terminals (command.Timeline settings parts log) = again_for terminals log (Timeline settings parts)
-plan_for terminals (command.Fit step log) = again_for terminals log (Fit step)
+plan_for terminals (command.Reread what log) = again_for terminals log what
 plan_for terminals (command.Save settings log image) = Ok (Save (origin_of log) image settings (is_told terminals (origin_of log)))
 plan_for terminals (command.Size bounds) = Ok (Size bounds)
 plan_for terminals (command.Check image) = Ok (Check image)

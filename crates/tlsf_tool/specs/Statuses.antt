@@ -5,8 +5,8 @@ use Rattle.mtrace_replay.specs.RunSites.{RunsSites}
 use Rattle.mtrace_replay.specs.RunTimeline.{RunsTimeline}
 use Rattle.mtrace_replay.specs.RunFit.{RunsFit}
 use Rattle.mtrace_replay.specs.Saving.{PutsAndFlushes}
-use Rattle.tlsf_tool.specs.declared.plan.Rereading.{Rereading}
-use Rattle.tlsf_tool.specs.declared.plan.Rereading.TheVariants.{Sites, Timeline, Fit}
+use Rattle.tlsf_tool.specs.declared.asked.Rereading.{Rereading}
+use Rattle.tlsf_tool.specs.declared.asked.Rereading.TheVariants.{Sites, Timeline, Fit}
 use Rattle.tlsf_tool.specs.declared.asked.Name.{Name}
 use Rattle.tlsf_tool.specs.declared.asked.Name.TheVariants.{Leaks, Peak, Walk}
 use Rattle.mtrace_replay.specs.declared.report.Report.{Report}

@@ -18,6 +18,23 @@ pub enum Name {
     Walk,
 }
 
+/// What reads its log more than once.
+#[derive(Clone, Copy, Debug, PartialEq, Eq)]
+pub enum Rereading {
+    /// Who holds the memory of the log, on a heap by the settings. It reads the log twice.
+    Sites(Settings),
+    /// What is held over the lines of the log. It reads the log twice.
+    Timeline {
+        /// The heap that the log is replayed on.
+        settings: Settings,
+        /// In how many equal parts the log is cut.
+        parts: u32,
+    },
+    /// How large a pool the log needs, with the bytes between two sizes, where they are given. It reads the log once, and
+    /// then once for each size.
+    Fit(Option<u64>),
+}
+
 /// What the words ask for.
 #[derive(Debug, Drop)]
 pub enum Command {
@@ -30,27 +47,11 @@ pub enum Command {
         /// The log's name, `-` for standard input.
         log: String,
     },
-    /// Who holds the memory of a log.
-    Sites {
-        /// The heap that the log is replayed on.
-        settings: Settings,
-        /// The log's name. It is read twice.
-        log: String,
-    },
-    /// What is held over the lines of a log.
-    Timeline {
-        /// The heap that the log is replayed on.
-        settings: Settings,
-        /// In how many equal parts the log is cut.
-        parts: u32,
-        /// The log's name. It is read twice.
-        log: String,
-    },
-    /// How large a pool a log needs.
-    Fit {
-        /// How many bytes lie between two sizes that are tried, where that is given.
-        step: Option<u64>,
-        /// The log's name. It is read once for each size.
+    /// What reads its log more than once.
+    Reread {
+        /// What it is.
+        what: Rereading,
+        /// The log's name.
         log: String,
     },
     /// How large a pool is always enough, without a log.

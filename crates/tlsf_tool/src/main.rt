@@ -16,10 +16,10 @@ mod statuses;
 mod tests;
 mod words;
 
-use crate::asked::{Name, ToolFault};
+use crate::asked::{Name, Rereading, ToolFault};
 use crate::check::check_image;
 use crate::files::{FileNumber, are_one, make_file, open_file};
-use crate::plan::{Origin, Plan, Rereading, Terminals, planned};
+use crate::plan::{Origin, Plan, Terminals, planned};
 use crate::progress::{Cleared, Counted, Notice};
 use crate::service::{serve, serve_again, serve_help, serve_save, serve_size};
 use mtrace_log::{FromRead, ToWrite};

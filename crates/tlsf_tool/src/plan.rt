@@ -3,7 +3,7 @@
 ghost use Rattle.std.specs.Prelude.{◌≡◌};
 ghost use Rattle.tlsf_tool.specs.Plan.{is_dash, origin_of, is_told, again_for, plan_for, PlansFor};
 
-use crate::asked::{Command, Name, ToolFault};
+use crate::asked::{Command, Name, Rereading, ToolFault};
 use crate::words::command;
 use mtrace_replay::{Bounds, Settings};
 use std::alloc::Global;
@@ -24,22 +24,6 @@ pub enum Origin {
     Standard,
     /// The file of this name.
     File(String),
-}
-
-/// What reads its log more than once.
-#[derive(Clone, Copy, Debug, PartialEq, Eq)]
-pub enum Rereading {
-    /// Who holds the memory of the log, on a heap by the settings.
-    Sites(Settings),
-    /// What is held over the lines of the log.
-    Timeline {
-        /// The heap that the log is replayed on.
-        settings: Settings,
-        /// In how many equal parts the log is cut.
-        parts: u32,
-    },
-    /// How large a pool the log needs, with the bytes between two sizes, where they are given.
-    Fit(Option<u64>),
 }
 
 /// What the program does: what it opens, how it serves that, and whether it tells how far it is.
@@ -158,13 +142,7 @@ fn plan_of(terminals: Terminals, command: Command) -> Result<Plan, ToolFault>
                 notice,
             })
         }
-        Command::Sites { settings, log } => reread(terminals, log, Rereading::Sites(settings)),
-        Command::Timeline {
-            settings,
-            parts,
-            log,
-        } => reread(terminals, log, Rereading::Timeline { settings, parts }),
-        Command::Fit { step, log } => reread(terminals, log, Rereading::Fit(step)),
+        Command::Reread { what, log } => reread(terminals, log, what),
         Command::Save {
             settings,
             log,

@@ -2,15 +2,11 @@
 
 ghost use Rattle.std.specs.Prelude.{◌≡◌};
 ghost use Rattle.mtrace_replay.specs.Run.{Runs};
-ghost use Rattle.mtrace_replay.specs.RunSites.{RunsSites};
-ghost use Rattle.mtrace_replay.specs.RunTimeline.{RunsTimeline};
-ghost use Rattle.mtrace_replay.specs.RunFit.{RunsFit};
 ghost use Rattle.mtrace_replay.specs.Size.{RunsSize};
 ghost use Rattle.mtrace_replay.specs.Saving.{RunsAndSaves, PutsAndFlushes};
 ghost use Rattle.tlsf_tool.specs.Statuses.{report_of, EndsAs, Rereads, PutsHelp};
 
-use crate::asked::{Name, ToolFault};
-use crate::plan::Rereading;
+use crate::asked::{Name, Rereading, ToolFault};
 use crate::statuses::{end_status, fault_status};
 use arrayvec::ArrayString;
 use mtrace_log::{Again, Failed, Sink, Source, put_all};
@@ -103,63 +99,29 @@ pub fn serve<R: Source, W: Sink, E: Sink>(
     end_run(errors, run)
 }
 
-/// Tells who holds the memory of the log that the reader has left, by `run_sites`. Puts the line of a fault to
-/// `errors`, whose own fault doesn't matter. Answers the status that the program ends with. It is 0 where nothing was
-/// found, 1 where something was, and 2 for bad settings. It is 3 where the reader or the writer failed, or the reader
-/// didn't begin again, and 4 where memory was refused.
-pub fn serve_sites<R: Again, W: Sink, E: Sink>(
+/// Makes what reads its log more than once, of the log that the reader has left.
+pub(crate) fn run_again<R: Again, W: Sink, T: Watch>(
     alloc: Global,
-    settings: Settings,
+    what: Rereading,
     reader: &mut R,
     writer: &mut W,
-    errors: &mut E,
-) -> u8
-    ensures { EndsAs (λ outcome. RunsSites settings R.shown W.shown outcome reader.old reader.new writer.old writer.new)
-        result errors.old errors.new }
-{
-    let run = run_sites(alloc, reader, writer, settings);
-    end_run(errors, run)
-}
-
-/// Tells what is held over the lines of the log that the reader has left, by `run_timeline`. Puts the line of a fault to
-/// `errors`, whose own fault doesn't matter. Answers the status that the program ends with. It is 0 where nothing was
-/// found, 1 where something was, and 2 for bad settings, or a bad number of parts. It is 3 where the reader or the writer
-/// failed, or the reader didn't begin again, and 4 where memory was refused.
-pub fn serve_timeline<R: Again, W: Sink, E: Sink>(
-    alloc: Global,
-    settings: Settings,
-    parts: u32,
-    reader: &mut R,
-    writer: &mut W,
-    errors: &mut E,
-) -> u8
-    ensures { EndsAs (λ outcome. RunsTimeline settings parts R.shown W.shown outcome reader.old reader.new writer.old writer.new)
-        result errors.old errors.new }
-{
-    let run = run_timeline(alloc, reader, writer, settings, parts);
-    end_run(errors, run)
-}
-
-/// Tells how large a pool the log needs that the reader has left, by `run_fit`. Puts the line of a fault to `errors`,
-/// whose own fault doesn't matter. Answers the status that the program ends with. It is 0 where nothing was found, 1
-/// where something was, and 2 for a bad step. It is 3 where the reader or the writer failed, or the reader didn't
-/// begin again, and 4 where memory was refused.
-pub fn serve_fit<R: Again, W: Sink, E: Sink, T: Watch>(
-    alloc: Global,
-    step: Option<u64>,
-    reader: &mut R,
-    writer: &mut W,
-    errors: &mut E,
     watch: &T,
-) -> u8
-    ensures { EndsAs (λ outcome. RunsFit step R.shown W.shown outcome reader.old reader.new writer.old writer.new)
-        result errors.old errors.new }
+) -> Result<Status, RunFault>
+    ensures { Rereads what R.shown W.shown result reader.old reader.new writer.old writer.new }
 {
-    let run = run_fit(alloc, reader, writer, step, watch);
-    end_run(errors, run)
+    match what {
+        Rereading::Sites(settings) => run_sites(alloc, reader, writer, settings),
+        Rereading::Timeline { settings, parts } => {
+            run_timeline(alloc, reader, writer, settings, parts)
+        }
+        Rereading::Fit(step) => run_fit(alloc, reader, writer, step, watch),
+    }
 }
 
-/// Serves a log that is read more than once, by `serve_sites`, `serve_timeline` or `serve_fit`.
+/// Makes what reads its log more than once, of the log that the reader has left. Puts the line of a fault to `errors`,
+/// whose own fault doesn't matter. Answers the status that the program ends with. It is 0 where nothing was found, 1
+/// where something was, and 2 for bad settings, a bad number of parts or a bad step. It is 3 where the reader or the
+/// writer failed, or the reader didn't begin again, and 4 where memory was refused.
 pub fn serve_again<R: Again, W: Sink, E: Sink, T: Watch>(
     alloc: Global,
     what: Rereading,
@@ -171,13 +133,8 @@ pub fn serve_again<R: Again, W: Sink, E: Sink, T: Watch>(
     ensures { EndsAs (λ outcome. Rereads what R.shown W.shown outcome reader.old reader.new writer.old writer.new)
         result errors.old errors.new }
 {
-    match what {
-        Rereading::Sites(settings) => serve_sites(alloc, settings, reader, writer, errors),
-        Rereading::Timeline { settings, parts } => {
-            serve_timeline(alloc, settings, parts, reader, writer, errors)
-        }
-        Rereading::Fit(step) => serve_fit(alloc, step, reader, writer, errors, watch),
-    }
+    let run = run_again(alloc, what, reader, writer, watch);
+    end_run(errors, run)
 }
 
 /// Tells how large a pool is always enough within the bounds, by `run_size`. Puts the line of a fault to `errors`, whose

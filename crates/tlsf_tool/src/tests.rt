@@ -1,6 +1,7 @@
 //! Rows of whole runs: logs, faults of reader and writer, and words. The tests of a crate below stand in the module of its
 //! name without `tlsf_` or `mtrace_`.
 
+mod again;
 mod buffer;
 mod class;
 mod fit;

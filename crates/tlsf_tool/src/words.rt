@@ -6,7 +6,7 @@ ghost use Rattle.tlsf_tool.specs.CommandLine.{HasNumber, HasSettings, HasBounds,
 ghost use Rattle.tlsf_tool.specs.Faults.{ExplainsKind, IsUsage};
 ghost use Rattle.tlsf_tool.specs.Asks.{Picks, Asks, MatchesGive, WordsGive};
 
-use crate::asked::{Command, Name, ToolFault};
+use crate::asked::{Command, Name, Rereading, ToolFault};
 use crate::command_line::tlsf_command;
 use clap::error::ErrorKind;
 use clap::{ArgMatches, Error};
@@ -39,7 +39,7 @@ fn size_of(found: &ArgMatches<'_>, id: &str) -> Option<u64>
 }
 
 /// The number of this id that a subcommand's matches have.
-fn number_of(found: &ArgMatches<'_>, id: &str) -> Option<u32>
+fn option_number(found: &ArgMatches<'_>, id: &str) -> Option<u32>
     ensures { Picks (HasNumber (rows_of (found_of found.now)) id.now 32) result }
 {
     found.get_one::<u32>(id)
@@ -50,8 +50,8 @@ fn settings_of(found: &ArgMatches<'_>) -> Option<Settings>
     ensures { Picks (HasSettings (rows_of (found_of found.now))) result }
 {
     let pool = size_of(found, "pool")?;
-    let pools = number_of(found, "pools")?;
-    let records = number_of(found, "records")?;
+    let pools = option_number(found, "pools")?;
+    let records = option_number(found, "records")?;
     Some(Settings {
         pool,
         pools,
@@ -91,22 +91,20 @@ fn asked_sites(alloc: Global, found: &ArgMatches<'_>) -> Result<Command, ToolFau
     ensures { MatchesGive (Some (codes "sites", rows_of (found_of found.now))) result }
 {
     let (settings, log) = log_of(alloc, found)?;
-    Ok(Command::Sites { settings, log })
+    let what = Rereading::Sites(settings);
+    Ok(Command::Reread { what, log })
 }
 
 /// What the matches of the subcommand that tells what is held over the lines ask for.
 fn asked_timeline(alloc: Global, found: &ArgMatches<'_>) -> Result<Command, ToolFault>
     ensures { MatchesGive (Some (codes "timeline", rows_of (found_of found.now))) result }
 {
-    let Some(parts) = number_of(found, "points") else {
+    let Some(parts) = option_number(found, "points") else {
         return Err(ToolFault::usage(alloc, NO_COMMAND));
     };
     let (settings, log) = log_of(alloc, found)?;
-    Ok(Command::Timeline {
-        settings,
-        parts,
-        log,
-    })
+    let what = Rereading::Timeline { settings, parts };
+    Ok(Command::Reread { what, log })
 }
 
 /// What the matches of the subcommand that tries sizes ask for.
@@ -115,7 +113,8 @@ fn asked_fit(alloc: Global, found: &ArgMatches<'_>) -> Result<Command, ToolFault
 {
     let step = size_of(found, "step");
     let log = word_of(alloc, found, "LOG")?;
-    Ok(Command::Fit { step, log })
+    let what = Rereading::Fit(step);
+    Ok(Command::Reread { what, log })
 }
 
 /// The bounds that a subcommand's matches have.
@@ -124,7 +123,7 @@ fn bounds_of(found: &ArgMatches<'_>) -> Option<Bounds>
 {
     let bytes = size_of(found, "bytes");
     let align = size_of(found, "align");
-    let blocks = number_of(found, "blocks")?;
+    let blocks = option_number(found, "blocks")?;
     let largest = size_of(found, "largest")?;
     Some(Bounds {
         blocks,

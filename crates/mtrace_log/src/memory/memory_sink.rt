@@ -1,4 +1,4 @@
-ghost use Rattle.std.specs.Prelude.{◌≡◌, [], ℕ, ◌+◌, ◌<◌, ◌≤◌, ◌↔◌, ◌++◌, ◌∷◌, List, length, take, true, false, Some, IfOk, OnErr, IsErr, IsTrue};
+ghost use Rattle.std.specs.Prelude.{◌≡◌, [], ◌+◌, ◌<◌, ◌≤◌, ◌↔◌, ◌++◌, ◌∷◌, length, take, true, false, IfOk, OnErr, IsErr, IsTrue};
 ghost use Rattle.mtrace_log.specs.Memory.{sink_taken, sink_piece, sink_room, sink_full, sink_count, flush_fails, sink_trace, sink_shown, IsSink};
 ghost use Rattle.mtrace_log.specs.Trace.{offered, flushed};
 ghost use Rattle.mtrace_log.specs.declared.memory.memory_sink.Full.TheVariants.{Fails};

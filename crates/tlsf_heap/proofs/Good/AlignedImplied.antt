@@ -6,7 +6,7 @@ use Rattle.tlsf_heap.specs.Content.{Content, blocks_of, size_at, used_records}
 use Rattle.tlsf_heap.specs.Memalign.{size_asked, memalign}
 use Rattle.tlsf_heap.specs.Good.{IsGood}
 use Rattle.tlsf_heap.specs.Implied.{NoneFitsAligned, HasFewRecordsAndOne}
-use Rattle.tlsf_heap.proofs.Good.Calls.{picked}
+use Rattle.tlsf_heap.proofs.Good.MallocIsGood.{picked}
 use Rattle.tlsf_heap.proofs.Good.Implied.{none_picked, few_blocks}
 use Rattle.tlsf_heap.proofs.Content.MemalignCases.{few_gap, used_aligned, IsPicked, split_aligned_of, memalign_cases}
 

@@ -6,7 +6,7 @@ use Rattle.tlsf_heap.specs.Content.{Content}
 use Rattle.tlsf_heap.specs.Malloc.{malloc}
 use Rattle.tlsf_heap.specs.Realloc.{given_anew, realloc}
 use Rattle.tlsf_heap.specs.Good.{IsGood}
-use Rattle.tlsf_heap.proofs.Good.Calls.{malloc_is_good}
+use Rattle.tlsf_heap.proofs.Good.MallocIsGood.{malloc_is_good}
 use Rattle.tlsf_heap.proofs.Good.StaysLive.{live_through_malloc}
 use Rattle.tlsf_heap.proofs.Content.Given.{realloc_left}
 use Rattle.tlsf_heap.proofs.Meaning.FreedIsGood.{freed_is_good}

@@ -11,7 +11,7 @@ use Rattle.tlsf_heap.specs.Good.{IsGood}
 use Rattle.tlsf_heap.specs.GoodSlots.{is_slot, slot_times, HasGoodSlots}
 use Rattle.tlsf_heap.proofs.Counts.{count-cons, count-append, one_if}
 use Rattle.tlsf_heap.proofs.Content.Replacing.{blocks_of-replaced, count_by-replaced}
-use Rattle.tlsf_heap.proofs.Good.Calls.{picked, count_by-pools}
+use Rattle.tlsf_heap.proofs.Good.MallocIsGood.{picked, count_by-pools}
 
 -- whether the block has the slot
 abbrev has : ℕ → Block ℕ → Bool

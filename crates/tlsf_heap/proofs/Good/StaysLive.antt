@@ -19,7 +19,7 @@ use Rattle.tlsf_heap.proofs.Meaning.FreeFirst.{begins_once}
 use Rattle.tlsf_heap.proofs.Meaning.Gaps.{FailsOnFree, split_counts}
 use Rattle.tlsf_heap.proofs.Meaning.FreedIsGood.{freed_counts}
 use Rattle.tlsf_heap.proofs.Meaning.ResizedIsGood.{resized_counts}
-use Rattle.tlsf_heap.proofs.Good.Calls.{picked, malloc_is_good}
+use Rattle.tlsf_heap.proofs.Good.MallocIsGood.{picked, malloc_is_good}
 
 -- whether a free block begins at the place
 abbrev pub is_free_at : {A : Type 0} → ℕ → Block A → Bool

@@ -29,7 +29,7 @@ use Rattle.tlsf_heap.specs.Within.{TakesWithin, IsWithin, StaysWithin, IsLargeEn
 use Rattle.tlsf_heap.proofs.Content.Given.{malloc_gave, realloc_gave, free_gave}
 use Rattle.tlsf_heap.proofs.Content.MemalignCases.{memalign_given}
 use Rattle.tlsf_heap.proofs.Content.ReallocCases.{realloc_reasons}
-use Rattle.tlsf_heap.proofs.Good.Calls.{malloc_is_good, add_pool_is_good, created_is_good}
+use Rattle.tlsf_heap.proofs.Good.MallocIsGood.{malloc_is_good, add_pool_is_good, created_is_good}
 use Rattle.tlsf_heap.proofs.Good.Realloc.{realloc_is_good}
 use Rattle.tlsf_heap.proofs.Meaning.AlignedIsGood.{memalign_is_good}
 use Rattle.tlsf_heap.proofs.Meaning.FreedIsGood.{freed_is_good}

@@ -14,7 +14,7 @@ use Rattle.tlsf_heap.specs.Inner.Represents.{InPool, in_pool, pool_views, state_
 use Rattle.tlsf_heap.specs.Inner.At.{AreCovered}
 use Rattle.tlsf_heap.specs.Inner.Following.{Stands}
 use Rattle.tlsf_heap.proofs.Counts.{one_if, count-cons}
-use Rattle.tlsf_heap.proofs.Good.Calls.{IsWhole}
+use Rattle.tlsf_heap.proofs.Good.MallocIsGood.{IsWholeBlock}
 use Rattle.tlsf_heap.proofs.Inner.Plugs.{count-filled}
 use Rattle.tlsf_heap.proofs.Inner.Links.{first_stands}
 use Rattle.tlsf_heap.proofs.Inner.Chains.{used_below, at_node}
@@ -31,7 +31,7 @@ pub record FoundNode (records : List Record) (areas : List Area) (test : Node �
   pub says : pool_views records node.slot ≡ in_pool prev node next
   pub prev_below : IsBelow (length records) prev
   pub next_below : IsBelow (length records) next
-  pub whole : IsWhole (block_of node)
+  pub whole : IsWholeBlock (block_of node)
 
 first_below : (records : List Record) (nodes : List Node) → ((q : ℕ) → 1 ≤ count_by (has_slot q) nodes → q < length records) → IsBelow (length records) (first_slot nodes)
 first_below records [] below = tt

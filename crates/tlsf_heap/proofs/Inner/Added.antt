@@ -19,7 +19,7 @@ use Rattle.tlsf_heap.specs.Inner.Represents.{Represents}
 use Rattle.tlsf_heap.specs.Inner.Merging.{is_loose}
 use Rattle.tlsf_heap.specs.Inner.Following.{content_of, Stands}
 use Rattle.tlsf_heap.specs.Inner.Entering.{pool_node, pool_laid}
-use Rattle.tlsf_heap.proofs.Good.Calls.{add_pool_is_good}
+use Rattle.tlsf_heap.proofs.Good.MallocIsGood.{add_pool_is_good}
 use Rattle.tlsf_heap.proofs.Inner.Followed.{records_are, content_is, stood_for}
 use Rattle.tlsf_heap.proofs.Inner.Standing.{apart_is, pools_length, used_are, content_is_good}
 use Rattle.tlsf_heap.proofs.Meaning.Entered.{count-with_area, pool_laid_is}

@@ -15,7 +15,7 @@ use Rattle.tlsf_heap.specs.Images.Bitmaps.{head_bit, word_bit}
 use Rattle.tlsf_heap.specs.Inner.Nodes.{Node, Layout, content_by, nodes_in}
 use Rattle.tlsf_heap.specs.Inner.Represents.{list_views, in_list, first_slot, uses_in, AreLinked, Represents}
 use Rattle.tlsf_heap.specs.Inner.Following.{content_of, Stands}
-use Rattle.tlsf_heap.proofs.Good.Calls.{created_is_good}
+use Rattle.tlsf_heap.proofs.Good.MallocIsGood.{created_is_good}
 use Rattle.tlsf_heap.proofs.Inner.Followed.{content_is}
 
 get_or-same : {A : Type 0} (n i : ℕ) (a : A) → get_or (replicate n a) i a ≡ a

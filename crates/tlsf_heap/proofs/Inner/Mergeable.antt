@@ -16,7 +16,7 @@ use Rattle.tlsf_heap.specs.Inner.Positions.{Position, laid, filled}
 use Rattle.tlsf_heap.specs.Inner.Merging.{is_loose, past, listed_first, left_by, merged_with_front, merged_with_behind}
 use Rattle.tlsf_heap.specs.Inner.Represents.{InPool, in_pool, pool_views, state_of, first_slot, AreChains, Represents}
 use Rattle.tlsf_heap.specs.Inner.At.{At, StandsAt, AreCovered, previous_merged, next_merged}
-use Rattle.tlsf_heap.proofs.Good.Calls.{IsWhole}
+use Rattle.tlsf_heap.proofs.Good.MallocIsGood.{IsWholeBlock}
 use Rattle.tlsf_heap.proofs.Counts.{one_if, count-cons}
 use Rattle.tlsf_heap.proofs.Inner.Plugs.{count-filled}
 use Rattle.tlsf_heap.proofs.Inner.Links.{Some≢None, Some-same}
@@ -57,12 +57,12 @@ module _ (cells : Cells) (count : ℕ) (listed_position : Position) (listed : No
       let P : ℕ → List Area → Type 0 = λ size areas. Represents (unlinked_by (class size) block cells) (record { count = count; areas = areas; lists = left (turned Listed listed) lists; taken = taken }) in
       subst (λ size. P size (filled position (front ∷ behind ∷ nodes))) (sym size_is) (subst (P listed.size) side_by_side (unlinked_laid cells count listed_position (turned Listed listed) listed_nodes lists taken was))
 
-  both_whole : IsWhole (block_of both)
+  both_whole : IsWholeBlock (block_of both)
   both_whole = node_whole position both nodes covered_after
 
   mergeable : CanMerge (node_span both nodes) behind.slot block cells.records out.records
   mergeable =
-      let whole : IsWhole (block_of (turned Listed listed)) = node_whole listed_position (turned Listed listed) listed_nodes covered in
+      let whole : IsWholeBlock (block_of (turned Listed listed)) = node_whole listed_position (turned Listed listed) listed_nodes covered in
       let next_position : Position = record position { before = front ∷ position.before } in
       let here : AtNode out.records position front (behind ∷ nodes) taken = at_node out.records position front (behind ∷ nodes) taken unlinked_was.chains in
       let there : AtNode out.records next_position behind nodes taken = at_node out.records next_position behind nodes taken unlinked_was.chains in

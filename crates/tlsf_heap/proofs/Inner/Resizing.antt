@@ -19,7 +19,7 @@ use Rattle.tlsf_heap.proofs.Inner.Plugs.{count-filled}
 use Rattle.tlsf_heap.proofs.Inner.Sums.{all_records}
 use Rattle.tlsf_heap.proofs.Inner.Followed.{stood_for, records_are}
 use Rattle.tlsf_heap.proofs.Inner.Steps.{size_read, slot_used}
-use Rattle.tlsf_heap.proofs.Inner.Served.{used_is}
+use Rattle.tlsf_heap.proofs.Inner.TakenBlock.{used_is}
 use Rattle.tlsf_heap.proofs.Inner.Live.{NodeAt, node_stood, node_good, node_agrees_once, node_size, node_taken, live_at, stands_with}
 use Rattle.tlsf_heap.proofs.Inner.Standing.{used_are, content_is_good}
 use Rattle.tlsf_heap.proofs.Meaning.Places.{AgreeOnce, alone}

@@ -8,7 +8,7 @@ use Rattle.tlsf_heap.specs.Inner.At.{AreCovered}
 use Rattle.tlsf_heap.specs.Inner.Nodes.{NodeState, Listed, Loose, Node, turned, block_of, pool_of, is_listed}
 use Rattle.tlsf_heap.specs.Inner.Represents.{InPool, state_of, first_slot, Represents}
 use Rattle.tlsf_heap.specs.Inner.At.{At, areas_at, layout_at, StandsAt, at_turned, at_listed}
-use Rattle.tlsf_heap.proofs.Good.Calls.{IsWhole}
+use Rattle.tlsf_heap.proofs.Good.MallocIsGood.{IsWholeBlock}
 use Rattle.tlsf_heap.proofs.Inner.Chains.{AtNode, at_node}
 use Rattle.tlsf_heap.proofs.Inner.Used.{node_is_used, head_used}
 use Rattle.tlsf_heap.proofs.Inner.StateSet.{state_set}
@@ -40,7 +40,7 @@ module _ (cells : Cells) (slot : ℕ) (node_state : NodeState) (at : At) (stands
   pub state_read : (record_at cells.records slot).state ≡ state_of node_state
   state_read = ap (λ q. (record_at cells.records q).state) (sym stands.1.slot_is) ∙ ap (λ (v : InPool). v.state) here.says ∙ ap state_of stands.1.node_state_is
 
-  pub whole_at : IsWhole (block_of at.node)
+  pub whole_at : IsWholeBlock (block_of at.node)
   whole_at = node_whole at.position at.node at.nodes stands.1.covered
 
   pub first_used : IsUsed cells.records (head_at cells.heads (class at.node.size))

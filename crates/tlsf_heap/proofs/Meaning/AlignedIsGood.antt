@@ -9,7 +9,7 @@ use Rattle.tlsf_class.proofs.RoundingLaws.{round-Some}
 use Rattle.tlsf_heap.specs.Memalign.{is_alignment, size_asked, memalign}
 use Rattle.tlsf_heap.proofs.Content.MemalignCases.{IsPicked, memalign_given}
 use Rattle.tlsf_heap.specs.Good.{IsGood}
-use Rattle.tlsf_heap.proofs.Good.Calls.{Picked, picked}
+use Rattle.tlsf_heap.proofs.Good.MallocIsGood.{Picked, picked}
 use Rattle.tlsf_heap.proofs.Good.Implied.{has_aligned_blocks}
 use Rattle.tlsf_heap.proofs.Content.Alignments.{IsStart, start_is}
 use Rattle.tlsf_heap.proofs.Meaning.SplitInThree.{aligned_is_good}

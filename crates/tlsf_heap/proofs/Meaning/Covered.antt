@@ -6,7 +6,7 @@ use Rattle.tlsf_heap.specs.Good.{Covers, AreGoodPools}
 use Rattle.tlsf_heap.specs.Inner.At.{IsCovered, AreCovered}
 use Rattle.tlsf_heap.specs.Inner.Nodes.{NodeState, Node, Area, block_of, pool_of}
 use Rattle.tlsf_heap.specs.Inner.Positions.{plug, Position, filled}
-use Rattle.tlsf_heap.proofs.Good.Calls.{IsWhole, whole_in_pool}
+use Rattle.tlsf_heap.proofs.Good.MallocIsGood.{IsWholeBlock, whole_in_pool}
 use Rattle.tlsf_heap.proofs.Inner.Plugs.{map-plug, all_parts}
 
 -- good pools are covered
@@ -20,14 +20,14 @@ covered_behind from [] areas c = (from, c)
 covered_behind from (area ∷ front) areas c = let rest = covered_behind from front (area ∷ areas) c in (area.entry.base + area.entry.bytes, rest.1.2)
 
 -- the block of a node is whole
-pub node_whole : (position : Position) (node : Node) (nodes : List Node) → AreCovered 0 (map pool_of (filled position (node ∷ nodes))) → IsWhole (block_of node)
+pub node_whole : (position : Position) (node : Node) (nodes : List Node) → AreCovered 0 (map pool_of (filled position (node ∷ nodes))) → IsWholeBlock (block_of node)
 node_whole position node nodes c =
     let pool : Pool ℕ = pool_of (record { entry = position.entry; nodes = plug position.before (node ∷ nodes) }) in
     let covered : IsCovered pool = (covered_behind 0 position.areas_before (record { entry = position.entry; nodes = plug position.before (node ∷ nodes) } ∷ position.areas_behind) c).1.1 in
-    let P : List (Block ℕ) → Type 0 = λ blocks. AllByRecursion IsWhole blocks in
-    let all : AllByRecursion IsWhole (plug (map block_of position.before) (block_of node ∷ map block_of nodes)) =
+    let P : List (Block ℕ) → Type 0 = λ blocks. AllByRecursion IsWholeBlock blocks in
+    let all : AllByRecursion IsWholeBlock (plug (map block_of position.before) (block_of node ∷ map block_of nodes)) =
     subst P (map-plug block_of position.before (node ∷ nodes)) (whole_in_pool pool.base pool.bytes pool.base pool.blocks covered.most_bytes covered.ends (omega arith) covered.covered) in
-    (all_parts IsWhole (map block_of position.before) (block_of node ∷ map block_of nodes) all).1.0
+    (all_parts IsWholeBlock (map block_of position.before) (block_of node ∷ map block_of nodes) all).1.0
 
 covers_plug : (to : ℕ) (front olds news : List Node) → ((from : ℕ) → Covers from to (map block_of olds) → Covers from to (map block_of news)) → (from : ℕ) → Covers from to (map block_of (plug front olds)) → Covers from to (map block_of (plug front news))
 covers_plug to [] olds news covers = covers

@@ -12,7 +12,7 @@ use Rattle.tlsf_heap.specs.Free.{is_owned_by, is_live, if_free, free_previous, f
 use Rattle.tlsf_heap.specs.Free.{free_block, without_block, after_free}
 use Rattle.tlsf_heap.specs.Inner.Positions.{plug}
 use Rattle.tlsf_heap.proofs.Content.FreeLists.{times-link, length-link}
-use Rattle.tlsf_heap.proofs.Good.Calls.{Covers-le}
+use Rattle.tlsf_heap.proofs.Good.MallocIsGood.{Covers-le}
 use Rattle.tlsf_heap.proofs.Counts.{one_if, count-cons, count-append, count_all, any_counts}
 use Rattle.tlsf_heap.proofs.Meaning.BlockPositions.{BlockPosition, pool_at, filled_pools, around_blocks, count-filled_pools, LocatedBlock, located_block, IsAlone, block_alone, replaced_at, front_at, back_at, size_here}
 use Rattle.tlsf_heap.proofs.Meaning.FreeFirst.{past_free, free_first, is_first_free, listed_of, lead, lead_plug, count_lead, past_apart, count_past, begins_once, listed_once, next_once, few_past, kept_past, once_past, free_stands, times-unlink_block, length-unlink_block, merged_of, covers_behind, without_next}

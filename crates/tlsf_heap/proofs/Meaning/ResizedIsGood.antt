@@ -8,7 +8,7 @@ use Rattle.tlsf_heap.specs.Malloc.{link_gap, split, replaced_in}
 use Rattle.tlsf_heap.specs.Free.{if_free, free_next, unlink_block, without_block, size_of, is_owned_by, is_live}
 use Rattle.tlsf_heap.specs.Realloc.{size_with_next, fits_in_place, resized}
 use Rattle.tlsf_heap.specs.Pools.{end_of_places}
-use Rattle.tlsf_heap.proofs.Good.Calls.{Covers-le}
+use Rattle.tlsf_heap.proofs.Good.MallocIsGood.{Covers-le}
 use Rattle.tlsf_heap.specs.Good.{Covers, NoFreeNeighbours, times, is_listed, IsGood}
 use Rattle.tlsf_heap.proofs.Content.FreeLists.{count_listed-split, times-link_gap, length-link_gap}
 use Rattle.tlsf_heap.proofs.Counts.{one_if, count-cons, count-append, count_all}

@@ -9,7 +9,7 @@ use Rattle.tlsf_heap.specs.Free.{free_block}
 use Rattle.tlsf_heap.specs.Pools.{end_of_places}
 use Rattle.tlsf_heap.specs.PlainHeap.{IsSize, IsPlain, gap_block, link_block, blocks_among}
 use Rattle.tlsf_heap.specs.GoodSlots.{slot_times}
-use Rattle.tlsf_heap.proofs.Good.Calls.{picked, allocated_is_good}
+use Rattle.tlsf_heap.proofs.Good.MallocIsGood.{picked, allocated_is_good}
 use Rattle.tlsf_heap.proofs.Good.Slots.{allocated_slots}
 use Rattle.tlsf_heap.proofs.Good.SlotsLeft.{free_found}
 

@@ -6,6 +6,6 @@ use Rattle.tlsf_heap.specs.Images.Told.{told_parts}
 use Rattle.tlsf_heap.specs.Images.Bitmaps.{AreBitmapsOf}
 
 -- the cells' image would break no rule, and the bitmaps agree with the heads
-pub record IsWhole (cells : Cells) : Type 0 where
+pub record IsWholeStore (cells : Cells) : Type 0 where
   pub rules : first_of (rules_of_table (told_parts cells)) ≡ None
   pub bitmaps : AreBitmapsOf cells.heads cells.step_words cells.level_word

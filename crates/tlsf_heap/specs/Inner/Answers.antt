@@ -14,7 +14,7 @@ pub record Leaves (left : Cells) (n : ℕ) (old new : CountedCells) : Type 0 whe
 
 -- a call over a store that stands, by its content: what it gives, or why it is refused. Refused, it leaves the cells as they
 -- were. At most n touches
-pub record Answers {A : Type 0} (result : Result A Refusal) (gives : A → Content ℕ → Content ℕ → Type 0) (refuses : Refusal → Content ℕ → Type 0) (n : ℕ) (old new : CountedCells) : Type 0 where
+pub record AnswersOver {A : Type 0} (result : Result A Refusal) (gives : A → Content ℕ → Content ℕ → Type 0) (refuses : Refusal → Content ℕ → Type 0) (n : ℕ) (old new : CountedCells) : Type 0 where
   pub stands : Stands new.cells
   pub ok : IfOk result (λ given. gives given (content_of old.cells) (content_of new.cells))
   pub refused : IfErr result (λ refusal. refuses refusal (content_of old.cells))

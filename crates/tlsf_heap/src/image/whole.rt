@@ -1,7 +1,7 @@
 //! Whether a store is that of a heap.
 
 ghost use Rattle.std.specs.Prelude.{◌≡◌, ◌+◌, ◌<◌, ◌↔◌, IsTrue, length};
-ghost use Rattle.tlsf_heap.specs.Images.Whole.{IsWhole};
+ghost use Rattle.tlsf_heap.specs.Images.Whole.{IsWholeStore};
 
 use super::bitmaps::has_true_bitmaps;
 use super::first_broken;
@@ -11,7 +11,7 @@ use tlsf_store::Store;
 /// on the chain of vacant records. The cells break no rule that an image of them is tested by. Where all that
 /// holds, each record is read. The time is linear in the records.
 pub fn is_whole(store: &mut Store) -> bool
-    ensures exact { IsTrue result ↔ IsWhole store.old.cells }
+    ensures exact { IsTrue result ↔ IsWholeStore store.old.cells }
     ensures cells { store.new.cells ≡ store.old.cells }
     ensures read { store.old.touches < store.new.touches }
     ensures each_read { IsTrue result → store.old.touches + length store.old.cells.records < store.new.touches }

@@ -1,8 +1,8 @@
 //! What is opened for words, through `planned`.
 
 use super::program::strings;
-use crate::asked::{Name, ToolFault};
-use crate::plan::{Origin, Plan, Rereading, Terminals, planned};
+use crate::asked::{Name, Rereading, ToolFault};
+use crate::plan::{Origin, Plan, Terminals, planned};
 use crate::tests::expect_eq_at;
 use mtrace_replay::Settings;
 use std::alloc::Global;

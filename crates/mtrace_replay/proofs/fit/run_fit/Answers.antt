@@ -1,5 +1,5 @@
 use Rattle.std.proofs.Common.{◌≡◌, Bool, true, false, refl, sym, ◌∙◌, subst, inl, inr, ◌⊎◌}
-use Rattle.std.specs.Prelude.{Ok, Err, IsErrOf, IsTrue}
+use Rattle.std.specs.Prelude.{Result, Ok, Err, IfErr, IsErrOf, IsTrue}
 use Rattle.mtrace_replay.specs.declared.report.Report.TheVariants.{Nothing}
 use Rattle.mtrace_replay.specs.declared.settings.Settings.{Settings}
 use Rattle.mtrace_replay.specs.declared.status.Status.{Status}
@@ -12,51 +12,29 @@ not_bad : (bad : Bool) → bad ≡ false → IsTrue bad → ⊥
 not_bad true is bad = cc
 not_bad false is bad = cc
 
-no_bad_settings : (fault : RunFault) → (fault ≡ Read) ⊎ (fault ≡ Write) → IsErrOf {T = Status} (Err fault) BadSettings → ⊥
-no_bad_settings fault (inl read) is = cc
-no_bad_settings fault (inr write) is = cc
-
-pub returns-in-Ok-tell_fit : goal.returns-in-Ok-tell_fit
-returns-in-Ok-tell_fit g c =
-    let reads = g.R.Source.shown in
-    let writes = g.W.Sink.shown in
-    let ended = c.in-Ok.ended in
-    let E : Settings → Type 0 = λ settings. EndsAt settings ended.status ended.replay (reads c.args.reader.now) (reads c.replay_log.new.reader) (writes c.args.writer.now) (writes c.replay_log.new.writer) in
-    let R : Settings → Type 0 = λ settings. Runs Nothing settings reads writes (Ok ended.status) c.args.reader.now c.replay_log.new.reader c.args.writer.now c.replay_log.new.writer in
-    let last = subst E c.greatest.ensures (c.in-Ok.ensures.last refl) in
-    let ran = subst R c.greatest.ensures c.in-Ok.ensures.ran in
-    let follow = c.in-Ok-tell_fit.ensures last.reports.lines last.stands in
-    record {
-      bad_step = ((λ is. absurd (cc)), (λ bad. absurd (not_bad _ (sym c.is_bad_step.ensures ∙ c.if-is_bad_step.false) bad)));
-      nothing_done = λ is. absurd (cc);
-      runs = λ good. record {
-        run = Ok ended.status;
-        reader_middle = c.replay_log.new.reader;
-        writer_middle = c.replay_log.new.writer;
-        runs = ran;
-        goes_on = record { reports = last.reports; answer = refl; follow = follow };
-      };
-    }
+no_bad_settings : (result : Result Status RunFault) → IfErr result (λ fault. (fault ≡ Read) ⊎ (fault ≡ Write)) → IsErrOf result BadSettings → ⊥
+no_bad_settings (Ok status) faults is = cc
+no_bad_settings (Err fault) (inl read) is = cc
+no_bad_settings (Err fault) (inr write) is = cc
 
 pub returns : goal.returns
 returns g c =
     let reads = g.R.Source.shown in
     let writes = g.W.Sink.shown in
     let ended = c.in-Ok.ended in
-    let fault = c.in-Err-tell_fit.fault in
     let E : Settings → Type 0 = λ settings. EndsAt settings ended.status ended.replay (reads c.args.reader.now) (reads c.replay_log.new.reader) (writes c.args.writer.now) (writes c.replay_log.new.writer) in
     let R : Settings → Type 0 = λ settings. Runs Nothing settings reads writes (Ok ended.status) c.args.reader.now c.replay_log.new.reader c.args.writer.now c.replay_log.new.writer in
     let last = subst E c.greatest.ensures (c.in-Ok.ensures.last refl) in
     let ran = subst R c.greatest.ensures c.in-Ok.ensures.ran in
-    let follow = c.in-Err-tell_fit.ensures last.reports.lines last.stands in
+    let follow = c.tell_fit.ensures.told last.reports.lines last.stands in
     record {
-      bad_step = ((λ is. absurd (no_bad_settings fault follow.faults is)), (λ bad. absurd (not_bad _ (sym c.is_bad_step.ensures ∙ c.if-is_bad_step.false) bad)));
-      nothing_done = λ is. absurd (no_bad_settings fault follow.faults is);
+      bad_step = ((λ is. absurd (no_bad_settings c.tell_fit.result follow.faults is)), (λ bad. absurd (not_bad _ (sym c.is_bad_step.ensures ∙ c.if-is_bad_step.false) bad)));
+      nothing_done = λ is. absurd (no_bad_settings c.tell_fit.result follow.faults is);
       runs = λ good. record {
         run = Ok ended.status;
         reader_middle = c.replay_log.new.reader;
         writer_middle = c.replay_log.new.writer;
         runs = ran;
-        goes_on = record { reports = last.reports; answer = tt; follow = follow };
+        goes_on = record { reports = last.reports; answer = c.tell_fit.ensures.answer; follow = follow };
       };
     }

@@ -12,30 +12,15 @@ pub returns-in-Err-OutOfMemory : goal.returns-in-Err-OutOfMemory
 returns-in-Err-OutOfMemory g c =
     again_undone c.args.settings (λ lines. SitesFollow c.args.settings lines g.R.Source.shown g.W.Sink.shown) g.R.Source.shown g.W.Sink.shown _ c.args.reader.now c.args.writer.now (refl, refl) (search rules)
 
-pub returns-in-Ok-tell_sites : goal.returns-in-Ok-tell_sites
-returns-in-Ok-tell_sites g c =
-    let settings = c.args.settings in
-    let ended = c.in-Ok-replay_log.ended in
-    let last = c.in-Ok-replay_log.ensures.last refl in
-    let follow = c.in-Ok-tell_sites.ensures settings last.reports.lines last.stands c.in-Ok.ensures.made.replay in
-    record {
-      run = Ok ended.status;
-      reader_middle = c.replay_log.new.reader;
-      writer_middle = c.replay_log.new.writer;
-      runs = c.in-Ok-replay_log.ensures.ran;
-      goes_on = record { reports = last.reports; answer = refl; follow = follow };
-    }
-
 pub returns : goal.returns
 returns g c =
     let settings = c.args.settings in
     let ended = c.in-Ok-replay_log.ended in
     let last = c.in-Ok-replay_log.ensures.last refl in
-    let follow = c.in-Err-tell_sites.ensures settings last.reports.lines last.stands c.in-Ok.ensures.made.replay in
     record {
       run = Ok ended.status;
       reader_middle = c.replay_log.new.reader;
       writer_middle = c.replay_log.new.writer;
       runs = c.in-Ok-replay_log.ensures.ran;
-      goes_on = record { reports = last.reports; answer = tt; follow = follow };
+      goes_on = record { reports = last.reports; answer = c.tell_sites.ensures.answer; follow = c.tell_sites.ensures.told settings last.reports.lines last.stands c.in-Ok.ensures.made.replay };
     }

@@ -11,7 +11,7 @@ use Rattle.mtrace_replay.specs.Index.{AreInOrder, IsNewSlot, held_at, held_bytes
 use Rattle.mtrace_replay.specs.Step.{all_given, Comes, AreLive}
 use Rattle.mtrace_replay.proofs.HeapSteps.{bare_served, bare_refused}
 use Rattle.mtrace_replay.proofs.AskedBlock.{asked_small, asked_records}
-use Rattle.mtrace_replay.proofs.Living.{live_after_asked}
+use Rattle.mtrace_replay.proofs.HeldStayLive.{live_after_asked}
 use Rattle.mtrace_replay.proofs.SlotLemmas.{new_slot}
 use Rattle.mtrace_replay.proofs.HeldFew.{held_fits, held_room}
 use Rattle.mtrace_replay.proofs.LookLemmas.{look_on}

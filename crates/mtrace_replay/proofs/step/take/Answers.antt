@@ -6,7 +6,7 @@ use Rattle.tlsf_heap.specs.Pointer.{Pointer}
 use Rattle.tlsf_heap.proofs.Good.StaysLive.{free_of_live}
 use Rattle.std.specs.Prelude.{Ok}
 use Rattle.mtrace_replay.proofs.HeapSteps.{bare_freed}
-use Rattle.mtrace_replay.proofs.Living.{live_after_free}
+use Rattle.mtrace_replay.proofs.HeldStayLive.{live_after_free}
 use Rattle.mtrace_replay.proofs.step.take.Goals as goal
 
 pub unreachable-requires : goal.unreachable-requires

@@ -17,29 +17,10 @@ returns-in-Err-OutOfMemory g c =
     let again = again_undone c.args.settings (λ lines. TimelineFollows c.args.settings c.args.parts lines g.R.Source.shown g.W.Sink.shown) g.R.Source.shown g.W.Sink.shown _ c.args.reader.now c.args.writer.now (refl, refl) (search rules) in
     record { bad_parts = λ bad. absurd (not_both bad (sym c.is_bad_parts.ensures ∙ c.if-is_bad_parts.false)); runs = λ good. again }
 
-pub returns-in-Ok-tell_timeline : goal.returns-in-Ok-tell_timeline
-returns-in-Ok-tell_timeline g c =
-    let settings = c.args.settings in
-    let ended = c.in-Ok-replay_log.ended in
-    let last = c.in-Ok-replay_log.ensures.last refl in
-    let follow = c.in-Ok-tell_timeline.ensures last.reports.lines last.stands in
-    record {
-      bad_parts = λ bad. absurd (not_both bad (sym c.is_bad_parts.ensures ∙ c.if-is_bad_parts.false));
-      runs = λ good. record {
-        run = Ok ended.status;
-        reader_middle = c.replay_log.new.reader;
-        writer_middle = c.replay_log.new.writer;
-        runs = c.in-Ok-replay_log.ensures.ran;
-        goes_on = record { reports = last.reports; answer = refl; follow = follow };
-      };
-    }
-
 pub returns : goal.returns
 returns g c =
-    let settings = c.args.settings in
     let ended = c.in-Ok-replay_log.ended in
     let last = c.in-Ok-replay_log.ensures.last refl in
-    let follow = c.in-Err-tell_timeline.ensures last.reports.lines last.stands in
     record {
       bad_parts = λ bad. absurd (not_both bad (sym c.is_bad_parts.ensures ∙ c.if-is_bad_parts.false));
       runs = λ good. record {
@@ -47,6 +28,6 @@ returns g c =
         reader_middle = c.replay_log.new.reader;
         writer_middle = c.replay_log.new.writer;
         runs = c.in-Ok-replay_log.ensures.ran;
-        goes_on = record { reports = last.reports; answer = tt; follow = follow };
+        goes_on = record { reports = last.reports; answer = c.tell_timeline.ensures.answer; follow = c.tell_timeline.ensures.told last.reports.lines last.stands };
       };
     }

@@ -1,6 +1,6 @@
 use Rattle.std.proofs.Common.{ℕ, Bool, List, length, ap, sym, ◌∙◌}
 use Rattle.std.specs.Prelude.{min, nat_le, if◌then◌else◌}
-use Rattle.tlsf_c.specs.Placed.{placed}
+use Rattle.tlsf_c.specs.Room.{put_over}
 use Rattle.tlsf_c.specs.Saving.{no_room}
 use Rattle.tlsf_c.proofs.SavedLemmas.{has_text}
 use Rattle.tlsf_c.proofs.images.save_into.Goals as goal
@@ -14,7 +14,7 @@ returns-then-window-clause-saved c =
     record {
       image = saved.image;
       is_image = saved.is_image;
-      bytes = c.bytes-1.given.1.1 (sym c.over-window.ensures.lent ∙ sym text.lent) ∙ text.bytes ∙ ap (λ (bytes : List ℕ). placed saved.image bytes) room;
+      bytes = c.bytes-1.given.1.1 (sym c.over-window.ensures.lent ∙ sym text.lent) ∙ text.bytes ∙ ap (λ (bytes : List ℕ). put_over saved.image bytes) room;
       count_is = text.ends ∙ ap (λ (bytes : List ℕ). min (length saved.image) (length bytes)) room;
       status_is = ap (λ (whole : Bool). if whole then 0 else no_room) (sym c.if-window.true ∙ all);
     }
@@ -28,7 +28,7 @@ returns-else-window-clause-saved c =
     record {
       image = saved.image;
       is_image = saved.is_image;
-      bytes = c.bytes-1.given.1.1 (sym c.over-window.ensures.lent ∙ sym text.lent) ∙ text.bytes ∙ ap (λ (bytes : List ℕ). placed saved.image bytes) room;
+      bytes = c.bytes-1.given.1.1 (sym c.over-window.ensures.lent ∙ sym text.lent) ∙ text.bytes ∙ ap (λ (bytes : List ℕ). put_over saved.image bytes) room;
       count_is = text.ends ∙ ap (λ (bytes : List ℕ). min (length saved.image) (length bytes)) room;
       status_is = ap (λ (whole : Bool). if whole then 0 else no_room) (sym c.if-window.false ∙ all);
     }

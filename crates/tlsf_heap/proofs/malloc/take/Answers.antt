@@ -14,7 +14,7 @@ use Rattle.tlsf_heap.specs.Inner.At.{At, StandsAt, with_slot}
 use Rattle.tlsf_heap.proofs.Inner.Steps.{slot_used, size_read}
 use Rattle.tlsf_heap.proofs.Inner.Allotted.{slot_stands}
 use Rattle.tlsf_heap.proofs.Inner.Live.{free_at}
-use Rattle.tlsf_heap.proofs.Inner.Served.{room_left, holds, whole_stands, part_stands, full_refused, slot_below, slot_new}
+use Rattle.tlsf_heap.proofs.Inner.TakenBlock.{room_left, holds, whole_stands, part_stands, full_refused, slot_below, slot_new}
 use Rattle.tlsf_heap.proofs.malloc.take.Goals as goal
 
 -- the size that was read is the node's

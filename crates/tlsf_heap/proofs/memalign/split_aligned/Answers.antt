@@ -15,7 +15,7 @@ use Rattle.tlsf_heap.specs.Inner.Following.{Stands, content_of}
 use Rattle.tlsf_heap.specs.Inner.At.{StandsAt, at_taken, at_gapped, at_split_rest}
 use Rattle.tlsf_heap.proofs.Inner.Followed.{records_are}
 use Rattle.tlsf_heap.proofs.Inner.Steps.{slot_used, size_read}
-use Rattle.tlsf_heap.proofs.Inner.Served.{slot_new}
+use Rattle.tlsf_heap.proofs.Inner.TakenBlock.{slot_new}
 use Rattle.tlsf_heap.proofs.Inner.Live.{free_at}
 use Rattle.tlsf_heap.proofs.Inner.Spans.{read_of, span_is, is_read, read_stays}
 use Rattle.tlsf_heap.proofs.Inner.SplitAligned.{known, gap_of_some, split_aligned_full, split_aligned_stands, vacant_new, vacant_taken, vacant_after}

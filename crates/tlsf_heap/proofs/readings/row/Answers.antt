@@ -8,13 +8,13 @@ use Rattle.tlsf_heap.specs.Inner.Following.{block_at}
 use Rattle.tlsf_heap.proofs.Inner.RowsRead.{stands_used, row_then_rest, rest_stands, live_is_used, past_rest}
 use Rattle.tlsf_heap.proofs.readings.row.Goals as goal
 
-used : (c : goal.After-number_of) → IsUsed c.args.store.now.cells.records (Some c.in-Some.next)
+used : (c : goal.After-slot_number) → IsUsed c.args.store.now.cells.records (Some c.in-Some.next)
 used c = stands_used c.args.store.now.cells c.requires.stands c.in-Some.next (rw c.in-Some.is at c.requires.there)
 
-next_is : (c : goal.After-number_of) → c.number_of.result ≡ (record_at c.args.store.now.cells.records c.in-Some.next).next
-next_is c = rw (c.number_of.ensures, c.read-block.ensures.value)
+next_is : (c : goal.After-slot_number) → c.slot_number.result ≡ (record_at c.args.store.now.cells.records c.in-Some.next).next
+next_is c = rw (c.slot_number.ensures, c.read-block.ensures.value)
 
-row_is : (c : goal.After-number_of) → row_of (block_at c.args.store.now.cells.records c.in-Some.next) ≡ record { place = c.read-block.result.place; size = c.read-block.result.size; used = c.is_live.result }
+row_is : (c : goal.After-slot_number) → row_of (block_at c.args.store.now.cells.records c.in-Some.next) ≡ record { place = c.read-block.result.place; size = c.read-block.result.size; used = c.is_live.result }
 row_is c =
     let r : Record = record_at c.args.store.now.cells.records c.in-Some.next in
     rw (c.is_live.ensures, c.read-block.ensures.value) (ap (λ b. record { place = r.place; size = r.size; used = b }) (live_is_used r.state c.in-Some.next r.place r.size))

@@ -5,7 +5,7 @@ use Rattle.mtrace_replay.specs.Holding.{Holding}
 use Rattle.mtrace_replay.specs.Keys.{Rows}
 use Rattle.mtrace_replay.specs.Key.{held_under}
 use Rattle.mtrace_replay.specs.Index.{Indexed, held_at}
-use Rattle.mtrace_replay.proofs.IndexLemmas.{held_there, none_there, found_stands, found_fits}
+use Rattle.mtrace_replay.proofs.IndexLemmas.{held_there, none_there, found_key, found_fits}
 use Rattle.mtrace_replay.proofs.index.Index.block.Goals as goal
 
 same_block : (rows : Rows) (address : ℕ) (block : Option Pointer) → block ≡ option_map (λ (holding : Holding). holding.ptr) (option_map (held_under address rows) block)
@@ -16,11 +16,11 @@ pub returns-in-Ok : goal.returns-in-Ok
 returns-in-Ok c =
     let kept = c.self.inside.keys in
     let address = c.args.found.now.address in
-    let stands = found_stands kept.keys c.args.self.now (ap (λ (index : Indexed). index.keys) c.self.view_is) c.args.found.now c.requires.found c.in-Ok.at c.in-Ok.is in
+    let is_at = found_key kept c.args.self.now (ap (λ (index : Indexed). index.keys) c.self.view_is) _ _ _ c.self.invariant c.args.found.now c.requires.found c.in-Ok.at c.in-Ok.is c.key.result (c.key.ensures c.key.result) in
     record {
       value = c.block.ensures ∙ same_block kept.rows c.key.result.address c.key.result.block
           ∙ ap (option_map (λ (holding : Holding). holding.ptr))
-          (sym (held_there kept address c.in-Ok.at c.self.invariant.rise c.self.invariant.rows stands c.key.result (c.key.ensures c.key.result)) ∙ ap (λ (index : Indexed). held_at index.all address) c.self.view_is);
+          (sym (held_there kept address c.in-Ok.at c.key.result is_at) ∙ ap (λ (index : Indexed). held_at index.all address) c.self.view_is);
     }
 
 pub returns-in-Err : goal.returns-in-Err

@@ -16,7 +16,7 @@ make_gap-gap-requires-clause-vacant c =
     let kept = c.self.inside.keys in
     let address = c.args.entry.now.addr in
     let found = subst (λ keys. IsFound keys c.args.found.now) (sym (ap (λ (index : Indexed). index.keys) c.self.view_is)) c.requires.found in
-    by_place kept.keys (λ at stands. vacant_there kept address at c.self.invariant.rise c.self.invariant.rows stands (slice_index_or kept.keys at (record { address = 0; block = None })) (get_or_default kept.keys at _ _ stands.0)
+    by_place kept.keys (λ at stands. vacant_there kept address at (slice_index_or kept.keys at (record { address = 0; block = None })) (record { rise = c.self.invariant.rise; have = c.self.invariant.rows; stands = stands; there = get_or_default kept.keys at _ _ stands.0 })
     (ap (λ (index : Indexed). held_at index.all address) c.self.view_is ∙ c.requires.free)) c.args.found.now.place
     (subst (λ a. IfOk c.args.found.now.place (StandsAt kept.keys a)) c.requires.address found.held)
   where

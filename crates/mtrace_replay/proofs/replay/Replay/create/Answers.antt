@@ -8,10 +8,10 @@ use Rattle.mtrace_replay.specs.Index.{Indexed}
 use Rattle.mtrace_replay.specs.Step.{all_given, AreLive}
 use Rattle.mtrace_replay.proofs.Moments.{moments-none}
 use Rattle.mtrace_replay.proofs.FoundLemmas.{none_held}
-use Rattle.mtrace_replay.proofs.Living.{none_live}
+use Rattle.mtrace_replay.proofs.HeldStayLive.{none_live}
 use Rattle.mtrace_replay.proofs.StartLemmas.{started_records, started_room}
 use Rattle.mtrace_replay.proofs.TotalsLemmas.{most_none}
-use Rattle.mtrace_replay.proofs.Standing.{totals_none}
+use Rattle.mtrace_replay.proofs.OneLineMore.{totals_none}
 use Rattle.mtrace_replay.proofs.replay.Replay.create.Goals as goal
 
 pub invariant_of-result : goal.invariant_of-result

@@ -14,7 +14,7 @@ use Rattle.mtrace_replay.specs.Totals.{is_refusal}
 use Rattle.mtrace_replay.proofs.FoundLemmas.{addresses_given, sizes_given, rounded_given}
 use Rattle.mtrace_replay.proofs.DiagnosticLemmas.{diagnostics_few}
 use Rattle.mtrace_replay.proofs.HeldFew.{held_few}
-use Rattle.mtrace_replay.proofs.Standing.{served_within, refused_within, stands_for_line, diagnostics_of_line}
+use Rattle.mtrace_replay.proofs.OneLineMore.{served_within, refused_within, stands_for_line, diagnostics_of_line}
 use Rattle.mtrace_replay.proofs.replay.Replay.feed_lent.Goals as goal
 
 pub invariant_of-self : goal.invariant_of-self

@@ -1,5 +1,5 @@
 use Rattle.std.proofs.Common.{List, ℕ, ◌++◌, ap, ◌∙◌}
-use Rattle.tlsf_c.proofs.PlacedLemmas.{placed_at_first}
+use Rattle.tlsf_c.proofs.RoomLemmas.{placed_at_first}
 use Rattle.tlsf_c.proofs.window.Window.over.Goals as goal
 
 -- nothing is put yet

@@ -3,7 +3,7 @@ use Rattle.std.proofs.lemmas.Bool.{leb-false}
 use Rattle.tlsf_heap.specs.Content.{Content}
 use Rattle.tlsf_heap.specs.Pools.{with_pool}
 use Rattle.tlsf_heap.specs.PlainHeap.{IsPlain}
-use Rattle.tlsf_heap.proofs.Good.Calls.{with_pool_is_good}
+use Rattle.tlsf_heap.proofs.Good.MallocIsGood.{with_pool_is_good}
 use Rattle.tlsf_heap.proofs.Good.Slots.{with_pool_slots}
 use Rattle.tlsf_heap.proofs.plain_heap.heap.PlainHeapHeaped.add_pool.Goals as goal
 

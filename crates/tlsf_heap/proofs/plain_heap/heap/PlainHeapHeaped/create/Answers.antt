@@ -1,7 +1,7 @@
 use Rattle.std.proofs.Common.{ℕ, sym, subst, arith}
 use Rattle.tlsf_heap.specs.Content.{Content}
 use Rattle.tlsf_heap.specs.PlainHeap.{IsPlain}
-use Rattle.tlsf_heap.proofs.Good.Calls.{created_is_good}
+use Rattle.tlsf_heap.proofs.Good.MallocIsGood.{created_is_good}
 use Rattle.tlsf_heap.proofs.Good.Slots.{created_slots}
 use Rattle.tlsf_heap.proofs.plain_heap.heap.PlainHeapHeaped.create.Goals as goal
 
