@@ -44,7 +44,7 @@ TimelineFollows settings parts lines reads writes result reader_old reader_new w
     Follows (TellsTimeline settings parts lines (reads reader_old).whole) (λ old new. HasNotFailed (begun_again old).calls new.calls) (FailsAgainBefore settings lines) reads writes
     result reader_old reader_new writer_old writer_new
 
--- What a run leaves that tells what is held over the lines of a log. Where the log can't be cut in so many parts, nothing is done.
+-- What a run leaves that tells what is held over the lines of a log. Where the number of parts is bad, nothing is done.
 -- Else there is first a run without a report, and then the log is read again.
 pub record RunsTimeline {R W : Type 0} (settings : Settings) (parts : ℕ) (reads : R → ReaderState) (writes : W → WriterState)
     (result : Result Status RunFault) (reader_old reader_new : R) (writer_old writer_new : W) : Type 0 where
@@ -52,7 +52,7 @@ pub record RunsTimeline {R W : Type 0} (settings : Settings) (parts : ℕ) (read
   pub runs : is_bad_parts parts ≡ false
       → RunsAgain settings (λ lines. TimelineFollows settings parts lines reads writes) reads writes result reader_old reader_new writer_old writer_new
 
--- room for as many numbers and points as are told of so many parts, none of which are there
+-- empty lists of numbers and of points, each with room for all that are told: 0, the peak's, and one for each part
 pub record HasRoom {N P : Type 0} (parts : ℕ) (numbers : Vec ℕ N) (points : Vec Point P) : Type 0 where
   pub no_number : numbers.items ≡ []
   pub no_point : points.items ≡ []

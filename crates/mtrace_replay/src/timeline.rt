@@ -137,9 +137,10 @@ fn take_room(alloc: Global, settings: Settings, parts: u32) -> Result<Room, Repl
 }
 
 /// Reads a log of mtrace(3), replays it on a heap by the settings, and writes what is wrong with its lines, each as
-/// it comes. Then flushes the writer, reads the log again, and writes what was held over its lines. That is a point after no
-/// line, after the line of the peak, and after the last line of each part, where the log is cut in so many equal parts. A point
-/// has the bytes and the blocks held, the greatest end of a live block, the free bytes of all pools, and the largest free block.
+/// it comes. Then flushes the writer, reads the log again, and writes what was held over its lines. The log is cut into
+/// equal parts, `parts` of them. There is a point before the first line, after the line of the peak, and after the last line of
+/// each part. A point has the bytes and the blocks held, the greatest end of a live block, the free bytes of all pools, and the
+/// largest free block.
 /// Where lines were refused, their number stands in a last line. The writer is flushed once more.
 ///
 /// Memory is taken at the start alone, for one replay, which is made anew for the second reading, and for the points.

@@ -4,17 +4,17 @@ ghost use Rattle.std.specs.Prelude.{◌≡◌, ◌+◌, ◌<◌, ◌≤◌, [], 
 ghost use Rattle.std.specs.List.Sorted.{IsStrictlyIncreasing};
 ghost use Rattle.mtrace_replay.specs.Timeline.{is_bad_parts, end_of_part, AreTold, told_later};
 
-/// In no more parts is a log cut.
+/// The greatest number of parts.
 const MOST_PARTS: u32 = 10_000;
 
-/// Whether a log can't be cut in so many parts.
+/// Whether the number of parts is bad: it has to be from 1 to 10,000.
 pub(crate) fn is_bad_parts(parts: u32) -> bool
     ensures { result ≡ is_bad_parts parts }
 {
     parts == 0 || parts > MOST_PARTS
 }
 
-/// The number of the line with which this many of the equal parts have ended.
+/// The number of the last line of a part, where the first is part 1. It is 0 for part 0.
 fn end_of_part(lines: u64, parts: u32, part: u32) -> u64
     requires some { 0 < parts }
     requires within { part ≤ parts }
@@ -24,7 +24,7 @@ fn end_of_part(lines: u64, parts: u32, part: u32) -> u64
     u64::try_from(end).unwrap_or(lines)
 }
 
-/// Tells a number, unless the last one that was told is as great. Answers the last one then.
+/// Appends a number to those that are told, where it is above the last of them. Answers the last one then.
 fn tell(numbers: &mut Vec<u64>, last: u64, number: u64) -> u64
     requires room { last < number → vec_len numbers.old < vec_capacity numbers.old }
     ensures told { numbers.new.items ≡ told_later numbers.old.items last number }
