@@ -57,9 +57,7 @@ pub(crate) fn replay_up_to<R: Source>(
     ensures none { OnOk result (findings.new ≡ []) }
 {
     for _ in replay.totals().lines..number {
-        let Ok(()) = replay_next(lines, reader, replay, findings) else {
-            return Err(Failed);
-        };
+        replay_next(lines, reader, replay, findings)?;
     }
     Ok(())
 }

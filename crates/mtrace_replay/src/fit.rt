@@ -132,10 +132,7 @@ fn try_range<R: Again>(
 {
     for number in first..last + 1 {
         let size = number * step;
-        let serves = match try_size(reader, replay, size, trial.records, trial.many) {
-            Ok(serves) => serves,
-            Err(failed) => return Err(failed),
-        };
+        let serves = try_size(reader, replay, size, trial.records, trial.many)?;
         fitted = fitted.with(size, serves);
     }
     Ok(fitted)
@@ -179,18 +176,12 @@ fn try_sizes<R: Again, T: Watch>(
     let first = peak.div_ceil(step).max(1);
     let last = last_number(step, first);
     watch.expect((last + 1).saturating_sub(first));
-    let mut fitted = match try_range(reader, replay, trial, step, first, last, Fitted::none()) {
-        Ok(fitted) => fitted,
-        Err(failed) => return Err(failed),
-    };
+    let mut fitted = try_range(reader, replay, trial, step, first, last, Fitted::none())?;
     while fitted.least.is_none() && is_range_behind(step, first) {
         step *= 2;
         let last = last_number(step, first);
         watch.expect(last.saturating_sub(first));
-        fitted = match try_range(reader, replay, trial, step, first + 1, last, fitted) {
-            Ok(fitted) => fitted,
-            Err(failed) => return Err(failed),
-        };
+        fitted = try_range(reader, replay, trial, step, first + 1, last, fitted)?;
     }
     Ok(fitted)
 }
@@ -274,9 +265,6 @@ pub fn run_fit<R: Again, W: Sink, T: Watch>(
     if is_bad_step(step) {
         return Err(RunFault::BadSettings);
     }
-    let mut ended = match replay_log(alloc, reader, writer, greatest(), Report::Nothing) {
-        Ok(ended) => ended,
-        Err(fault) => return Err(fault),
-    };
+    let mut ended = replay_log(alloc, reader, writer, greatest(), Report::Nothing)?;
     tell_fit(reader, writer, &mut ended.replay, step, ended.status, watch)
 }

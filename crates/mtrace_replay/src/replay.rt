@@ -166,10 +166,8 @@ impl<H: Heaped> Replay<H> {
         ensures { Feeds H.lacks (λ diagnostics. diagnostics.items) line.number line.event result self.old self.new }
     {
         let mut findings = Findings::none();
-        match self.feed_lent(line.number, line.lend(), &mut findings) {
-            Ok(()) => Ok(findings.diagnostics()),
-            Err(fault) => Err(fault),
-        }
+        self.feed_lent(line.number, line.lend(), &mut findings)?;
+        Ok(findings.diagnostics())
     }
 
     /// `feed` of the line of this number that says this, with its location where it lies. What is wrong goes to the findings.

@@ -69,10 +69,8 @@ fn replay_line<W: Sink>(
     if findings.is_empty() {
         return Ok(false);
     }
-    match put_findings(writer, findings) {
-        Ok(()) => Ok(true),
-        Err(failed) => Err(failed),
-    }
+    put_findings(writer, findings)?;
+    Ok(true)
 }
 
 /// Reads and replays all lines of the log; what is wrong with a line is put at once. Answers whether
@@ -141,12 +139,8 @@ fn finish<H: Heaped, W: Sink>(
         unreachable!();
     };
     let is_found = has_diagnostics || !diagnostics.is_empty() || replay.blocks() > 0;
-    if put_end(writer, replay, &diagnostics, report).is_err() {
-        return Err(Failed);
-    }
-    if writer.flush().is_err() {
-        return Err(Failed);
-    }
+    put_end(writer, replay, &diagnostics, report)?;
+    writer.flush()?;
     Ok(status_by(is_found))
 }
 
@@ -216,10 +210,8 @@ pub fn run_report<R: Source, W: Sink>(
 ) -> Result<Status, RunFault>
     ensures { Runs report settings R.shown W.shown result reader.old reader.new writer.old writer.new }
 {
-    match replay_log(alloc, reader, writer, settings, report) {
-        Ok(ended) => Ok(ended.status),
-        Err(fault) => Err(fault),
-    }
+    let ended = replay_log(alloc, reader, writer, settings, report)?;
+    Ok(ended.status)
 }
 
 /// [`run_report`] of `Report::Leaks`, the report of leaks: what is held at the end of the log.

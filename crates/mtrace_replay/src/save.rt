@@ -4,7 +4,7 @@ ghost use Rattle.mtrace_replay.specs.Saving.{SavesLast, RunsAndSaves};
 
 use crate::replay::Replay;
 use crate::report::Report;
-use crate::run::{FinishedRun, replay_log};
+use crate::run::replay_log;
 use crate::settings::Settings;
 use crate::status::{RunFault, Status};
 use mtrace_log::{Failed, Sink, Source};
@@ -40,18 +40,9 @@ pub fn run_save<R: Source, W: Sink, I: Sink>(
 ) -> Result<Status, RunFault>
     ensures { RunsAndSaves settings R.shown W.shown I.shown result reader.old reader.new writer.old writer.new image.old image.new }
 {
-    let FinishedRun { status, mut replay } = match replay_log(
-        alloc,
-        reader,
-        writer,
-        settings,
-        Report::Nothing,
-    ) {
-        Ok(ended) => ended,
-        Err(fault) => return Err(fault),
-    };
-    match save(&mut replay, image) {
-        Ok(()) => Ok(status),
+    let mut ended = replay_log(alloc, reader, writer, settings, Report::Nothing)?;
+    match save(&mut ended.replay, image) {
+        Ok(()) => Ok(ended.status),
         Err(_) => Err(RunFault::Image),
     }
 }

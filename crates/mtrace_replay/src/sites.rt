@@ -182,10 +182,7 @@ pub fn run_sites<R: Again, W: Sink>(
         Err(ReplayFault::BadSettings) => return Err(RunFault::BadSettings),
         Err(ReplayFault::OutOfMemory) => return Err(RunFault::OutOfMemory),
     };
-    let ended = match replay_log(alloc, reader, writer, settings, Report::Nothing) {
-        Ok(ended) => ended,
-        Err(fault) => return Err(fault),
-    };
+    let ended = replay_log(alloc, reader, writer, settings, Report::Nothing)?;
     tell_sites(
         reader,
         writer,

@@ -77,13 +77,9 @@ fn new_block<H: Heaped>(heap: &mut H, align: Option<Addr>, n: u64) -> Result<Blo
         (λ ptr. ptr.place) (λ slot. ⊥) result heap.old heap.new }
 {
     heap.keeps_good();
-    match ask_block(heap, align, n) {
-        Ok(ptr) => {
-            let end = end_of_block(heap, ptr);
-            Ok(Block { ptr, end })
-        }
-        Err(refusal) => Err(refusal),
-    }
+    let ptr = ask_block(heap, align, n)?;
+    let end = end_of_block(heap, ptr);
+    Ok(Block { ptr, end })
 }
 
 /// The live block with room for `n` bytes, in its place or moved, and where it ends.
@@ -93,14 +89,11 @@ fn realloc_block<H: Heaped>(heap: &mut H, ptr: Ptr, n: u64) -> Result<Block, Ref
         (λ given. Some (given.place, given.slot)) (λ slot. slot ≡ ptr.slot) result heap.old heap.new }
 {
     heap.keeps_good();
-    match heap.realloc(Some(ptr), n) {
-        Ok(Some(new)) => {
-            let end = end_of_block(heap, new);
-            Ok(Block { ptr: new, end })
-        }
-        Ok(None) => unreachable!(),
-        Err(refusal) => Err(refusal),
-    }
+    let Some(new) = heap.realloc(Some(ptr), n)? else {
+        unreachable!();
+    };
+    let end = end_of_block(heap, new);
+    Ok(Block { ptr: new, end })
 }
 
 /// `+ address size`, or `* address align size`: asks the heap for a block for the entry, unless its address is held.

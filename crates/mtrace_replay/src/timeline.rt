@@ -168,10 +168,7 @@ pub fn run_timeline<R: Again, W: Sink>(
         Err(ReplayFault::BadSettings) => return Err(RunFault::BadSettings),
         Err(ReplayFault::OutOfMemory) => return Err(RunFault::OutOfMemory),
     };
-    let mut ended = match replay_log(alloc, reader, writer, settings, Report::Nothing) {
-        Ok(ended) => ended,
-        Err(fault) => return Err(fault),
-    };
+    let mut ended = replay_log(alloc, reader, writer, settings, Report::Nothing)?;
     tell_timeline(
         reader,
         writer,

@@ -32,9 +32,7 @@ pub(crate) fn is_served<R: Source>(
     let mut lines = Lines::new();
     let mut findings = Findings::none();
     for _ in 0..many {
-        let Ok(()) = replay_next(&mut lines, reader, replay, &mut findings) else {
-            return Err(Failed);
-        };
+        replay_next(&mut lines, reader, replay, &mut findings)?;
         if replay.totals().refused > 0 {
             return Ok(false);
         }

@@ -1,4 +1,3 @@
 mod CheckLemmas
 mod CommandLineLemmas
-mod PlanLemmas
 mod StatusLemmas

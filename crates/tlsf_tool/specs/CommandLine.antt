@@ -21,14 +21,21 @@ use Rattle.tlsf_tool.specs.declared.asked.Name.TheVariants.{Leaks, Peak, Walk}
 
 -- ---- the command line's description
 
--- `--ID` with one value, which this parser takes, and its default
-abbrev pub option_rule : Text → Text → ValueParser → Rule
-option_rule id default takes = record (new_rule id) {
+-- `--ID` with one value, which this parser takes, where it is given
+abbrev pub given_rule : Text → ValueParser → Rule
+given_rule id takes = record (new_rule id) {
   long = Some id;
   value_names = 1;
-  defaults = default ∷ [];
   parser = Some takes;
 }
+
+-- the same, with a default
+abbrev pub option_rule : Text → Text → ValueParser → Rule
+option_rule id default takes = record (given_rule id takes) { defaults = default ∷ [] }
+
+-- the same, where it must be given
+abbrev pub needed_rule : Text → ValueParser → Rule
+needed_rule id takes = record (given_rule id takes) { required = true }
 
 abbrev pub pool_rule : Text → Rule
 pool_rule default = option_rule (codes "pool") default (parser.Unsigned unit greatest_size)
@@ -42,25 +49,8 @@ records_rule default = option_rule (codes "records") default (parser.Signed (pos
 abbrev pub points_rule : Rule
 points_rule = option_rule (codes "points") (codes "100") (parser.Signed (pos 1) (pos 10000))
 
--- `--ID` with one value, where it is given, and no default
-abbrev pub given_rule : Text → ValueParser → Rule
-given_rule id takes = record (new_rule id) {
-  long = Some id;
-  value_names = 1;
-  parser = Some takes;
-}
-
 abbrev pub step_rule : Rule
 step_rule = given_rule (codes "step") (parser.Unsigned unit greatest_size)
-
--- `--ID` with one value, which must be there, and no default
-abbrev pub needed_rule : Text → ValueParser → Rule
-needed_rule id takes = record (new_rule id) {
-  long = Some id;
-  value_names = 1;
-  required = true;
-  parser = Some takes;
-}
 
 abbrev pub blocks_rule : Rule
 blocks_rule = needed_rule (codes "blocks") (parser.Signed (pos 1) (pos 32766))

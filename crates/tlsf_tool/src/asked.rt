@@ -36,7 +36,7 @@ pub enum Rereading {
 }
 
 /// What the words ask for.
-#[derive(Debug, Drop)]
+#[derive(Debug, Drop, PartialEq, Eq)]
 pub enum Command {
     /// A report of a log.
     Report {

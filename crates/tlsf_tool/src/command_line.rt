@@ -2,8 +2,9 @@
 
 ghost use Rattle.std.specs.Prelude.{◌≡◌, IfOk};
 ghost use Rattle.clap.specs.Words.{App, app_of, with_subcommand};
-ghost use Rattle.tlsf_tool.specs.CommandLine.{IsArgOf, IsCommandOf, log_rule, image_rule, points_rule, pool_rule, pools_rule, records_rule, step_rule, blocks_rule, largest_rule, bytes_rule, align_rule, heap_line, report_line, great_line, timeline_line, fit_line, size_line, save_line, check_line, bare_line, tlsf_line};
+ghost use Rattle.tlsf_tool.specs.CommandLine.{IsArgOf, IsCommandOf, given_rule, log_rule, image_rule, points_rule, pool_rule, pools_rule, records_rule, step_rule, blocks_rule, largest_rule, bytes_rule, align_rule, heap_line, report_line, great_line, timeline_line, fit_line, size_line, save_line, check_line, bare_line, tlsf_line};
 
+use clap::builder::ValueParser;
 use clap::{Arg, Command, value_parser};
 use std::alloc::{AllocError, Global};
 use tlsf_class::{GREATEST_SIZE, UNIT};
@@ -105,17 +106,30 @@ const SAVE: &str =
 /// What checking means.
 const CHECK: &str = "Tells whether an image can be loaded, or the first rule that it breaks.";
 
+/// The option of this id, whose value the parser takes.
+fn option<'a>(
+    alloc: Global,
+    id: &'a str,
+    value: &'a str,
+    parser: ValueParser<'a>,
+    help: &'a str,
+) -> Arg<'a>
+    ensures { IsArgOf (given_rule id.entry.now parser.entry) result }
+{
+    Arg::new(alloc, id)
+        .long(id)
+        .value_name(value)
+        .value_parser(parser)
+        .help(help)
+}
+
 /// The option of a pool's size, with this default.
 fn pool_option<'a>(alloc: Global, default: &'a str) -> Arg<'a>
     ensures { IsArgOf (pool_rule default.entry.now) result }
 {
     let parser = value_parser!(u64).range(i64::from(UNIT)..=i64::from(GREATEST_SIZE));
-    Arg::new(alloc, "pool")
-        .long("pool")
-        .value_name("BYTES")
-        .default_value(default)
-        .value_parser(parser)
-        .help("Bytes of each pool, a multiple of 16 from 16 to 1073741808")
+    let help = "Bytes of each pool, a multiple of 16 from 16 to 1073741808";
+    option(alloc, "pool", "BYTES", parser, help).default_value(default)
 }
 
 /// The option of the number of pools.
@@ -123,12 +137,8 @@ fn pools_option<'a>(alloc: Global) -> Arg<'a>
     ensures { IsArgOf pools_rule result }
 {
     let parser = value_parser!(u32).range(1..=8);
-    Arg::new(alloc, "pools")
-        .long("pools")
-        .value_name("K")
-        .default_value("1")
-        .value_parser(parser)
-        .help("Number of pools, from 1 to 8; together they end at 4294967296 bytes at most")
+    let help = "Number of pools, from 1 to 8; together they end at 4294967296 bytes at most";
+    option(alloc, "pools", "K", parser, help).default_value("1")
 }
 
 /// The option of the number of records, with this default.
@@ -136,12 +146,8 @@ fn records_option<'a>(alloc: Global, default: &'a str) -> Arg<'a>
     ensures { IsArgOf (records_rule default.entry.now) result }
 {
     let parser = value_parser!(u32).range(1..=65_535);
-    Arg::new(alloc, "records")
-        .long("records")
-        .value_name("N")
-        .default_value(default)
-        .value_parser(parser)
-        .help("Number of records, one for each block, from the number of pools to 65535")
+    let help = "Number of records, one for each block, from the number of pools to 65535";
+    option(alloc, "records", "N", parser, help).default_value(default)
 }
 
 /// The option of how many equal parts a log is cut in.
@@ -149,14 +155,9 @@ fn points_option<'a>(alloc: Global) -> Arg<'a>
     ensures { IsArgOf points_rule result }
 {
     let parser = value_parser!(u32).range(1..=10_000);
-    Arg::new(alloc, "points")
-        .long("points")
-        .value_name("N")
-        .default_value("100")
-        .value_parser(parser)
-        .help(
-            "Number of equal parts of the log, from 1 to 10000: a line is told at the end of each",
-        )
+    let help =
+        "Number of equal parts of the log, from 1 to 10000: a line is told at the end of each";
+    option(alloc, "points", "N", parser, help).default_value("100")
 }
 
 /// The option of the bytes between two sizes.
@@ -164,13 +165,9 @@ fn step_option<'a>(alloc: Global) -> Arg<'a>
     ensures { IsArgOf step_rule result }
 {
     let parser = value_parser!(u64).range(i64::from(UNIT)..=i64::from(GREATEST_SIZE));
-    Arg::new(alloc, "step")
-        .long("step")
-        .value_name("BYTES")
-        .value_parser(parser)
-        .help(
-            "Bytes between two sizes that are tried, a multiple of 16 from 16 to 1073741808; else a 64th of the peak, rounded up",
-        )
+    let help =
+        "Bytes between two sizes that are tried, a multiple of 16 from 16 to 1073741808; else a 64th of the peak, rounded up";
+    option(alloc, "step", "BYTES", parser, help)
 }
 
 /// The option of the most live blocks.
@@ -178,12 +175,8 @@ fn blocks_option<'a>(alloc: Global) -> Arg<'a>
     ensures { IsArgOf blocks_rule result }
 {
     let parser = value_parser!(u32).range(1..=32_766);
-    Arg::new(alloc, "blocks")
-        .long("blocks")
-        .value_name("L")
-        .required(true)
-        .value_parser(parser)
-        .help("Most blocks that are live at once, from 1 to 32766")
+    let help = "Most blocks that are live at once, from 1 to 32766";
+    option(alloc, "blocks", "L", parser, help).required(true)
 }
 
 /// The option of the largest request.
@@ -191,12 +184,8 @@ fn largest_option<'a>(alloc: Global) -> Arg<'a>
     ensures { IsArgOf largest_rule result }
 {
     let parser = value_parser!(u64).range(1..=1_056_964_608);
-    Arg::new(alloc, "largest")
-        .long("largest")
-        .value_name("M")
-        .required(true)
-        .value_parser(parser)
-        .help("Bytes of the largest request, from 1 to 1056964608")
+    let help = "Bytes of the largest request, from 1 to 1056964608";
+    option(alloc, "largest", "M", parser, help).required(true)
 }
 
 /// The option of the most bytes in live blocks.
@@ -204,24 +193,18 @@ fn bytes_option<'a>(alloc: Global) -> Arg<'a>
     ensures { IsArgOf bytes_rule result }
 {
     let parser = value_parser!(u64).range(1..=i64::from(GREATEST_SIZE));
-    Arg::new(alloc, "bytes")
-        .long("bytes")
-        .value_name("U")
-        .value_parser(parser)
-        .help(
-            "Most bytes in live blocks together, each block in whole units of 16, from 1 to 1073741808; else L times M",
-        )
+    let help =
+        "Most bytes in live blocks together, each block in whole units of 16, from 1 to 1073741808; else L times M";
+    option(alloc, "bytes", "U", parser, help)
 }
 
 /// The option of the greatest alignment.
 fn align_option<'a>(alloc: Global) -> Arg<'a>
     ensures { IsArgOf align_rule result }
 {
-    Arg::new(alloc, "align")
-        .long("align")
-        .value_name("A")
-        .value_parser(value_parser!(u64))
-        .help("Greatest alignment of a request, a power of two from 1 to 536870912")
+    let parser = value_parser!(u64);
+    let help = "Greatest alignment of a request, a power of two from 1 to 536870912";
+    option(alloc, "align", "A", parser, help)
 }
 
 /// The log's name.

@@ -16,10 +16,10 @@ mod statuses;
 mod tests;
 mod words;
 
-use crate::asked::{Name, Rereading, ToolFault};
+use crate::asked::{Command, Name, Rereading, ToolFault};
 use crate::check::check_image;
 use crate::files::{FileNumber, are_one, make_file, open_file};
-use crate::plan::{Origin, Plan, Terminals, planned};
+use crate::plan::{Plan, Terminals, is_standard, planned};
 use crate::progress::{Cleared, Counted, Notice};
 use crate::service::{serve, serve_again, serve_help, serve_save, serve_size};
 use mtrace_log::{FromRead, ToWrite};
@@ -174,12 +174,12 @@ fn report_log(
     is_told: bool,
     name: Name,
     settings: Settings,
-    log: Origin,
+    log: String,
 ) -> Result<u8, ToolFault> {
-    match log {
-        Origin::Standard => report(rt, is_told, name, settings, rt.stdin()),
-        Origin::File(log) => report(rt, is_told, name, settings, open_log(rt, log)?),
+    if is_standard(&log) {
+        return report(rt, is_told, name, settings, rt.stdin());
     }
+    report(rt, is_told, name, settings, open_log(rt, log)?)
 }
 
 /// Saves the heap at the end of a log, which is opened first where it is a file.
@@ -187,40 +187,35 @@ fn save_log(
     rt: &HostRuntime,
     is_told: bool,
     settings: Settings,
-    log: Origin,
+    log: String,
     image: String,
 ) -> Result<u8, ToolFault> {
-    match log {
-        Origin::Standard => {
-            let number = FileNumber::of_name(rt, STANDARD_INPUT);
-            save(rt, is_told, settings, rt.stdin(), number, image)
-        }
-        Origin::File(log) => {
-            let log = open_log(rt, log)?;
-            let number = FileNumber::of_file(&log);
-            save(rt, is_told, settings, log, number, image)
-        }
+    if is_standard(&log) {
+        let number = FileNumber::of_name(rt, STANDARD_INPUT);
+        return save(rt, is_told, settings, rt.stdin(), number, image);
     }
+    let log = open_log(rt, log)?;
+    let number = FileNumber::of_file(&log);
+    save(rt, is_told, settings, log, number, image)
 }
 
 /// Does what is planned.
 fn act(rt: &HostRuntime, plan: Plan) -> Result<u8, ToolFault> {
-    match plan {
-        Plan::Report {
-            log,
+    let notice = plan.notice;
+    match plan.command {
+        Command::Report {
             name,
             settings,
-            notice,
+            log,
         } => report_log(rt, notice, name, settings, log),
-        Plan::Reread { log, what, notice } => reread(rt, notice, what, log),
-        Plan::Save {
+        Command::Reread { what, log } => reread(rt, notice, what, log),
+        Command::Save {
+            settings,
             log,
             image,
-            settings,
-            notice,
         } => save_log(rt, notice, settings, log, image),
-        Plan::Size { bounds } => Ok(size(rt, bounds)),
-        Plan::Check { image } => check_file(rt, image),
+        Command::Size { bounds } => Ok(size(rt, bounds)),
+        Command::Check { image } => check_file(rt, image),
     }
 }
 

@@ -1,8 +1,8 @@
-//! What is opened for words, through `planned`.
+//! What is done for words, through `planned`, and which log is standard input.
 
 use super::program::strings;
-use crate::asked::{Name, Rereading, ToolFault};
-use crate::plan::{Origin, Plan, Terminals, planned};
+use crate::asked::{Command, Name, Rereading, ToolFault};
+use crate::plan::{Plan, Terminals, is_standard, planned};
 use crate::tests::expect_eq_at;
 use mtrace_replay::Settings;
 use std::alloc::Global;
@@ -28,34 +28,28 @@ const BARE: Terminals = Terminals {
     errors: false,
 };
 
-/// The log of this name, as a report opens it.
-fn origin(alloc: Global, name: &str) -> Result<Origin, Fail> {
-    Ok(match name {
-        "standard input" => Origin::Standard,
-        _ => Origin::File(String::from_str(alloc, name)?),
-    })
-}
-
-/// Words of `leaks` and of `save`, with where their log comes from, and whether it is told how far the run is, by terminals.
+/// Words of `peak` and of `save`, with the name of their log, whether it is standard input, and whether it is told how far
+/// the run is where that is typed. It is told where it is piped.
 const LOGS: [(&[&str], &str, bool, bool); 6] = [
-    (&["-"], "standard input", false, true),
-    (&["--", "-"], "standard input", false, true),
-    (&["a.log"], "a.log", true, true),
-    (&["--", "--"], "--", true, true),
-    (&["/dev/stdin"], "/dev/stdin", true, true),
-    (&[""], "", true, true),
+    (&["-"], "-", true, false),
+    (&["--", "-"], "-", true, false),
+    (&["a.log"], "a.log", false, true),
+    (&["--", "--"], "--", false, true),
+    (&["/dev/stdin"], "/dev/stdin", false, true),
+    (&[""], "", false, true),
 ];
 
 #[test]
 fn reports_and_images(rt: HostRuntime) -> Result<(), Fail> {
     let alloc = rt.alloc();
-    for (words, log, typed, piped) in LOGS {
-        for (terminals, notice) in [
-            (TYPED, typed),
-            (PIPED, piped),
-            (QUIET, false),
-            (BARE, false),
-        ] {
+    for (words, log, standard, typed) in LOGS {
+        expect_eq_at(
+            &rt,
+            words,
+            is_standard(&String::from_str(alloc, log)?),
+            standard,
+        );
+        for (terminals, notice) in [(TYPED, typed), (PIPED, true), (QUIET, false), (BARE, false)] {
             let mut report = strings(alloc, &["tlsf", "peak"])?;
             let mut save = strings(alloc, &["tlsf", "save", "--records", "12345"])?;
             for word in words {
@@ -63,32 +57,30 @@ fn reports_and_images(rt: HostRuntime) -> Result<(), Fail> {
                 save.push(String::from_str(alloc, word)?)?;
             }
             save.push(String::from_str(alloc, "-")?)?;
-            let wanted = Plan::Report {
-                log: origin(alloc, log)?,
+            let command = Command::Report {
                 name: Name::Peak,
                 settings: Settings::DEFAULT,
-                notice,
+                log: String::from_str(alloc, log)?,
             };
             expect_eq_at(
                 &rt,
                 words,
                 planned(alloc, report.as_slice(), terminals)?,
-                wanted,
+                Plan { command, notice },
             );
-            let wanted = Plan::Save {
-                log: origin(alloc, log)?,
-                image: String::from_str(alloc, "-")?,
+            let command = Command::Save {
                 settings: Settings {
                     records: 12_345,
                     ..Settings::DEFAULT
                 },
-                notice,
+                log: String::from_str(alloc, log)?,
+                image: String::from_str(alloc, "-")?,
             };
             expect_eq_at(
                 &rt,
                 words,
                 planned(alloc, save.as_slice(), terminals)?,
-                wanted,
+                Plan { command, notice },
             );
         }
     }
@@ -144,16 +136,16 @@ fn logs_that_are_read_again(rt: HostRuntime) -> Result<(), Fail> {
         for terminals in [TYPED, PIPED, QUIET, BARE] {
             let mut named = strings(alloc, words)?;
             named.push(String::from_str(alloc, "/dev/stdin")?)?;
-            let wanted = Plan::Reread {
-                log: String::from_str(alloc, "/dev/stdin")?,
+            let command = Command::Reread {
                 what,
-                notice: terminals.errors,
+                log: String::from_str(alloc, "/dev/stdin")?,
             };
+            let notice = terminals.errors;
             expect_eq_at(
                 &rt,
                 words,
                 planned(alloc, named.as_slice(), terminals)?,
-                wanted,
+                Plan { command, notice },
             );
             let mut standard = strings(alloc, words)?;
             standard.push(String::from_str(alloc, "-")?)?;
@@ -173,8 +165,10 @@ fn logs_that_are_read_again(rt: HostRuntime) -> Result<(), Fail> {
 fn images_that_are_checked(rt: HostRuntime) -> Result<(), Fail> {
     let alloc = rt.alloc();
     for name in ["-", "", "an.image"] {
-        let wanted = Plan::Check {
-            image: String::from_str(alloc, name)?,
+        let image = String::from_str(alloc, name)?;
+        let wanted = Plan {
+            command: Command::Check { image },
+            notice: false,
         };
         let words = strings(alloc, &["tlsf", "check", name])?;
         expect_eq_at(&rt, name, planned(alloc, words.as_slice(), TYPED)?, wanted);

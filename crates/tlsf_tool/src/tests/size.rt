@@ -1,7 +1,7 @@
 //! How large a pool is always enough, without a log.
 
 use super::program::strings;
-use crate::asked::ToolFault;
+use crate::asked::{Command, ToolFault};
 use crate::plan::{Plan, Terminals, planned};
 use crate::service::serve_size;
 use crate::tests::expect_eq_at;
@@ -241,7 +241,10 @@ fn words_of_size(rt: HostRuntime) -> Result<(), Fail> {
         errors: true,
     };
     for (words, bounds) in WORDS {
-        let wanted = Plan::Size { bounds };
+        let wanted = Plan {
+            command: Command::Size { bounds },
+            notice: false,
+        };
         expect_eq_at(
             &rt,
             words,

@@ -1,4 +1,5 @@
 use Rattle.std.proofs.Common.{arith, refl, ap, ◌∙◌}
+use Rattle.std.proofs.lemmas.Result.{err_from_is_err_and}
 use Rattle.mtrace_replay.specs.declared.totals.Totals.{Totals}
 use Rattle.mtrace_replay.proofs.ReplayingLemmas.{going_on_none, going_on_further}
 use Rattle.mtrace_replay.proofs.again.replay_up_to.Goals as goal
@@ -19,7 +20,7 @@ pub loop-preserved : goal.loop-preserved
 loop-preserved g c =
     let reads = g.R.Source.shown in
     let kept = c.loop.invariant in
-    let next = c.in-Ok.ensures.next in
+    let next = c.in_ok-replay_next.ensures.next in
     record {
       so_far = λ settings start before.
           let so_far = kept.so_far settings start before in
@@ -27,18 +28,19 @@ loop-preserved g c =
           so_far (next.replaying settings start so_far.now);
       counted = next.counted;
       many = omega (arith, next.one_more, kept.many);
-      none = c.in-Ok.ensures.none;
+      none = c.in_ok-replay_next.ensures.none;
       whole = next.whole ∙ kept.whole;
       gave = λ start gave not_failed. next.gave start (kept.calls start gave);
       calls = λ start gave. (next.gave start (kept.calls start gave)).0;
       records = next.records ∙ kept.records;
     }
 
-pub returns-in_default-clause-lines : goal.returns-in_default-clause-lines
-returns-in_default-clause-lines g c =
+pub returns-in_err-replay_next-clause-lines : goal.returns-in_err-replay_next-clause-lines
+returns-in_err-replay_next-clause-lines g c =
     let kept = c.loop.invariant in
-    let next = c.in_default.ensures.next in
-    record {
+    let next = c.in_err-replay_next.ensures.next in
+    let p = err_from_is_err_and c.from_residual.result c.from_residual.ensures.1 in
+    rw p.1 (record {
       counted = tt;
       reached = tt;
       replaying = tt;
@@ -47,7 +49,7 @@ returns-in_default-clause-lines g c =
           next.stops settings start many (kept.so_far settings start before).now (kept.calls start gave) (omega (arith, kept.many, c.loop-test.true, up)) within;
       whole = next.whole ∙ kept.whole;
       records = next.records ∙ kept.records;
-    }
+    })
 
 pub returns-clause-lines : goal.returns-clause-lines
 returns-clause-lines g c =

@@ -21,11 +21,11 @@ pub returns : goal.returns
 returns g c =
     let reads = g.R.Source.shown in
     let writes = g.W.Sink.shown in
-    let ended = c.in-Ok.ended in
+    let ended = c.in_ok-ended.ended in
     let E : Settings → Type 0 = λ settings. EndsAt settings ended.status ended.replay (reads c.args.reader.now) (reads c.replay_log.new.reader) (writes c.args.writer.now) (writes c.replay_log.new.writer) in
     let R : Settings → Type 0 = λ settings. Runs Nothing settings reads writes (Ok ended.status) c.args.reader.now c.replay_log.new.reader c.args.writer.now c.replay_log.new.writer in
-    let last = subst E c.greatest.ensures (c.in-Ok.ensures.last refl) in
-    let ran = subst R c.greatest.ensures c.in-Ok.ensures.ran in
+    let last = subst E c.greatest.ensures (c.in_ok-ended.ensures.last refl) in
+    let ran = subst R c.greatest.ensures c.in_ok-ended.ensures.ran in
     let follow = c.tell_fit.ensures.told last.reports.lines last.stands in
     record {
       bad_step = ((λ is. absurd (no_bad_settings c.tell_fit.result follow.faults is)), (λ bad. absurd (not_bad _ (sym c.is_bad_step.ensures ∙ c.if-is_bad_step.false) bad)));

@@ -1,4 +1,5 @@
 use Rattle.std.proofs.Common.{◌≡◌, ◌+◌, ◌-◌, ◌*◌, ◌<◌, ℕ, suc, [], ◌∷◌, ◌++◌, map, refl, sym, ap, ◌∙◌, subst, arith, append_assoc, append-nil}
+use Rattle.std.proofs.lemmas.Result.{err_from_is_err_and}
 use Rattle.std.specs.List.{range_with_len}
 use Rattle.mtrace_replay.specs.Fit.{one_pool, fitted, Verdict}
 use Rattle.mtrace_replay.specs.RunFit.{AreVerdicts, IsTried}
@@ -25,18 +26,19 @@ with-fitted-requires-clause-refused g c =
     let below : c.loop-number.number < c.args.last + 1 = c.loop-number-test.true in
     omega (arith, below, c.requires.last_within, few_steps c.args.step (omega (arith, c.requires.some)), c.loop-number.invariant.tried, c.loop-number.invariant.refused, c.requires.tried)
 
-pub returns-in-Err-clause-tried : goal.returns-in-Err-clause-tried
-returns-in-Err-clause-tried g c =
-    record {
+pub returns-in_err-serves-clause-tried : goal.returns-in_err-serves-clause-tried
+returns-in_err-serves-clause-tried g c =
+    let p = err_from_is_err_and c.from_residual.result c.from_residual.ensures.1 in
+    rw p.1 (record {
       tells = tt;
       not_failed = tt;
       read = record {
         reader_middle = g.R.Source.shown c.loop-number.reader;
         whole = c.loop-number.invariant.whole;
         none_failed = c.loop-number.invariant.none_failed;
-        fails = c.in-Err.ensures.read;
+        fails = c.in_err-serves.ensures.read;
       };
-    }
+    })
 
 pub loop-number-init : goal.loop-number-init
 loop-number-init g c =
@@ -59,19 +61,19 @@ loop-number-preserved g c =
     let step = c.args.step in
     let whole = (g.R.Source.shown c.args.reader.now).whole in
     let so_far = c.loop-number.invariant.so_far in
-    let verdict : Verdict = record { size = number * step; serves = c.in-Ok.serves } in
+    let verdict : Verdict = record { size = number * step; serves = c.in_ok-serves.serves } in
     let more : number + 1 - first ≡ number - first + 1 = omega (arith, c.loop-number.auto.number) in
     let V : ℕ → Type 0 = λ count. AreVerdicts c.args.trial.records c.args.trial.many whole (map (λ i. i * step) (range_with_len first count)) (so_far.0 ++ verdict ∷ []) in
-    let T : Bytes → Type 0 = λ text. IsTried (one_pool (number * step) c.args.trial.records) c.args.trial.many c.in-Ok.serves text (g.R.Source.shown c.try_size.new.reader).left in
+    let T : Bytes → Type 0 = λ text. IsTried (one_pool (number * step) c.args.trial.records) c.args.trial.many c.in_ok-serves.serves text (g.R.Source.shown c.try_size.new.reader).left in
     let are = one_tried c.args.trial.records c.args.trial.many whole step first number (number - first) so_far.0 verdict (omega (arith, c.loop-number.auto.number)) so_far.1 refl
-    ((g.R.Source.shown c.try_size.new.reader).left, subst T c.loop-number.invariant.whole c.in-Ok.ensures.tried) in
+    ((g.R.Source.shown c.try_size.new.reader).left, subst T c.loop-number.invariant.whole c.in_ok-serves.ensures.tried) in
     let below : number < c.args.last + 1 = c.loop-number-test.true in
     record {
       so_far = (so_far.0 ++ verdict ∷ [], subst V (sym more) are, λ before is. c.with-fitted.ensures.fitted (before ++ so_far.0) (so_far.2 before is) ∙ ap fitted (append_assoc before so_far.0 (verdict ∷ [])));
       tried = omega (arith, c.with-fitted.ensures.tried, c.loop-number.invariant.tried, c.loop-number.auto.number);
       refused = omega (arith, c.with-fitted.ensures.tried, c.with-fitted.ensures.refused, c.loop-number.invariant.refused);
       whole = c.try_size.ensures.whole ∙ c.loop-number.invariant.whole;
-      none_failed = none_failed-then (g.R.Source.shown c.args.reader.now).calls (g.R.Source.shown c.loop-number.reader).calls (g.R.Source.shown c.try_size.new.reader).calls c.loop-number.invariant.none_failed c.in-Ok.ensures.not_failed;
+      none_failed = none_failed-then (g.R.Source.shown c.args.reader.now).calls (g.R.Source.shown c.loop-number.reader).calls (g.R.Source.shown c.try_size.new.reader).calls c.loop-number.invariant.none_failed c.in_ok-serves.ensures.not_failed;
       records = omega (arith, c.try_size.ensures.records);
       within = omega (arith, below);
     }

@@ -1,4 +1,5 @@
 use Rattle.std.proofs.Common.{◌≡◌, ◌≤◌, ◌+◌, ◌*◌, ◌/◌, ◌++◌, ℕ, suc, List, [], Option, Some, None, refl, sym, ap, ◌∙◌, subst, arith, inl, inr, true, false, not, rules}
+use Rattle.std.proofs.lemmas.Result.{err_from_is_err_and}
 use Rattle.std.specs.Prelude.{max, IsSome, is_some, ◌⊎◌}
 use Rattle.std.proofs.lemmas.Bool.{ltb-false}
 use Rattle.std.proofs.Math.Nat.{div-le_self}
@@ -22,7 +23,7 @@ none_is (Some x) is = absurd (cc)
 pub loop-trial-init : goal.loop-trial-init
 loop-trial-init g c =
     let reads = g.R.Source.shown in
-    let tells = c.in-Ok.ensures.tried.tells in
+    let tells = c.in_ok-fitted.ensures.tried.tells in
     let V : Bytes → ℕ → Type 0 = λ text last. AreVerdicts c.args.trial.records c.args.trial.many text (multiples c.args.step c.max-first.result last) tells.0 in
     record {
       so_far = (
@@ -31,35 +32,36 @@ loop-trial-init g c =
         tells.0,
         omega arith,
         record { sizes_are = refl; each = tt },
-        subst (V (reads c.try_range.new.reader).whole) c.last_number-last.ensures.value (subst (λ text. V text c.last_number-last.result) (sym c.in-Ok.ensures.whole) tells.1),
+        subst (V (reads c.try_range.new.reader).whole) c.last_number-last.ensures.value (subst (λ text. V text c.last_number-last.result) (sym c.in_ok-fitted.ensures.whole) tells.1),
         refl,
         tells.2 [] c.none.ensures,
       );
-      tried = omega (arith, c.in-Ok.ensures.few, ap (λ (f : Fitted). f.tried) c.none.ensures, c.last_number-last.ensures.within, c.requires.some);
-      refused = c.in-Ok.ensures.refused;
+      tried = omega (arith, c.in_ok-fitted.ensures.few, ap (λ (f : Fitted). f.tried) c.none.ensures, c.last_number-last.ensures.within, c.requires.some);
+      refused = c.in_ok-fitted.ensures.refused;
       some = c.requires.some;
       in_units = c.requires.in_units;
       whole = refl;
       none_failed = nothing_failed (reads c.try_range.new.reader).calls;
-      records = c.in-Ok.ensures.within;
+      records = c.in_ok-fitted.ensures.within;
     }
 
-pub returns-in-Err-try_range : goal.returns-in-Err-try_range
-returns-in-Err-try_range g c =
+pub returns-in_err-fitted-2 : goal.returns-in_err-fitted-2
+returns-in_err-fitted-2 g c =
     let reads = g.R.Source.shown in
     let kept = c.loop-trial.invariant in
-    let later = c.in-Err-try_range.ensures.tried.read in
-    let so_far = none_failed-then (reads c.args.reader.now).calls (reads c.try_range.new.reader).calls (reads c.loop-trial.reader).calls c.in-Ok.ensures.tried.not_failed kept.none_failed in
-    record {
+    let later = c.in_err-fitted-2.ensures.tried.read in
+    let so_far = none_failed-then (reads c.args.reader.now).calls (reads c.try_range.new.reader).calls (reads c.loop-trial.reader).calls c.in_ok-fitted.ensures.tried.not_failed kept.none_failed in
+    let p = err_from_is_err_and c.from_residual-in_err-fitted-2.result c.from_residual-in_err-fitted-2.ensures.1 in
+    rw p.1 (record {
       tells = tt;
       not_failed = tt;
       read = record {
         reader_middle = later.reader_middle;
-        whole = later.whole ∙ kept.whole ∙ c.in-Ok.ensures.whole;
+        whole = later.whole ∙ kept.whole ∙ c.in_ok-fitted.ensures.whole;
         none_failed = none_failed-then (reads c.args.reader.now).calls (reads c.loop-trial.reader).calls later.reader_middle.calls so_far later.none_failed;
         fails = later.fails;
       };
-    }
+    })
 
 pub loop-trial-preserved : goal.loop-trial-preserved
 loop-trial-preserved g c =
@@ -67,7 +69,7 @@ loop-trial-preserved g c =
     let kept = c.loop-trial.invariant in
     let so_far = kept.so_far in
     let first : ℕ = c.max-first.result in
-    let tells = c.in-Ok-try_range.ensures.tried.tells in
+    let tells = c.in_ok-fitted-2.ensures.tried.tells in
     let records : ℕ = c.args.trial.records in
     let many : ℕ = c.args.trial.many in
     let start : Bytes = (reads c.try_range.new.reader).whole in
@@ -92,13 +94,13 @@ loop-trial-preserved g c =
         sym (ap (λ (f : Fitted). f.least) so_far.7) ∙ none,
         tells.2 (so_far.1 ++ so_far.2) so_far.7,
       );
-      tried = omega (arith, c.in-Ok-try_range.ensures.few, kept.tried, kept.some, c.last_number-last-in-loop-trial.ensures.within, div-le_self greatest_size (c.loop-trial.step * 2));
-      refused = c.in-Ok-try_range.ensures.refused;
+      tried = omega (arith, c.in_ok-fitted-2.ensures.few, kept.tried, kept.some, c.last_number-last-in-loop-trial.ensures.within, div-le_self greatest_size (c.loop-trial.step * 2));
+      refused = c.in_ok-fitted-2.ensures.refused;
       some = omega (arith, kept.some);
       in_units = omega (arith, kept.in_units);
-      whole = c.in-Ok-try_range.ensures.whole ∙ kept.whole;
-      none_failed = none_failed-then (reads c.try_range.new.reader).calls (reads c.loop-trial.reader).calls (reads c.try_range-in-loop-trial.new.reader).calls kept.none_failed c.in-Ok-try_range.ensures.tried.not_failed;
-      records = c.in-Ok-try_range.ensures.within;
+      whole = c.in_ok-fitted-2.ensures.whole ∙ kept.whole;
+      none_failed = none_failed-then (reads c.try_range.new.reader).calls (reads c.loop-trial.reader).calls (reads c.try_range-in-loop-trial.new.reader).calls kept.none_failed c.in_ok-fitted-2.ensures.tried.not_failed;
+      records = c.in_ok-fitted-2.ensures.within;
     }
 
 -- the ranges that were tried are all where the last has a size that serves, or none is left
@@ -132,8 +134,8 @@ returns-else-is_range_behind g c =
     let few : greatest_size / (2 * c.loop-trial.step) ≤ c.max-first.result = ltb-false c.max-first.result (greatest_size / (2 * c.loop-trial.step)) (sym c.is_range_behind.ensures ∙ c.if-is_range_behind.false) in
     record {
       tells = ended c.args.trial.records c.args.trial.many c.args.step c.max-first.result c.args.peak so_far.0 (reads c.try_range.new.reader).whole (reads c.args.reader.now).whole so_far.1 so_far.2 c.loop-trial.fitted
-          c.in-Ok.ensures.whole (c.max-first.ensures ∙ ap (λ n. max n 1) c.div_ceil.ensures) so_far.4 so_far.5 so_far.6 so_far.7 (inr (no_range c.args.step c.loop-trial.step c.max-first.result so_far.0 so_far.3 few));
-      not_failed = none_failed-then (reads c.args.reader.now).calls (reads c.try_range.new.reader).calls (reads c.loop-trial.reader).calls c.in-Ok.ensures.tried.not_failed kept.none_failed;
+          c.in_ok-fitted.ensures.whole (c.max-first.ensures ∙ ap (λ n. max n 1) c.div_ceil.ensures) so_far.4 so_far.5 so_far.6 so_far.7 (inr (no_range c.args.step c.loop-trial.step c.max-first.result so_far.0 so_far.3 few));
+      not_failed = none_failed-then (reads c.args.reader.now).calls (reads c.try_range.new.reader).calls (reads c.loop-trial.reader).calls c.in_ok-fitted.ensures.tried.not_failed kept.none_failed;
       read = tt;
     }
 
@@ -144,7 +146,7 @@ returns-after-loop-trial g c =
     let so_far = kept.so_far in
     record {
       tells = ended c.args.trial.records c.args.trial.many c.args.step c.max-first.result c.args.peak so_far.0 (reads c.try_range.new.reader).whole (reads c.args.reader.now).whole so_far.1 so_far.2 c.loop-trial.fitted
-          c.in-Ok.ensures.whole (c.max-first.ensures ∙ ap (λ n. max n 1) c.div_ceil.ensures) so_far.4 so_far.5 so_far.6 so_far.7 (inl (some_is c.loop-trial.fitted.least (c.is_none.ensures ∙ ap not c.loop-trial-test.false)));
-      not_failed = none_failed-then (reads c.args.reader.now).calls (reads c.try_range.new.reader).calls (reads c.loop-trial.reader).calls c.in-Ok.ensures.tried.not_failed kept.none_failed;
+          c.in_ok-fitted.ensures.whole (c.max-first.ensures ∙ ap (λ n. max n 1) c.div_ceil.ensures) so_far.4 so_far.5 so_far.6 so_far.7 (inl (some_is c.loop-trial.fitted.least (c.is_none.ensures ∙ ap not c.loop-trial-test.false)));
+      not_failed = none_failed-then (reads c.args.reader.now).calls (reads c.try_range.new.reader).calls (reads c.loop-trial.reader).calls c.in_ok-fitted.ensures.tried.not_failed kept.none_failed;
       read = tt;
     }

@@ -1,4 +1,5 @@
 use Rattle.std.proofs.Common.{List, sym, subst, ap, ◌∙◌, not}
+use Rattle.std.proofs.lemmas.Result.{err_from_is_err_and}
 use Rattle.mtrace_replay.specs.declared.diagnostic.Diagnostic.{Diagnostic}
 use Rattle.mtrace_log.specs.Output.{Wrote, Begins}
 use Rattle.mtrace_replay.specs.Texts.{diagnostics_text}
@@ -29,29 +30,30 @@ returns-then-is_empty g c =
       failed = tt;
     }
 
-pub returns-in-Ok-put_findings : goal.returns-in-Ok-put_findings
-returns-in-Ok-put_findings g c =
+pub returns : goal.returns
+returns g c =
     let P : List Diagnostic → Type 0 = λ diagnostics. Wrote (g.W.Sink.shown c.args.writer.now) (g.W.Sink.shown c.put_findings.new.writer) (diagnostics_text diagnostics) in
     record {
       done = λ settings past stands.
           let is = c.in-Ok.ensures.diagnostics settings past stands in
           record {
             stands = c.in-Ok.ensures.stands settings past stands;
-            wrote = subst P is c.in-Ok-put_findings.ensures.put.wrote;
+            wrote = subst P is c.in_ok-put_findings.ensures.put.wrote;
             has_diagnostics_is = sym (ap not (sym c.is_empty.ensures ∙ c.if-is_empty.false)) ∙ some_diagnostic-is c.feed_lent.new.findings ∙ ap is_some_diagnostic is;
           };
       counted = c.in-Ok.ensures.counted;
       cleared = c.put_findings.ensures.cleared;
       records = c.feed_lent.ensures.records;
-      took = c.in-Ok-put_findings.ensures.put.took;
+      took = c.in_ok-put_findings.ensures.put.took;
       write = tt;
       failed = tt;
     }
 
-pub returns-in-Err : goal.returns-in-Err
-returns-in-Err g c =
+pub returns-in_err-put_findings : goal.returns-in_err-put_findings
+returns-in_err-put_findings g c =
     let P : List Diagnostic → Type 0 = λ diagnostics. Begins (g.W.Sink.shown c.args.writer.now) (g.W.Sink.shown c.put_findings.new.writer) (diagnostics_text diagnostics) in
-    record {
+    let p = err_from_is_err_and c.from_residual.result c.from_residual.ensures.1 in
+    rw p.1 (record {
       done = tt;
       counted = tt;
       cleared = tt;
@@ -59,7 +61,7 @@ returns-in-Err g c =
       took = tt;
       write = λ settings past stands. record {
         stands = c.in-Ok.ensures.stands settings past stands;
-        begun = subst P (c.in-Ok.ensures.diagnostics settings past stands) c.in-Err.ensures.put.begun;
+        begun = subst P (c.in-Ok.ensures.diagnostics settings past stands) c.in_err-put_findings.ensures.put.begun;
       };
-      failed = c.in-Err.ensures.put.failed;
-    }
+      failed = c.in_err-put_findings.ensures.put.failed;
+    })

@@ -15,12 +15,12 @@ returns-in-Err-OutOfMemory g c =
 pub returns : goal.returns
 returns g c =
     let settings = c.args.settings in
-    let ended = c.in-Ok-replay_log.ended in
-    let last = c.in-Ok-replay_log.ensures.last refl in
+    let ended = c.in_ok-ended.ended in
+    let last = c.in_ok-ended.ensures.last refl in
     record {
       run = Ok ended.status;
       reader_middle = c.replay_log.new.reader;
       writer_middle = c.replay_log.new.writer;
-      runs = c.in-Ok-replay_log.ensures.ran;
+      runs = c.in_ok-ended.ensures.ran;
       goes_on = record { reports = last.reports; answer = c.tell_sites.ensures.answer; follow = c.tell_sites.ensures.told settings last.reports.lines last.stands c.in-Ok.ensures.made.replay };
     }

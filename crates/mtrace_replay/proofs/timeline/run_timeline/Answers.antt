@@ -19,15 +19,15 @@ returns-in-Err-OutOfMemory g c =
 
 pub returns : goal.returns
 returns g c =
-    let ended = c.in-Ok-replay_log.ended in
-    let last = c.in-Ok-replay_log.ensures.last refl in
+    let ended = c.in_ok-ended.ended in
+    let last = c.in_ok-ended.ensures.last refl in
     record {
       bad_parts = λ bad. absurd (not_both bad (sym c.is_bad_parts.ensures ∙ c.if-is_bad_parts.false));
       runs = λ good. record {
         run = Ok ended.status;
         reader_middle = c.replay_log.new.reader;
         writer_middle = c.replay_log.new.writer;
-        runs = c.in-Ok-replay_log.ensures.ran;
+        runs = c.in_ok-ended.ensures.ran;
         goes_on = record { reports = last.reports; answer = c.tell_timeline.ensures.answer; follow = c.tell_timeline.ensures.told last.reports.lines last.stands };
       };
     }

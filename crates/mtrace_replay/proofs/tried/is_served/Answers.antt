@@ -1,4 +1,5 @@
 use Rattle.std.proofs.Common.{◌<◌, arith, ap, subst, ◌∙◌}
+use Rattle.std.proofs.lemmas.Result.{err_from_is_err_and}
 use Rattle.mtrace_replay.specs.declared.totals.Totals.{Totals}
 use Rattle.mtrace_replay.proofs.TriedLemmas.{tried_served, tried_refused, none_failed}
 use Rattle.mtrace_replay.proofs.tried.is_served.Goals as goal
@@ -6,37 +7,38 @@ use Rattle.mtrace_replay.proofs.tried.is_served.Goals as goal
 pub loop-preserved : goal.loop-preserved
 loop-preserved g c =
     let kept = c.loop.invariant in
-    let next = c.in-Ok.ensures.next in
+    let next = c.in_ok-replay_next.ensures.next in
     let gave = next.gave (g.R.Source.shown c.args.reader.now) kept.gave in
     record {
       so_far = λ settings stands. (next.replaying settings _ (kept.so_far settings stands)).now;
       counted = next.counted;
       many = omega (arith, next.one_more, kept.many);
       served = omega (arith, ap (λ (totals : Totals). totals.refused) c.totals.ensures.totals, c.if-totals-gt0.false);
-      none = c.in-Ok.ensures.none;
+      none = c.in_ok-replay_next.ensures.none;
       whole = next.whole ∙ kept.whole;
       gave = gave.0;
       not_failed = gave.1;
       records = next.records ∙ kept.records;
     }
 
-pub returns-in_default : goal.returns-in_default
-returns-in_default g c =
+pub returns-in_err-replay_next : goal.returns-in_err-replay_next
+returns-in_err-replay_next g c =
     let kept = c.loop.invariant in
-    let next = c.in_default.ensures.next in
-    record {
+    let next = c.in_err-replay_next.ensures.next in
+    let p = err_from_is_err_and c.from_residual.result c.from_residual.ensures.1 in
+    rw p.1 (record {
       tried = tt;
       not_failed = tt;
       read = λ settings stands. next.stops settings _ c.args.many (kept.so_far settings stands) kept.gave (omega (arith, kept.many, c.loop-test.true)) (omega (arith, c.ranges.many.fits));
       whole = next.whole ∙ kept.whole;
       records = next.records ∙ kept.records;
-    }
+    })
 
 pub returns-then-totals-gt0 : goal.returns-then-totals-gt0
 returns-then-totals-gt0 g c =
     let reads = g.R.Source.shown in
     let kept = c.loop.invariant in
-    let next = c.in-Ok.ensures.next in
+    let next = c.in_ok-replay_next.ensures.next in
     record {
       tried = λ settings stands.
           let some : 0 < c.totals.result.refused = c.if-totals-gt0.true in
