@@ -16,6 +16,10 @@
 #include <stddef.h>
 #include <stdint.h>
 
+#if UINTPTR_MAX < 0xffffffffffffffff
+#error "tlsf.h is for 64-bit processors: the library behind it is built for no other"
+#endif
+
 #ifdef __cplusplus
 extern "C" {
 #endif
@@ -45,9 +49,10 @@ void tlsf_destroy(tlsf_t tlsf);
  * answer is a null pointer. */
 pool_t tlsf_get_pool(tlsf_t tlsf);
 
-/* One more pool, or a null pointer: for fewer than 24 bytes, or 16 from no multiple of 16 on, more
- * than 1,073,741,808 beside these 8, a ninth pool, memory that the heap has already, no vacant
- * record, or pools of some 4 GiB together. */
+/* One more pool: all whole units of 16 bytes from `mem` on, or from 8 bytes behind it where `mem` is
+ * a multiple of 16. Or a null pointer: where that is no unit, or more than 1,073,741,808 bytes; for
+ * a ninth pool; for memory that the heap has already; where no record is vacant; where the pools
+ * would have some 4 GiB together. */
 pool_t tlsf_add_pool(tlsf_t tlsf, void *mem, size_t bytes);
 
 /* The pool is gone, unless a block of it is live: then it stays. */
