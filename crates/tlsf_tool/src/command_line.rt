@@ -1,7 +1,7 @@
 //! The command line, described to clap.
 
 ghost use Rattle.std.specs.Prelude.{◌≡◌, IfOk};
-ghost use Rattle.clap.specs.Words.{App, app_of, with_subcommand};
+ghost use Rattle.clap.specs.Words.{App, app_of, new_app, with_subcommand};
 ghost use Rattle.tlsf_tool.specs.CommandLine.{IsArgOf, IsCommandOf, given_rule, log_rule, image_rule, points_rule, pool_rule, pools_rule, records_rule, step_rule, blocks_rule, largest_rule, bytes_rule, align_rule, heap_line, report_line, great_line, timeline_line, fit_line, size_line, save_line, check_line, bare_line, tlsf_line};
 
 use clap::builder::ValueParser;
@@ -34,77 +34,75 @@ const EXAMPLES: &str = "Examples:
 The status is 0 where nothing was found, 1 where something was, 2 for wrong words or bad settings,
 3 where a file can't be read or written, and 4 where memory is refused.";
 
-/// The end of each subcommand's help.
-const LEAKS_EXAMPLES: &str = "Examples:
+/// What a subcommand's help tells: what it is for, and examples at the end.
+#[derive(Clone, Copy)]
+struct Help {
+    about: &'static str,
+    examples: &'static str,
+}
+
+const LEAKS: Help = Help {
+    about: "Reports the memory that is not freed at the end of the log: each block's address, size, line and place.",
+    examples: "Examples:
   tlsf leaks a.log                                   what is not freed at the end of a.log
-  tlsf leaks --records 65535 --pool 1073741808 a.log the same, where it holds more than 8192 blocks";
+  tlsf leaks --records 65535 --pool 1073741808 a.log the same, where it holds more than 8192 blocks",
+};
 
-const PEAK_EXAMPLES: &str = "Examples:
+const PEAK: Help = Help {
+    about: "Reports the most bytes that the log holds at once, and how much of the heap they need.",
+    examples: "Examples:
   tlsf peak a.log                           the peak of a.log on one pool of 16 MiB
-  tlsf peak --pool 1048576 --pools 2 a.log  the same on two pools of 1 MiB";
+  tlsf peak --pool 1048576 --pools 2 a.log  the same on two pools of 1 MiB",
+};
 
-const WALK_EXAMPLES: &str = "Examples:
+const WALK: Help = Help {
+    about: "Reports the heap's pools at the end of the log, row by row: each used and each free block.",
+    examples: "Examples:
   tlsf walk a.log                           the heap's blocks at the end of a.log
-  tlsf walk --records 65535 -               those at the end of the log on standard input";
+  tlsf walk --records 65535 -               those at the end of the log on standard input",
+};
 
-const SITES_EXAMPLES: &str = "Examples:
+const SITES: Help = Help {
+    about: "Reports who holds the memory, at the peak and at the end of the log: blocks and bytes by the location that asked for them. LOG is read twice.",
+    examples: "Examples:
   tlsf sites a.log                              who holds the memory of a.log
-  tlsf sites --pool 65536 --records 500 a.log   the same, where the heap has no more";
+  tlsf sites --pool 65536 --records 500 a.log   the same, where the heap has no more",
+};
 
-const TIMELINE_EXAMPLES: &str = "Examples:
+const TIMELINE: Help = Help {
+    about: "Reports what is held over the lines of the log: bytes, blocks, how far they reach, and what is free. LOG is read twice.",
+    examples: "Examples:
   tlsf timeline a.log                           what a.log holds, at some 100 of its lines
-  tlsf timeline --points 1000 a.log             the same at some 1000 lines";
+  tlsf timeline --points 1000 a.log             the same at some 1000 lines",
+};
 
-const FIT_EXAMPLES: &str = "Examples:
+const FIT: Help = Help {
+    about: "Reports how large a pool the log needs, and how many records: sizes from its peak to twice its peak are tried, and greater ones where none of these serves. LOG is read once for each.",
+    examples: "Examples:
   tlsf fit a.log                            how large a pool a.log needs, and how many records
-  tlsf fit --step 4096 a.log                the same, in steps of 4096 bytes";
+  tlsf fit --step 4096 a.log                the same, in steps of 4096 bytes",
+};
 
-const SIZE_EXAMPLES: &str = "Examples:
+const SIZE: Help = Help {
+    about: "Tells how many records and how large a pool are always enough, in whatever order a program asks: for at most L live blocks of at most M bytes.",
+    examples: "Examples:
   tlsf size --blocks 60 --largest 1040                 what is enough for any 60 blocks of 1040 bytes
-  tlsf size --blocks 60 --largest 1040 --bytes 20480   the same, where they have 20480 bytes at most";
+  tlsf size --blocks 60 --largest 1040 --bytes 20480   the same, where they have 20480 bytes at most",
+};
 
-const SAVE_EXAMPLES: &str = "Examples:
+const SAVE: Help = Help {
+    about: "Writes an image of the heap at the end of the log to a file, from which it can be loaded.",
+    examples: "Examples:
   tlsf save a.log a.image                   the heap at the end of a.log, in a file
-  tlsf save --pool 65536 - a.image          that of the log on standard input, on 64 KiB";
+  tlsf save --pool 65536 - a.image          that of the log on standard input, on 64 KiB",
+};
 
-const CHECK_EXAMPLES: &str = "Examples:
+const CHECK: Help = Help {
+    about: "Tells whether an image can be loaded, or the first rule that it breaks.",
+    examples: "Examples:
   tlsf check a.image                               whether a.image can be loaded
-  tlsf save a.log a.image && tlsf check a.image    whether it was written well";
-
-/// What the report of leaks means.
-const LEAKS: &str =
-    "Reports the memory that is not freed at the end of the log: each block's address, size, line and place.";
-
-/// What the report of the peak means.
-const PEAK: &str =
-    "Reports the most bytes that the log holds at once, and how much of the heap they need.";
-
-/// What the report of the walk means.
-const WALK: &str =
-    "Reports the heap's pools at the end of the log, row by row: each used and each free block.";
-
-/// What the report of sites means.
-const SITES: &str =
-    "Reports who holds the memory, at the peak and at the end of the log: blocks and bytes by the location that asked for them. LOG is read twice.";
-
-/// What the timeline means.
-const TIMELINE: &str =
-    "Reports what is held over the lines of the log: bytes, blocks, how far they reach, and what is free. LOG is read twice.";
-
-/// What the report of the sizes means.
-const FIT: &str =
-    "Reports how large a pool the log needs, and how many records: sizes from its peak to twice its peak are tried, and greater ones where none of these serves. LOG is read once for each.";
-
-/// What the sizes without a log mean.
-const SIZE: &str =
-    "Tells how many records and how large a pool are always enough, in whatever order a program asks: for at most L live blocks of at most M bytes.";
-
-/// What saving means.
-const SAVE: &str =
-    "Writes an image of the heap at the end of the log to a file, from which it can be loaded.";
-
-/// What checking means.
-const CHECK: &str = "Tells whether an image can be loaded, or the first rule that it breaks.";
+  tlsf save a.log a.image && tlsf check a.image    whether it was written well",
+};
 
 /// The option of this id, whose value the parser takes.
 fn option<'a>(
@@ -225,20 +223,26 @@ fn image_word<'a>(alloc: Global) -> Arg<'a>
         .help("File of the image")
 }
 
+/// A subcommand that takes no words yet.
+fn subcommand<'a>(alloc: Global, name: &'a str, help: Help) -> Command<'a>
+    ensures { IsCommandOf (new_app name.entry.now) result }
+{
+    Command::new(alloc, name)
+        .about(help.about)
+        .after_help(help.examples)
+}
+
 /// A subcommand that takes a heap's settings and a log, with these defaults of a pool's bytes and of the records.
 fn heap_command<'a>(
     alloc: Global,
     name: &'a str,
-    about: &'a str,
-    examples: &'a str,
+    help: Help,
     pool: &'a str,
     records: &'a str,
 ) -> Result<Command<'a>, AllocError>
     ensures { IfOk result (IsCommandOf (heap_line pool.entry.now records.entry.now name.entry.now)) }
 {
-    Command::new(alloc, name)
-        .about(about)
-        .after_help(examples)
+    subcommand(alloc, name, help)
         .arg(pool_option(alloc, pool))?
         .arg(pools_option(alloc))?
         .arg(records_option(alloc, records))?
@@ -246,43 +250,31 @@ fn heap_command<'a>(
 }
 
 /// The subcommand of one report, or of what takes the same words.
-fn report_command<'a>(
-    alloc: Global,
-    name: &'a str,
-    about: &'a str,
-    examples: &'a str,
-) -> Result<Command<'a>, AllocError>
+fn report_command<'a>(alloc: Global, name: &'a str, help: Help) -> Result<Command<'a>, AllocError>
     ensures { IfOk result (IsCommandOf (report_line name.entry.now)) }
 {
-    heap_command(alloc, name, about, examples, "16777216", "8192")
+    heap_command(alloc, name, help, "16777216", "8192")
 }
 
 /// A subcommand whose default heap is the greatest.
-fn great_command<'a>(
-    alloc: Global,
-    name: &'a str,
-    about: &'a str,
-    examples: &'a str,
-) -> Result<Command<'a>, AllocError>
+fn great_command<'a>(alloc: Global, name: &'a str, help: Help) -> Result<Command<'a>, AllocError>
     ensures { IfOk result (IsCommandOf (great_line name.entry.now)) }
 {
-    heap_command(alloc, name, about, examples, "1073741808", "65535")
+    heap_command(alloc, name, help, "1073741808", "65535")
 }
 
 /// The subcommand that tells what is held over the lines.
 fn timeline_command<'a>(alloc: Global) -> Result<Command<'a>, AllocError>
     ensures { IfOk result (IsCommandOf timeline_line) }
 {
-    great_command(alloc, "timeline", TIMELINE, TIMELINE_EXAMPLES)?.arg(points_option(alloc))
+    great_command(alloc, "timeline", TIMELINE)?.arg(points_option(alloc))
 }
 
 /// The subcommand that tries sizes.
 fn fit_command<'a>(alloc: Global) -> Result<Command<'a>, AllocError>
     ensures { IfOk result (IsCommandOf fit_line) }
 {
-    Command::new(alloc, "fit")
-        .about(FIT)
-        .after_help(FIT_EXAMPLES)
+    subcommand(alloc, "fit", FIT)
         .arg(step_option(alloc))?
         .arg(log_word(alloc))
 }
@@ -291,9 +283,7 @@ fn fit_command<'a>(alloc: Global) -> Result<Command<'a>, AllocError>
 fn size_command<'a>(alloc: Global) -> Result<Command<'a>, AllocError>
     ensures { IfOk result (IsCommandOf size_line) }
 {
-    Command::new(alloc, "size")
-        .about(SIZE)
-        .after_help(SIZE_EXAMPLES)
+    subcommand(alloc, "size", SIZE)
         .arg(blocks_option(alloc))?
         .arg(largest_option(alloc))?
         .arg(bytes_option(alloc))?
@@ -304,17 +294,14 @@ fn size_command<'a>(alloc: Global) -> Result<Command<'a>, AllocError>
 fn save_command<'a>(alloc: Global) -> Result<Command<'a>, AllocError>
     ensures { IfOk result (IsCommandOf save_line) }
 {
-    report_command(alloc, "save", SAVE, SAVE_EXAMPLES)?.arg(image_word(alloc))
+    report_command(alloc, "save", SAVE)?.arg(image_word(alloc))
 }
 
 /// The subcommand that checks.
 fn check_command<'a>(alloc: Global) -> Result<Command<'a>, AllocError>
     ensures { IfOk result (IsCommandOf check_line) }
 {
-    Command::new(alloc, "check")
-        .about(CHECK)
-        .after_help(CHECK_EXAMPLES)
-        .arg(image_word(alloc))
+    subcommand(alloc, "check", CHECK).arg(image_word(alloc))
 }
 
 /// The command line, with no subcommand yet.
@@ -349,10 +336,10 @@ pub fn tlsf_command<'a>(alloc: Global) -> Result<Command<'a>, AllocError>
     ensures { IfOk result (λ command. app_of command ≡ tlsf_line) }
 {
     let bare = bare_command(alloc)?;
-    let leaks = with(bare, report_command(alloc, "leaks", LEAKS, LEAKS_EXAMPLES))?;
-    let peak = with(leaks, report_command(alloc, "peak", PEAK, PEAK_EXAMPLES))?;
-    let walk = with(peak, report_command(alloc, "walk", WALK, WALK_EXAMPLES))?;
-    let sites = with(walk, great_command(alloc, "sites", SITES, SITES_EXAMPLES))?;
+    let leaks = with(bare, report_command(alloc, "leaks", LEAKS))?;
+    let peak = with(leaks, report_command(alloc, "peak", PEAK))?;
+    let walk = with(peak, report_command(alloc, "walk", WALK))?;
+    let sites = with(walk, great_command(alloc, "sites", SITES))?;
     let timeline = with(sites, timeline_command(alloc))?;
     let fit = with(timeline, fit_command(alloc))?;
     let size = with(fit, size_command(alloc))?;
