@@ -1,19 +1,11 @@
-use Rattle.std.proofs.Common.{◌≤◌, ◌∙◌, ◌++◌, length, drop, ap, sym, arith, inl, inr}
+use Rattle.std.proofs.Common.{◌≤◌, length, arith, inl, inr}
 use Rattle.std.proofs.lemmas.Bool.{cases_lt}
-use Rattle.std.proofs.lemmas.List.{take-append-drop, take_rest}
 use Rattle.mtrace_log.specs.Address.{hex_digits}
 use Rattle.mtrace_log.proofs.HexLemmas.{read_digits-only, digits-end, digits-first, length-hex_digits-le}
 use Rattle.mtrace_log.proofs.hex.read_digits.Goals as goal
 
 pub returns-then-begins_with_zero-clause-only : goal.returns-then-begins_with_zero-clause-only
 returns-then-begins_with_zero-clause-only c = λ n rest valid ends same. absurd (digits-first c.args.bytes.now rest n valid.0 same (c.begins_with_zero.ensures.0 c.if-begins_with_zero.true))
-
-pub returns-clause-digits : goal.returns-clause-digits
-returns-clause-digits c =
-    let bytes = c.args.bytes.now in
-    let count = c.read_most-number.result.1 in
-    sym (take-append-drop count bytes) ∙ ap (λ front. front ++ drop count bytes) c.read_most-number.ensures.digits
-    ∙ ap (λ rest. hex_digits c.read_most-number.result.0 ++ rest) (sym (take_rest bytes count))
 
 pub returns-clause-only : goal.returns-clause-only
 returns-clause-only c = λ n rest valid ends same.

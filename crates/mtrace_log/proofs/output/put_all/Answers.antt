@@ -2,11 +2,8 @@ use Rattle.std.proofs.Common.{ℕ, List, take, drop, length, ◌∷◌, sym, sub
 use Rattle.std.proofs.lemmas.List.{take_rest, take-append-drop}
 use Rattle.mtrace_log.specs.declared.call.Call.TheVariants.{Took}
 use Rattle.mtrace_log.proofs.TraceLemmas.{moved_once, offered_some}
-use Rattle.mtrace_log.proofs.Writing.{IsPutting, putting_none, putting_more}
+use Rattle.mtrace_log.proofs.Writing.{IsPutting, putting_more}
 use Rattle.mtrace_log.proofs.output.put_all.Goals as goal
-
-pub loop-rest-init : goal.loop-rest-init
-loop-rest-init g c = putting_none c.args.bytes.now (g.W.Sink.shown c.args.writer.now)
 
 pub loop-rest-preserved : goal.loop-rest-preserved
 loop-rest-preserved g c =

@@ -1,5 +1,4 @@
-use Rattle.std.proofs.Common.{ℕ, ◌≢◌, ◌∙◌, ◌<◌, get_or, refl, ap, subst, sym, arith}
-use Rattle.std.specs.Char.{digit_char}
+use Rattle.std.proofs.Common.{◌∙◌, ◌<◌, ap, subst, sym, arith}
 use Rattle.std.specs.Simd.Lanes.{Each1, chunk}
 use Rattle.mtrace_log.specs.Sixteen.{value}
 use Rattle.mtrace_log.proofs.SixteenLemmas.{digits-below, sixteen-most, sixteen-digits, sixteen-ended}
@@ -13,13 +12,6 @@ overflow_mul-result c = record { fits = omega (arith, sixteen-most c.args.bytes.
 
 pub overflow_sub-result : goal.overflow_sub-result
 overflow_sub-result c = omega (arith, sixteen-most c.args.bytes.now c.requires.room c.count_digits-count.result c.count_digits-count.ensures)
-
-pub returns-then-count-eq0 : goal.returns-then-count-eq0
-returns-then-count-eq0 c =
-    let bytes = c.args.bytes.now in
-    let ended = sixteen-ended bytes c.requires.room c.count_digits-count.result c.count_digits-count.ensures in
-    let P : ℕ → Type 0 = λ n. n < 16 → (d : ℕ) → d < 16 → get_or bytes n 0 ≢ digit_char d in
-    record { within = omega arith; most = omega arith; digits = refl; ended = subst P c.if-count-eq0.true ended }
 
 pub returns : goal.returns
 returns c =

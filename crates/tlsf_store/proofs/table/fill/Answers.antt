@@ -21,10 +21,3 @@ returns-clause-table c =
     let begun : IsBegun c.args.count c.loop-number.items.items (link_of c.loop-number.first) c.args.count =
     subst (λ n. IsBegun c.args.count c.loop-number.items.items (link_of c.loop-number.first) n) all c.loop-number.invariant.begun in
     begun_all c.args.count c.loop-number.items.items (link_of c.loop-number.first) begun c.requires.few
-
-pub returns-clause-blank : goal.returns-clause-blank
-returns-clause-blank c =
-    let all : c.loop-number.number ≡ c.args.count = omega arith in
-    let begun : IsBegun c.args.count c.loop-number.items.items (link_of c.loop-number.first) c.args.count =
-    subst (λ n. IsBegun c.args.count c.loop-number.items.items (link_of c.loop-number.first) n) all c.loop-number.invariant.begun in
-    begun.seen_as

@@ -48,14 +48,6 @@ returns-then-not-is_vacant-clause-exact c = (
       sym c.if-not-is_vacant.true ∙ (c.is_vacant.ensures ∙ (ap (λ r. is_vacant r.state) here ∙ begins.first.1)),
 )
 
-pub returns-clause-exact : goal.returns-clause-exact
-returns-clause-exact c =
-    let told = none_told c.loop-followed.next c.is_none.result c.is_none.ensures in
-    let over : c.args.vacant - c.loop-followed._followed ≡ 0 = omega arith in
-    let is : IsChain (IsVacantAt c.args.records.now) (next_at c.args.records.now) 0 c.loop-followed.next ↔ IsChain (IsVacantAt c.args.records.now) (next_at c.args.records.now) c.args.vacant c.args.first =
-    subst (λ n. IsChain (IsVacantAt c.args.records.now) (next_at c.args.records.now) n c.loop-followed.next ↔ IsChain (IsVacantAt c.args.records.now) (next_at c.args.records.now) c.args.vacant c.args.first) over c.loop-followed.invariant.chained in
-    (λ yes. is.0 (told.0 yes), λ chain. told.1 (is.1 chain))
-
 pub loop-followed-preserved : goal.loop-followed-preserved
 loop-followed-preserved c =
     let vacant = IsVacantAt c.args.records.now in

@@ -1,15 +1,8 @@
-use Rattle.std.proofs.Common.{◌≤◌, ap, sym, subst, length, rules}
-use Rattle.tlsf_store.specs.Records.{most_records, IsBelow}
+use Rattle.std.proofs.Common.{ap, sym, subst, length, rules}
+use Rattle.tlsf_store.specs.Records.{IsBelow}
 use Rattle.tlsf_store.specs.Cells.{with_head}
-use Rattle.tlsf_store.proofs.RecordLaws.{below_more}
 use Rattle.tlsf_store.proofs.Heads.{heads_set, heads_set_below}
 use Rattle.tlsf_store.proofs.store.Store.set_head.Goals as goal
-
-pub link_word-requires : goal.link_word-requires
-link_word-requires c =
-    let few : length c.args.self.now.cells.records ≤ most_records =
-    subst (λ n. n ≤ most_records) (ap (λ v. length v.cells.records) c.self.view_is) c.self.invariant.few in
-    below_more (length c.args.self.now.cells.records) most_records c.args.first few c.requires
 
 pub invariant_of-self : goal.invariant_of-self
 invariant_of-self c =
