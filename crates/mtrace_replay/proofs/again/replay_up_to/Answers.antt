@@ -50,16 +50,3 @@ returns-in_err-replay_next-clause-lines g c =
       whole = next.whole ∙ kept.whole;
       records = next.records ∙ kept.records;
     })
-
-pub returns-clause-lines : goal.returns-clause-lines
-returns-clause-lines g c =
-    let kept = c.loop.invariant in
-    record {
-      counted = kept.counted;
-      reached = omega (arith, kept.many, c.loop-test.false, c.loop.auto.counter-end, c.requires.ahead, c.requires.counted, ap (λ (totals : Totals). totals.lines) c.totals-counter.ensures.totals);
-      replaying = kept.so_far;
-      gave = kept.gave;
-      stops = tt;
-      whole = kept.whole;
-      records = kept.records;
-    }

@@ -1,26 +1,7 @@
-use Rattle.std.proofs.Common.{◌++◌, refl, arith, take, subst, sym, ap, ◌∙◌}
-use Rattle.std.proofs.lemmas.List.{drop_all, append-nil}
+use Rattle.std.proofs.Common.{arith, ap, ◌∙◌}
 use Rattle.mtrace_replay.specs.declared.key.Key.{Key}
-use Rattle.mtrace_replay.specs.Key.{RiseFrom}
-use Rattle.mtrace_replay.specs.Arrange.{held_keys}
 use Rattle.mtrace_replay.proofs.ArrangeLemmas.{spreads_held, spreads_vacant}
 use Rattle.mtrace_replay.proofs.arrange.space_out.Goals as goal
-
-pub loop-end-init : goal.loop-end-init
-loop-end-init c =
-    let keys = c.args.keys.now.keys in
-    let whole = ap (λ rest. take c.args.held keys ++ rest) (drop_all c.len-all.result keys (omega (arith, c.len-all.ensures.len))) ∙ append-nil (take c.args.held keys) in
-    record {
-      spreads = record {
-        order = omega (arith, c.requires.within, c.len-all.ensures.len);
-        within = omega (arith, c.len-all.ensures.len);
-        len = refl;
-        all = ap held_keys whole;
-        rise = subst (RiseFrom 0) (sym whole) c.requires.rise;
-        first = λ last. refl;
-      };
-      rows = refl;
-    }
 
 pub loop-end-preserved-then-is_its_place : goal.loop-end-preserved-then-is_its_place
 loop-end-preserved-then-is_its_place c =

@@ -1,11 +1,10 @@
-use Rattle.std.proofs.Common.{◌≡◌, ◌+◌, ◌-◌, ◌*◌, ◌<◌, ℕ, suc, [], ◌∷◌, ◌++◌, map, refl, sym, ap, ◌∙◌, subst, arith, append_assoc, append-nil}
-use Rattle.std.proofs.lemmas.Result.{err_from_is_err_and}
+use Rattle.std.proofs.Common.{◌≡◌, ◌+◌, ◌-◌, ◌*◌, ◌<◌, ℕ, [], ◌∷◌, ◌++◌, map, refl, sym, ap, ◌∙◌, subst, arith, append_assoc}
 use Rattle.std.specs.List.{range_with_len}
 use Rattle.mtrace_replay.specs.Fit.{one_pool, fitted, Verdict}
 use Rattle.mtrace_replay.specs.RunFit.{AreVerdicts, IsTried}
 use Rattle.mtrace_log.specs.Shown.{Bytes}
-use Rattle.mtrace_replay.proofs.FitLemmas.{one_tried, one_pool-good, units_times, within_greatest, some_units, few_steps}
-use Rattle.mtrace_replay.proofs.TriedLemmas.{none_failed-then, nothing_failed}
+use Rattle.mtrace_replay.proofs.FitLemmas.{one_tried, one_pool-good, units_times, within_greatest, some_units}
+use Rattle.mtrace_replay.proofs.TriedLemmas.{none_failed-then}
 use Rattle.mtrace_replay.proofs.fit.try_range.Goals as goal
 
 pub try_size-requires-clause-good : goal.try_size-requires-clause-good
@@ -15,44 +14,6 @@ try_size-requires-clause-good g c =
     let some : 0 < number = omega (arith, c.requires.some_number, c.loop-number.auto.number) in
     one_pool-good (number * c.args.step) c.args.trial.records (units_times number c.args.step c.requires.in_units) (some_units number c.args.step some c.requires.some)
     (within_greatest number c.args.step (omega (arith, below, c.requires.last_within))) c.requires.some_records c.requires.few
-
-pub with-fitted-requires-clause-tried : goal.with-fitted-requires-clause-tried
-with-fitted-requires-clause-tried g c =
-    let below : c.loop-number.number < c.args.last + 1 = c.loop-number-test.true in
-    omega (arith, below, c.requires.last_within, few_steps c.args.step (omega (arith, c.requires.some)), c.loop-number.invariant.tried, c.requires.tried)
-
-pub with-fitted-requires-clause-refused : goal.with-fitted-requires-clause-refused
-with-fitted-requires-clause-refused g c =
-    let below : c.loop-number.number < c.args.last + 1 = c.loop-number-test.true in
-    omega (arith, below, c.requires.last_within, few_steps c.args.step (omega (arith, c.requires.some)), c.loop-number.invariant.tried, c.loop-number.invariant.refused, c.requires.tried)
-
-pub returns-in_err-serves-clause-tried : goal.returns-in_err-serves-clause-tried
-returns-in_err-serves-clause-tried g c =
-    let p = err_from_is_err_and c.from_residual.result c.from_residual.ensures.1 in
-    rw p.1 (record {
-      tells = tt;
-      not_failed = tt;
-      read = record {
-        reader_middle = g.R.Source.shown c.loop-number.reader;
-        whole = c.loop-number.invariant.whole;
-        none_failed = c.loop-number.invariant.none_failed;
-        fails = c.in_err-serves.ensures.read;
-      };
-    })
-
-pub loop-number-init : goal.loop-number-init
-loop-number-init g c =
-    let none : c.args.first - c.args.first ≡ 0 = omega arith in
-    let V : ℕ → Type 0 = λ count. AreVerdicts c.args.trial.records c.args.trial.many (g.R.Source.shown c.args.reader.now).whole (map (λ i. i * c.args.step) (range_with_len c.args.first count)) [] in
-    record {
-      so_far = ([], subst V (sym none) (record { sizes_are = refl; each = tt }), λ before is. is ∙ ap fitted (sym (append-nil before)));
-      tried = omega arith;
-      refused = c.requires.refused;
-      whole = refl;
-      none_failed = nothing_failed (g.R.Source.shown c.args.reader.now).calls;
-      records = c.requires.within;
-      within = omega arith;
-    }
 
 pub loop-number-preserved : goal.loop-number-preserved
 loop-number-preserved g c =
@@ -76,15 +37,4 @@ loop-number-preserved g c =
       none_failed = none_failed-then (g.R.Source.shown c.args.reader.now).calls (g.R.Source.shown c.loop-number.reader).calls (g.R.Source.shown c.try_size.new.reader).calls c.loop-number.invariant.none_failed c.in_ok-serves.ensures.not_failed;
       records = omega (arith, c.try_size.ensures.records);
       within = omega (arith, below);
-    }
-
-pub returns-clause-tried : goal.returns-clause-tried
-returns-clause-tried g c =
-    let so_far = c.loop-number.invariant.so_far in
-    let all : c.loop-number.number - c.args.first ≡ suc c.args.last - c.args.first = omega (arith, c.loop-number.invariant.within, c.loop-number-test.false, c.loop-number.auto.number) in
-    let V : ℕ → Type 0 = λ count. AreVerdicts c.args.trial.records c.args.trial.many (g.R.Source.shown c.args.reader.now).whole (map (λ i. i * c.args.step) (range_with_len c.args.first count)) so_far.0 in
-    record {
-      not_failed = c.loop-number.invariant.none_failed;
-      read = tt;
-      tells = (so_far.0, subst V all so_far.1, so_far.2);
     }

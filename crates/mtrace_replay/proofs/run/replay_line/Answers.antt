@@ -1,7 +1,6 @@
 use Rattle.std.proofs.Common.{List, sym, subst, ap, ◌∙◌, not}
-use Rattle.std.proofs.lemmas.Result.{err_from_is_err_and}
 use Rattle.mtrace_replay.specs.declared.diagnostic.Diagnostic.{Diagnostic}
-use Rattle.mtrace_log.specs.Output.{Wrote, Begins}
+use Rattle.mtrace_log.specs.Output.{Wrote}
 use Rattle.mtrace_replay.specs.Texts.{diagnostics_text}
 use Rattle.mtrace_replay.specs.Run.{is_some_diagnostic}
 use Rattle.mtrace_replay.proofs.RunLemmas.{some_diagnostic-is, no_diagnostic-is}
@@ -48,20 +47,3 @@ returns g c =
       write = tt;
       failed = tt;
     }
-
-pub returns-in_err-put_findings : goal.returns-in_err-put_findings
-returns-in_err-put_findings g c =
-    let P : List Diagnostic → Type 0 = λ diagnostics. Begins (g.W.Sink.shown c.args.writer.now) (g.W.Sink.shown c.put_findings.new.writer) (diagnostics_text diagnostics) in
-    let p = err_from_is_err_and c.from_residual.result c.from_residual.ensures.1 in
-    rw p.1 (record {
-      done = tt;
-      counted = tt;
-      cleared = tt;
-      records = c.feed_lent.ensures.records;
-      took = tt;
-      write = λ settings past stands. record {
-        stands = c.in-Ok.ensures.stands settings past stands;
-        begun = subst P (c.in-Ok.ensures.diagnostics settings past stands) c.in_err-put_findings.ensures.put.begun;
-      };
-      failed = c.in_err-put_findings.ensures.put.failed;
-    })

@@ -1,4 +1,4 @@
-use Rattle.std.proofs.Common.{◌+◌, false, refl, sym, subst, ap, ◌∙◌, reverse, inr}
+use Rattle.std.proofs.Common.{false, refl, sym, subst, ap, ◌∙◌, reverse, inr}
 use Rattle.mtrace_log.specs.Progress.{Progress, CallsFor}
 use Rattle.mtrace_log.specs.declared.call.Call.TheVariants.{Gave, Took, Failed}
 use Rattle.mtrace_log.proofs.TraceLemmas.{moved_none, moved_append, moved_then_append}
@@ -60,12 +60,6 @@ returns-in-Err g c =
           (g.W.Sink.shown c.args.writer.now) (g.W.Sink.shown c.loop-number.writer) c.in-Err.field-0 (kept.under_way settings stands) c.in-Err.ensures.fault c.in-Err.ensures.nothing_held came;
       write = λ is. absurd (cc);
     }
-
-pub replay_line-requires : goal.replay_line-requires
-replay_line-requires g c =
-    let passed = rw c.in-Ok-Some.field-0-is at c.in-Ok-Some.ensures.line in
-    let given = passed c.event.result c.event.ensures in
-    record { next = (λ works. given.number ∙ ap (λ n. n + 1) (sym c.loop-number.invariant.counted)); none = c.loop-number.invariant.none }
 
 pub loop-number-preserved : goal.loop-number-preserved
 loop-number-preserved g c =

@@ -1,5 +1,4 @@
 use Rattle.std.proofs.Common.{◌<◌, arith, ap, subst, ◌∙◌}
-use Rattle.std.proofs.lemmas.Result.{err_from_is_err_and}
 use Rattle.mtrace_replay.specs.declared.totals.Totals.{Totals}
 use Rattle.mtrace_replay.proofs.TriedLemmas.{tried_served, tried_refused, none_failed}
 use Rattle.mtrace_replay.proofs.tried.is_served.Goals as goal
@@ -20,19 +19,6 @@ loop-preserved g c =
       not_failed = gave.1;
       records = next.records ∙ kept.records;
     }
-
-pub returns-in_err-replay_next : goal.returns-in_err-replay_next
-returns-in_err-replay_next g c =
-    let kept = c.loop.invariant in
-    let next = c.in_err-replay_next.ensures.next in
-    let p = err_from_is_err_and c.from_residual.result c.from_residual.ensures.1 in
-    rw p.1 (record {
-      tried = tt;
-      not_failed = tt;
-      read = λ settings stands. next.stops settings _ c.args.many (kept.so_far settings stands) kept.gave (omega (arith, kept.many, c.loop-test.true)) (omega (arith, c.ranges.many.fits));
-      whole = next.whole ∙ kept.whole;
-      records = next.records ∙ kept.records;
-    })
 
 pub returns-then-totals-gt0 : goal.returns-then-totals-gt0
 returns-then-totals-gt0 g c =

@@ -26,11 +26,6 @@ gather_sites-requires-clause-room c =
     let moved = lent_permutes c.args.held _ _ c.as_slice.result.now c.collect.ensures.all c.sort_entries.ensures.moved c.as_slice.ensures.value in
     omega (arith, as_many c.args.held c.as_slice.result.now moved, c.requires.room, ap (λ (g : Grouped). g.room) c.self.view_is, min-le_right (vec_capacity c.self.inside.entries) (vec_capacity c.self.inside.sites), c.clear.ensures.capacity)
 
-pub gather_sites-requires-clause-few : goal.gather_sites-requires-clause-few
-gather_sites-requires-clause-few c =
-    let moved = lent_permutes c.args.held _ _ c.as_slice.result.now c.collect.ensures.all c.sort_entries.ensures.moved c.as_slice.ensures.value in
-    omega (arith, as_many c.args.held c.as_slice.result.now moved, c.requires.few)
-
 pub gather_sites-requires-clause-fits : goal.gather_sites-requires-clause-fits
 gather_sites-requires-clause-fits c =
     let moved = lent_permutes c.args.held _ _ c.as_slice.result.now c.collect.ensures.all c.sort_entries.ensures.moved c.as_slice.ensures.value in

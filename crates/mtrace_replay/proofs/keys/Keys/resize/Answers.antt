@@ -1,6 +1,6 @@
-use Rattle.std.proofs.Common.{take, length, arith, ap, ◌∙◌}
+use Rattle.std.proofs.Common.{arith, ap, ◌∙◌}
 use Rattle.mtrace_replay.specs.Keys.{Kept}
-use Rattle.mtrace_replay.proofs.KeysLemmas.{rows_are, keys_length, resized}
+use Rattle.mtrace_replay.proofs.KeysLemmas.{rows_are, keys_length}
 use Rattle.mtrace_replay.proofs.keys.Keys.resize.Goals as goal
 
 pub invariant_of-self : goal.invariant_of-self
@@ -20,8 +20,3 @@ pub returns-clause-len : goal.returns-clause-len
 returns-clause-len c =
     let rows = rows_are c.self.inside c.self.invariant c.cover.new.self c.self.view_is in
     keys_length c.self.inside.chunks.items c.self.invariant.whole c.args.len (omega (arith, rows, c.cover.ensures.covered))
-
-pub returns-clause-first : goal.returns-clause-first
-returns-clause-first c n less within =
-    resized c.self.inside c.self.invariant c.cover.new.self c.self.view_is c.args.len n less (omega (arith, within, ap length c.cover.ensures.keys))
-    ∙ ap (take n) c.cover.ensures.keys
