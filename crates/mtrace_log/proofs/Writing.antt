@@ -94,10 +94,6 @@ pub record IsPutting (text rest : List ℕ) (old new : WriterState) : Type 0 whe
   pub whole : text ≡ part ++ rest
   pub put : PutsAll part old new
 
--- nothing of it yet
-pub putting_none : (text : List ℕ) (writer : WriterState) → IsPutting text text writer writer
-putting_none text writer = record { part = []; whole = refl; put = puts_nothing writer }
-
 -- the next piece of what is left is put
 pub putting_more : (old middle new : WriterState) (text rest piece later : List ℕ)
     → IsPutting text rest old middle → rest ≡ piece ++ later → PutsAll piece middle new → IsPutting text later old new

@@ -132,10 +132,6 @@ within_greatest number step few =
 pub some_units : (number step : ℕ) → 0 < number → unit ≤ step → unit ≤ number * step
 some_units number step some units = omega (arith, units, mul-le-mul_right step some)
 
--- there are no more steps in the greatest size than bytes
-pub few_steps : (step : ℕ) → 0 < step → greatest_size / step ≤ greatest_size
-few_steps step some = omega (arith, mul-le-mul_left (greatest_size / step) some, div-add-mod' greatest_size step)
-
 -- the verdicts of sizes, and of others behind them
 pub more_verdicts : (records many : ℕ) (whole : Bytes) (tried more : List ℕ) (verdicts others : List Verdict) → AreVerdicts records many whole tried verdicts → AreVerdicts records many whole more others
     → AreVerdicts records many whole (tried ++ more) (verdicts ++ others)

@@ -24,21 +24,6 @@ use Rattle.mtrace_replay.specs.Texts.{free_sizes, greatest}
 use Rattle.mtrace_replay.specs.Timeline.{IsPoint, lines_of}
 use Rattle.mtrace_replay.proofs.RowLemmas.{greatest-append}
 
--- the point of what a replay stands for
-pub point_of : (replay : Replayed) (totals : Totals) (survey : Survey) (settings : Settings) (past : List ReadLine) → totals ≡ replay.totals
-    → IsSurvey survey (free_sizes replay.content) (live_ends replay.content) → StandsFor replay settings past
-    → IsPoint (started settings) (moments (started settings) past)
-    (record { line = totals.lines; bytes = totals.live_bytes; blocks = totals.live_blocks; reach = survey.reach; free = survey.free_bytes; largest = survey.largest_free })
-point_of replay totals survey settings past same is stands =
-    let sums = subst (AreTotals (started settings) (moments (started settings) past)) (sym same) stands.totals in
-    record {
-      bytes = sums.live_bytes;
-      blocks = sums.live_blocks;
-      reach = is.reach ∙ ap (λ content. greatest (live_ends content)) stands.content_is;
-      free = is.bytes ∙ ap (λ content. sum_by (λ (size : ℕ). size) (free_sizes content)) stands.content_is;
-      largest = is.largest ∙ ap (λ content. greatest (free_sizes content)) stands.content_is;
-    }
-
 -- the lines so far were read and replayed, and the points are of the first of them
 pub record Gathers (settings : Settings) (points : List Point) (progress : Progress) (replay : Replayed) (start reader : ReaderState) : Type 0 where
   pub now : IsReplaying settings progress replay start reader

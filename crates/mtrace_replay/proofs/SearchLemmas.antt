@@ -114,12 +114,6 @@ module _ (keys : List Key) (address before low left count : ℕ) (is_seen : Bool
       subst (λ at. Searching keys address at (left / 2) (is_seen || is_same) before after) there_is (goes_on is_same same (reaches refl))
   goes (suc (suc more)) step is_same by few reaches above same = absurd (omega (arith, few))
 
--- where a search that ends saw the address, it stands at the last key before
-pub ends_seen : (keys : List Key) (address low before count : ℕ) → Searching keys address low 0 true before count → StandsAt keys address (low - 1)
-ends_seen keys address low before count has =
-    let behind : low + 0 ≡ low - 1 + 1 = omega (arith, has.below.some) in
-    (omega (arith, has.within, has.below.some), has.below.there, subst (λ k. AreAbove address (drop k keys)) behind has.above)
-
 -- There is something held at each key less far away than this, and where the end is less far away no room is left
 -- there.
 pub record HeldAround (keys : List Key) (room at distance : ℕ) : Type 0 where

@@ -159,9 +159,6 @@ module _ (rows : List Row) where
   pub timeline_asks_nothing : HasNoParts ⊎ HasNoLog rows → AsksNothing (Some (codes "timeline", rows))
   timeline_asks_nothing missing = text_asks_nothing (codes "timeline") missing
 
-  pub fit_asks_nothing : first_of (codes "LOG") rows ≡ None → AsksNothing (Some (codes "fit", rows))
-  fit_asks_nothing none = text_asks_nothing (codes "fit") none
-
   pub size_asks_nothing : ((bounds : Bounds) → HasBounds rows bounds → ⊥) → AsksNothing (Some (codes "size", rows))
   size_asks_nothing never = text_asks_nothing (codes "size") never
 

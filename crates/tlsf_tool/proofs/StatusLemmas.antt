@@ -19,7 +19,3 @@ module _ {E : Type 0} {IsSo : Result Status RunFault → Type 0} where
 
   pub ends_early : (fault : RunFault) (status : ℕ) (old new : E) → IsSo (Err fault) → status ≡ status_of_run_fault fault → EndsAs IsSo status old new
   ends_early fault status old new told is = record { outcome = Err fault; told = told; status_is = sym is; no_errors = λ few. absurd (fault_above fault (omega (arith, few, is))) }
-
-  -- what is so of the answer of a run
-  pub ends_so : (run : Result Status RunFault) (status : ℕ) (old new : E) → EndsAs (λ outcome. outcome ≡ run) status old new → IsSo run → EndsAs IsSo status old new
-  ends_so run status old new ends so = record { outcome = ends.outcome; told = subst IsSo (sym ends.told) so; status_is = ends.status_is; no_errors = ends.no_errors }
