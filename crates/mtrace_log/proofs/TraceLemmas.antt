@@ -52,11 +52,6 @@ offered_some bytes zero some = absurd (omega arith)
 offered_some zero (suc count) some = refl
 offered_some (suc bytes) (suc count) some = refl
 
--- a flush was asked
-pub flush_asked : (old new : List Call) (answer : Result (Unit {0}) Failure) → new ≡ flushed answer ∷ old → FlushWasAsked old new
-flush_asked old new (Ok done) told = inl (moved_then_last Took Flushed old old new (moved_none Took old) told)
-flush_asked old new (Err failure) told = inr (moved_then_last Took FlushFailed old old new (moved_none Took old) told)
-
 -- a writer that took pieces, and was then asked to flush
 pub flush_after : (old middle new : List Call) → HasTaken old middle → FlushWasAsked middle new → FlushWasAsked old new
 flush_after old middle new taken asked = elim asked [

@@ -45,10 +45,6 @@ Begins-longer old new text more b = record {
 pub Begins-all : (old new : WriterState) (text : List ℕ) → Wrote old new text → Begins old new text
 Begins-all old new text w = record { part = text; rest = []; whole = sym (append-nil text); wrote = w }
 
--- nothing is put
-pub puts_nothing : (writer : WriterState) → PutsAll [] writer writer
-puts_nothing writer = record { wrote = Wrote-nothing writer; took = moved_none Took writer.calls }
-
 -- a text is put, and then another
 pub puts_on : (old middle new : WriterState) (first second : List ℕ)
     → PutsAll first old middle → PutsAll second middle new → PutsAll (first ++ second) old new

@@ -127,12 +127,6 @@ module _ (inside : Inside) (has : AreChunks inside.chunks.items (vec_capacity in
       ∙ take-append-le len (all_keys chunks) (all_keys (new ∷ [])) (omega (arith, all, has.used))
       ∙ ap (λ (k : Kept). k.keys) is
 
-  -- another number of keys is in use
-  pub resized : (count n : ℕ) → n ≤ count → n ≤ length now.keys → take n (take count (all_keys chunks)) ≡ take n now.keys
-  resized count n less within =
-      let kept : n ≤ len = omega (arith, within, len_is) in
-      take-take n count (all_keys chunks) less ∙ sym (take-take n len (all_keys chunks) kept) ∙ ap (λ (k : Kept). take n k.keys) is
-
   -- a row is written
   pub row_written : (at : ℕ) (chunk : Chunk) (entry : Entry) → at < length now.rows.entries → chunk ≡ get_or chunks (at / 64) chunk
       → all_rows (set chunks (at / 64) (record { keys = chunk.keys; hints = chunk.hints; rows = set chunk.rows (at % 64) entry })) ≡ set now.rows.entries at entry

@@ -1,4 +1,4 @@
-use Rattle.std.proofs.Common.{rules, ◌≡◌, subst, IfOk}
+use Rattle.std.proofs.Common.{◌≡◌, subst, IfOk}
 use Rattle.std.specs.Prelude.{◌==◌}
 use Rattle.std.proofs.lemmas.Result.{IfOk-weaker}
 use Rattle.tlsf_region.proofs.Ranges.{free_ranges, still_within, ranges}
@@ -15,10 +15,3 @@ invariant_of-self c =
           after.refused.unchanged c.self.invariant.within;
       exact = c.self.invariant.exact;
     }
-
-pub returns-clause-refused : goal.returns-clause-refused
-returns-clause-refused c = record {
-  refused = rw (← c.self.view_is) c.free.ensures.refused.refused;
-  never_memory = search rules;
-  unchanged = search rules;
-}
