@@ -1,8 +1,7 @@
 -- Traces one behind the other.
-use Rattle.std.proofs.Common.{◌≡◌, ℕ, zero, suc, ◌<◌, List, [], ◌∷◌, ◌++◌, map, Result, Ok, Err, refl, sym, ap, ◌∙◌, append_assoc, arith, inl, inr}
+use Rattle.std.proofs.Common.{◌≡◌, ℕ, zero, suc, ◌<◌, List, [], ◌∷◌, ◌++◌, map, Ok, refl, sym, ap, ◌∙◌, append_assoc, arith, inl, inr}
 use Rattle.std.proofs.lemmas.List.{map-append}
-use Rattle.mtrace_log.specs.Trace.{pulled, offered, flushed, Moved, MovedThen, HasGiven, HasTaken, HasFailedToWrite, FlushWasAsked}
-use Rattle.mtrace_log.specs.declared.failed.Failed.{Failed as Failure}
+use Rattle.mtrace_log.specs.Trace.{pulled, offered, Moved, MovedThen, HasGiven, HasTaken, HasFailedToWrite, FlushWasAsked}
 use Rattle.mtrace_log.specs.declared.call.Call.{Call}
 use Rattle.mtrace_log.specs.declared.call.Call.TheVariants.{Gave, Took, Flushed, FlushFailed, Failed}
 

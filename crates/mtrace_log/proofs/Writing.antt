@@ -7,7 +7,7 @@ use Rattle.std.proofs.lemmas.List.{append-nil}
 use Rattle.mtrace_log.specs.Output.{Wrote, Begins, PutsAll, PutsPart, Puts}
 use Rattle.mtrace_log.specs.Shown.{WriterState}
 use Rattle.mtrace_log.specs.declared.call.Call.TheVariants.{Took, Failed}
-use Rattle.mtrace_log.proofs.TraceLemmas.{moved_none, moved_append, moved_then_append}
+use Rattle.mtrace_log.proofs.TraceLemmas.{moved_append, moved_then_append}
 
 append_known-append : (old : Option (List ℕ)) (first second : List ℕ) → append_known (append_known old first) second ≡ append_known old (first ++ second)
 append_known-append None first second = refl

@@ -12,7 +12,7 @@ use Rattle.std.proofs.lemmas.List.{map-append}
 use Rattle.std.proofs.lemmas.List.FromFn.{map-range_with_len_more}
 use Rattle.std.proofs.lemmas.Bool.{eq-eqb, le-ltb}
 use Rattle.std.proofs.lemmas.Nat.{mul-mod_second, div-add-mod'}
-use Rattle.std.proofs.Math.Nat.{mul-le-mul_right, mul-le-mul_left, mul_assoc, mul_comm, pow-suc}
+use Rattle.std.proofs.Math.Nat.{mul-le-mul_right, mul_assoc, mul_comm, pow-suc}
 use Rattle.mtrace_log.proofs.TextLemmas.{AllByRecursion-append}
 use Rattle.tlsf_class.specs.Classes.{unit, greatest_size}
 use Rattle.tlsf_heap.specs.Pools.{most_records, end_of_places}

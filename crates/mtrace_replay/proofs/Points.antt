@@ -1,6 +1,5 @@
 -- Points that are gathered while the lines are read again.
 use Rattle.std.proofs.Common.{◌≡◌, ℕ, zero, suc, ◌+◌, ◌<◌, ◌≤◌, max, List, [], ◌∷◌, ◌++◌, length, take, reverse, sym, ap, ap₂, subst, ◌∙◌, arith}
-use Rattle.std.specs.Prelude.{sum_by}
 use Rattle.std.specs.List.{All}
 use Rattle.std.specs.List.Sorted.{IsStrictlyIncreasing}
 use Rattle.std.proofs.Math.ListN.{get_or}
@@ -10,17 +9,13 @@ use Rattle.std.proofs.lemmas.List.Elements.{All-append}
 use Rattle.mtrace_log.specs.Progress.{Progress}
 use Rattle.mtrace_replay.specs.declared.point.Point.{Point}
 use Rattle.mtrace_replay.specs.declared.settings.Settings.{Settings}
-use Rattle.mtrace_replay.specs.declared.survey.Survey.{Survey}
-use Rattle.mtrace_replay.specs.declared.totals.Totals.{Totals}
 use Rattle.mtrace_replay.specs.Started.{started}
-use Rattle.mtrace_replay.specs.Totals.{AreTotals}
 use Rattle.mtrace_replay.specs.Moment.{ReadLine}
 use Rattle.mtrace_replay.specs.History.{history, moments}
 use Rattle.mtrace_replay.specs.Replay.{Replayed, StandsFor, touched}
 use Rattle.mtrace_log.specs.Shown.{ReaderState}
 use Rattle.mtrace_replay.specs.Replaying.{IsReplaying, GoesOn}
-use Rattle.mtrace_replay.specs.Survey.{live_ends, IsSurvey}
-use Rattle.mtrace_replay.specs.Texts.{free_sizes, greatest}
+use Rattle.mtrace_replay.specs.Texts.{greatest}
 use Rattle.mtrace_replay.specs.Timeline.{IsPoint, lines_of}
 use Rattle.mtrace_replay.proofs.RowLemmas.{greatest-append}
 

@@ -1,5 +1,5 @@
 -- A table as callers see it: what a write, a take and a give change.
-use Rattle.std.proofs.Common.{◌≡◌, ◌≢◌, ℕ, ◌+◌, ◌-◌, ◌<◌, true, false, cond, List, [], ◌∷◌, length, set, map, slice_index_or, Option, Some, None, ◌∙◌, sym, ap, subst, refl, arith}
+use Rattle.std.proofs.Common.{◌≡◌, ◌≢◌, ℕ, ◌+◌, ◌-◌, ◌<◌, true, false, cond, List, [], ◌∷◌, length, set, map, slice_index_or, Option, Some, ◌∙◌, sym, ap, subst, refl, arith}
 use Rattle.std.proofs.lemmas.List.{length-map, length-set, map-set, get_or-map, get_or_default}
 use Rattle.std.proofs.lemmas.List.Sums.{sum_by-cons}
 use Rattle.tlsf_store.specs.declared.records.State.{State}
@@ -8,7 +8,7 @@ use Rattle.tlsf_store.specs.declared.records.Record.{Record}
 use Rattle.tlsf_store.specs.Records.{blank, blank_in, record_at, is_vacant, vacant_count, IsKept}
 use Rattle.tlsf_store.specs.Table.{seen, seen_in, next_at, IsTable, IsStored}
 use Rattle.tlsf_store.proofs.RecordLaws.{mark, used_state}
-use Rattle.tlsf_store.proofs.TableLaws.{table_write, table_give, table_take, table_none, first_below, IsTaken}
+use Rattle.tlsf_store.proofs.TableLaws.{table_write, table_give, table_take, first_below, IsTaken}
 
 seen_in-state : (s : State) (r : Record) → r.state ≡ s → is_vacant (seen_in s r).state ≡ is_vacant s
 seen_in-state Vacant r is = refl
@@ -131,8 +131,3 @@ take_changes records shown vacant slot table view =
         view = shown_set records shown view slot (blank_in Free) (blank_in Free) refl;
       };
     }
-
--- with no first slot, callers see no vacant record
-pub none_vacant : (records shown : List Record) (vacant : ℕ) → IsTable records None vacant → map seen records ≡ shown → vacant_count shown ≡ 0
-none_vacant records shown vacant table view =
-    ap vacant_count (sym view) ∙ (vacant_count-seen records ∙ (table.counted ∙ table_none records vacant table))
