@@ -1,14 +1,12 @@
 -- What the sizes tell with one size more.
 use Rattle.std.proofs.Common.{◌≡◌, ℕ, zero, suc, ◌+◌, ◌-◌, ◌*◌, ◌/◌, ◌%◌, ◌^◌, ◌<◌, ◌≤◌, Bool, true, false, cond, not, option_map, List, [], ◌∷◌, ◌++◌, map, length, length-append, reverse, Option, Some, None, refl, sym, subst, ap, ◌∙◌, arith}
 use Rattle.std.specs.Prelude.{◌&&◌}
-use Rattle.std.specs.List.{find, list_all}
+use Rattle.std.specs.List.{find, list_all, range_with_len}
 use Rattle.std.specs.Option.{option_or}
-use Rattle.std.proofs.lemmas.List.{append_assoc}
+use Rattle.std.proofs.lemmas.List.{append_assoc, map-append}
 use Rattle.std.proofs.lemmas.List.Folds.{find-append, list_all-append}
 use Rattle.std.proofs.lemmas.List.Sums.{sum_by-append}
-use Rattle.mtrace_replay.specs.Fit.{Verdict, least_size, safe_size, refused_sizes, fitted}
-use Rattle.std.specs.List.{range_with_len}
-use Rattle.std.proofs.lemmas.List.{map-append}
+use Rattle.mtrace_replay.specs.Fit.{Verdict, least_size, safe_size, refused_sizes, fitted, one_pool, greatest_settings, enough_records, step_of, first_number, last_number, doubled, range}
 use Rattle.std.proofs.lemmas.List.FromFn.{map-range_with_len_more}
 use Rattle.std.proofs.lemmas.Bool.{eq-eqb, le-ltb}
 use Rattle.std.proofs.lemmas.Nat.{mul-mod_second, div-add-mod'}
@@ -17,7 +15,6 @@ use Rattle.mtrace_log.proofs.TextLemmas.{AllByRecursion-append}
 use Rattle.tlsf_class.specs.Classes.{unit, greatest_size}
 use Rattle.tlsf_heap.specs.Pools.{most_records, end_of_places}
 use Rattle.mtrace_replay.specs.Settings.{are_bad}
-use Rattle.mtrace_replay.specs.Fit.{one_pool, greatest_settings, enough_records, step_of, first_number, last_number, doubled, range}
 use Rattle.mtrace_log.specs.Shown.{Bytes}
 use Rattle.mtrace_replay.specs.RunFit.{IsTried, AreVerdicts, TriesRanges, TellsSizes, TellsFit}
 use Rattle.tlsf_heap.specs.Sizing.{sure_pool}

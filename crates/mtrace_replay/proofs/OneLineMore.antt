@@ -1,7 +1,7 @@
 -- A replay stands for one line more.
 use Rattle.std.proofs.Math.Path.{fun_ext}
 use Rattle.std.proofs.Common.{◌⊎◌, inl, inr, cond, option_map, is_some, Bool, true, false, ◌≤◌, Option, Some, None, ◌≡◌, ℕ, suc, ◌+◌, List, [], ◌∷◌, ◌++◌, length, refl, sym, ap, ◌∙◌, subst, arith}
-use Rattle.std.specs.Prelude.{if◌then◌else◌, max}
+use Rattle.std.specs.Prelude.{if◌then◌else◌, max, ◌==◌}
 use Rattle.std.specs.List.Sorted.{IsStrictlyIncreasing}
 use Rattle.mtrace_replay.specs.declared.diagnostic.Diagnostic.{Diagnostic}
 use Rattle.mtrace_replay.specs.declared.settings.Settings.{Settings}
@@ -12,7 +12,6 @@ use Rattle.mtrace_replay.specs.Replay.{Replayed, StandsFor, added_diagnostics}
 use Rattle.mtrace_replay.specs.Step.{given_of, all_given, found, Comes, AreLive}
 use Rattle.mtrace_replay.proofs.FoundLemmas.{found_is_held, held_as_found}
 use Rattle.std.specs.List.{Contains, list_any}
-use Rattle.std.specs.Prelude.{◌==◌}
 use Rattle.std.proofs.lemmas.Bool.{eq-eqb}
 use Rattle.tlsf_heap.specs.Content.{Block, Content, blocks_of, is_free, size_at}
 use Rattle.tlsf_heap.specs.Bare.{bare}

@@ -6,8 +6,7 @@ use Rattle.std.specs.declared.cmp.Ordering.{Ordering}
 use Rattle.std.specs.Ordering.{is_eq, is_lt}
 use denote.Ref.{Bor}
 use Rattle.std.specs.declared.cmp.Ordering.TheVariants.{Less}
-use Rattle.mtrace_replay.specs.Sites.{Origin, origin_cmp}
-use Rattle.mtrace_replay.specs.Sites.{Site}
+use Rattle.mtrace_replay.specs.Sites.{Origin, origin_cmp, Site}
 use Rattle.mtrace_replay.specs.Entry.{Entry}
 
 abbrev pub own : Entry → Site

@@ -6,8 +6,7 @@ use Rattle.std.specs.declared.cmp.Ordering.TheVariants.{Less, Equal}
 use Rattle.std.proofs.lemmas.Cmp.{tied_itself}
 use Rattle.std.proofs.lemmas.List.Sums.{sum_by-cons}
 use Rattle.std.proofs.lemmas.List.Elements.{recursion_from_All}
-use Rattle.mtrace_replay.specs.Sites.{Origin}
-use Rattle.mtrace_replay.specs.Sites.{Site, weigh, blocks_at, bytes_at, site_cmp, IsSiteOf, AreSites}
+use Rattle.mtrace_replay.specs.Sites.{Origin, Site, weigh, blocks_at, bytes_at, site_cmp, IsSiteOf, AreSites}
 use Rattle.mtrace_replay.specs.Entry.{Entry}
 use Rattle.mtrace_replay.proofs.SiteLemmas.Origins.{weighs_at}
 use Rattle.mtrace_replay.proofs.SiteLemmas.Exact.{site_total}

@@ -7,8 +7,7 @@ use Rattle.std.specs.FinMap.{nat_cmp-IsAntisymmetric, slice_cmp-IsAntisymmetric}
 use Rattle.std.specs.declared.cmp.Ordering.{Ordering}
 use Rattle.std.specs.declared.cmp.Ordering.TheVariants.{Less, Equal, Greater}
 use Rattle.std.proofs.lemmas.Cmp.{tied_itself}
-use Rattle.mtrace_replay.specs.Sites.{Origin, origin_cmp}
-use Rattle.mtrace_replay.specs.Sites.{weigh}
+use Rattle.mtrace_replay.specs.Sites.{Origin, origin_cmp, weigh}
 
 pub origin_total : IsTotalOrder origin_cmp
 unfolding origin_cmp

@@ -12,8 +12,7 @@ use Rattle.std.proofs.lemmas.Fn.{always_returns_same}
 use Rattle.std.proofs.lemmas.List.Sorted.{ranks_by, All-permutation, IsPermutation-reverse, IsPermutation-sym}
 use Rattle.std.proofs.lemmas.List.Elements.{All-from_recursion}
 use Rattle.std.proofs.lemmas.List.Sums.{sum_by-cons}
-use Rattle.mtrace_replay.specs.Sites.{origin_cmp}
-use Rattle.mtrace_replay.specs.Sites.{Site}
+use Rattle.mtrace_replay.specs.Sites.{origin_cmp, Site}
 use Rattle.mtrace_replay.specs.Gather.{Ordered, lent_origin}
 use Rattle.mtrace_replay.specs.Entry.{Entry}
 

@@ -1,10 +1,9 @@
 use Rattle.std.proofs.Common.{rules, ◌≡◌, true, sym, subst}
-use Rattle.std.specs.Prelude.{◌==◌}
+use Rattle.std.specs.Prelude.{◌==◌, Ok}
 use Rattle.tlsf_heap.specs.Content.{blocks_of}
 use Rattle.tlsf_heap.specs.Free.{free, is_live}
 use Rattle.tlsf_heap.specs.Pointer.{Pointer}
 use Rattle.tlsf_heap.proofs.Good.StaysLive.{free_of_live}
-use Rattle.std.specs.Prelude.{Ok}
 use Rattle.mtrace_replay.proofs.HeapSteps.{bare_freed}
 use Rattle.mtrace_replay.proofs.HeldStayLive.{live_after_free}
 use Rattle.mtrace_replay.proofs.step.take.Goals as goal

@@ -1,8 +1,7 @@
 use Rattle.std.proofs.Common.{subst, Option, List}
 use Rattle.std.proofs.lemmas.Result.{IfErr-weaker, IfOk-weaker}
-use Rattle.tlsf_tool.specs.CommandLine.{MatchesAskFor}
+use Rattle.tlsf_tool.specs.CommandLine.{MatchesAskFor, texts_of, wrong_with}
 use Rattle.clap.specs.Words.{app_of, Row, Text}
-use Rattle.tlsf_tool.specs.CommandLine.{texts_of, wrong_with}
 use Rattle.tlsf_tool.proofs.CommandLineLemmas.{asks_nothing, explained, explains_words, finds, never_asks, no_report_explains, nothing_wrong, some_wrong}
 use Rattle.tlsf_tool.proofs.words.command.Goals as goal
 

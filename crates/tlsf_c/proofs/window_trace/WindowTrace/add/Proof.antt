@@ -1,5 +1,5 @@
 -- No code: the borrow is opened and closed at lists that contracts alone see.
-use Rattle.std.proofs.Common.{ℕ, List, [], ◌∷◌, ◌++◌, refl, MutBor}
+use Rattle.std.proofs.Common.{ℕ, List, [], ◌∷◌, ◌++◌, refl, MutBor, ◌<◌, ◌^◌, length}
 use seplogic.Ra.Ura.{Ura}
 use mir.Syntax.{named}
 use mir.Val.{Val, vunit, vptr}
@@ -18,28 +18,25 @@ use types.ByLocal.{alloc_all, pass_all, free_all, look_at, sets}
 use sound.WpLaws.{WpFn-mono}
 use denote.RattleType.{owns}
 use denote.Memory.{mem}
-use denote.Ref.{MutRef, ShrRef, mut_vals, mut_Tells, shr_vals, shr_Tells}
+use denote.Ref.{MutRef, ShrRef, mut_vals, mut_Tells, shr_vals, shr_Tells, Bor}
 use denote.Signature.{plain}
 use denote.Steps.{opens, closes}
 use denote.Triple.Entry.{on_entry}
 use denote.Triple.Spec.{Meets, triple_of}
 use denote.Triple.Table.{entered}
 use Rattle.core.proofs.mem.Facts.{says_two}
-use denote.Triple.Walked.{Stays, stay_ref, walk_of, AllGo, Goes-ref, Walks, ends_at, walked, walk_Meets}
+use denote.Triple.Walked.{Stays, stay_ref, walk_of, AllGo, Goes-ref, Walks, ends_at, walked, walk_Meets, stay_none_ref, stay_none_slice, Goes-none_ref, Goes-none_slice}
 use Rattle.tlsf_c.specs.declared.window_trace.WindowTrace.{WindowTrace}
 use Rattle.tlsf_c.specs.contracts.window_trace.WindowTrace as T
 use Rattle.tlsf_c.specs.contracts.window_trace.WindowTrace.add.Key.{name as #it}
 use Rattle.tlsf_c.specs.contracts.window_trace.WindowTrace.add as it
 use Rattle.tlsf_c.proofs.window_trace.WindowTrace.add.Statement as stated
 use Rattle.tlsf_c.proofs.window_trace.WindowTrace.add.Code as code
-use denote.Ref.{Bor}
 use denote.Builtin.{u8}
 use denote.Exit.{yes}
 use denote.Slice.{ShrSlice, slice_val, shr_slice_vals, shr_slice_Tells}
-use denote.Triple.Walked.{stay_none_ref, stay_none_slice, Goes-none_ref, Goes-none_slice}
 use Rattle.mtrace_log.specs.declared.call.Call.{Call}
 use Rattle.mtrace_log.specs.contracts.call.Call as call
-use Rattle.std.proofs.Common.{◌<◌, ◌^◌, length}
 
 abbrev Arg : Type 0
 Arg = MutBor WindowTrace × (Bor Call × (Bor (List ℕ) × Unit {0}))
