@@ -1,10 +1,10 @@
 -- What the plain heap's free leaves.
 use Rattle.std.proofs.Common.{◌≡◌, ℕ, ◌+◌, Bool, true, [], ◌∷◌, map, ap, ◌∙◌, subst, arith, Option}
-use Rattle.tlsf_heap.specs.Content.{Block, Content, blocks_of, size_at}
+use Rattle.tlsf_heap.specs.Content.{Block, Content, blocks_of, size_at, IsSize}
 use Rattle.tlsf_heap.specs.Lists.{link}
 use Rattle.tlsf_heap.specs.Malloc.{replaced_in}
 use Rattle.tlsf_heap.specs.Free.{is_live, free_previous, free_next, unlink_block, size_of, start_of, free_block, without_block, after_free}
-use Rattle.tlsf_heap.specs.PlainHeap.{IsPlain, IsSize}
+use Rattle.tlsf_heap.specs.PlainHeap.{IsPlain}
 use Rattle.tlsf_heap.proofs.Meaning.FreedIsGood.{freed_is_good, freed_size}
 use Rattle.tlsf_heap.proofs.Meaning.FreedSlots.{after_free_slots}
 

@@ -2,12 +2,12 @@
 use Rattle.std.proofs.Common.{◌≡◌, ℕ, ◌+◌, ◌-◌, ◌%◌, ◌<◌, ◌≤◌, true, false, cond, [], ◌∷◌, map, refl, sym, ap, ◌∙◌, subst, arith, Option, Some, None, count_by}
 use Rattle.std.specs.Prelude.{◌==◌}
 use Rattle.tlsf_class.specs.Classes.{unit}
-use Rattle.tlsf_heap.specs.Content.{Block, Content, blocks_of, is_free, size_at, used_records}
+use Rattle.tlsf_heap.specs.Content.{Block, Content, blocks_of, is_free, size_at, used_records, IsSize}
 use Rattle.tlsf_heap.specs.Lists.{link, unlink, pick}
 use Rattle.tlsf_heap.specs.Malloc.{replaced_in, split, allocated}
 use Rattle.tlsf_heap.specs.Free.{free_block}
 use Rattle.tlsf_heap.specs.Pools.{end_of_places}
-use Rattle.tlsf_heap.specs.PlainHeap.{IsSize, IsPlain, gap_block, link_block, blocks_among}
+use Rattle.tlsf_heap.specs.PlainHeap.{IsPlain, gap_block, link_block, blocks_among}
 use Rattle.tlsf_heap.specs.GoodSlots.{slot_times}
 use Rattle.tlsf_heap.proofs.Good.MallocIsGood.{picked, allocated_is_good}
 use Rattle.tlsf_heap.proofs.Good.Slots.{allocated_slots}

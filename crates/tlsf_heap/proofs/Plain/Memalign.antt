@@ -5,13 +5,13 @@ use Rattle.std.specs.Int.{next_multiple_of}
 use Rattle.std.proofs.lemmas.Bool.{ltb-false}
 use Rattle.tlsf_class.specs.Classes.{unit}
 use Rattle.tlsf_heap.specs.declared.refusal.Refusal.TheVariants.{TableFull}
-use Rattle.tlsf_heap.specs.Content.{Block, Content, blocks_of, is_free, size_at, used_records}
+use Rattle.tlsf_heap.specs.Content.{Block, Content, blocks_of, is_free, size_at, used_records, IsSize}
 use Rattle.tlsf_heap.specs.Lists.{link, unlink, pick}
 use Rattle.tlsf_heap.specs.Malloc.{replaced_in}
 use Rattle.tlsf_heap.specs.Memalign.{is_alignment, size_asked, aligned, if_recorded, memalign_picked, memalign_rounded}
 use Rattle.tlsf_heap.specs.Free.{free_block}
 use Rattle.tlsf_heap.specs.Pools.{end_of_places}
-use Rattle.tlsf_heap.specs.PlainHeap.{IsSize, IsPlain, gap_block, link_block, blocks_among}
+use Rattle.tlsf_heap.specs.PlainHeap.{IsPlain, gap_block, link_block, blocks_among}
 use Rattle.tlsf_heap.specs.GoodSlots.{slot_times}
 use Rattle.tlsf_heap.proofs.Content.MemalignCases.{few_gap, used_aligned}
 use Rattle.tlsf_heap.proofs.Good.Slots.{aligned_slots}

@@ -3,13 +3,13 @@ use Rattle.std.proofs.Common.{◌≡◌, ◌≢◌, ℕ, ◌+◌, ◌-◌, ◌%�
 use Rattle.std.specs.Prelude.{◌==◌, ◌&&◌, ◌||◌, is_some, nat_lt, nat_le}
 use Rattle.std.proofs.lemmas.Bool.{cases_Bool, cases_lt, ltb-true, leb-true}
 use Rattle.tlsf_class.specs.Classes.{unit}
-use Rattle.tlsf_heap.specs.Content.{Block, Content, blocks_of, is_at, size_at, used_records}
+use Rattle.tlsf_heap.specs.Content.{Block, Content, blocks_of, is_at, size_at, used_records, IsSize}
 use Rattle.tlsf_heap.specs.Lists.{link}
 use Rattle.tlsf_heap.specs.Malloc.{replaced_in}
 use Rattle.tlsf_heap.specs.Free.{is_owned_by, is_live, free_next, size_of, free_block}
 use Rattle.tlsf_heap.specs.Realloc.{size_with_next, fits_in_place, resized}
 use Rattle.tlsf_heap.specs.Pools.{end_of_places}
-use Rattle.tlsf_heap.specs.PlainHeap.{IsSize, IsPlain, gap_block, link_block, blocks_among}
+use Rattle.tlsf_heap.specs.PlainHeap.{IsPlain, gap_block, link_block, blocks_among}
 use Rattle.tlsf_heap.specs.GoodSlots.{is_slot, slot_times}
 use Rattle.tlsf_heap.proofs.Counts.{any_counts, count_and, count_same}
 use Rattle.tlsf_heap.proofs.Meaning.ResizedIsGood.{resized_is_good, resized_slots, size_with_next_whole}

@@ -1,10 +1,10 @@
 -- What the plain heap's remove_pool leaves.
 use Rattle.std.proofs.Common.{◌≡◌, ℕ, ◌<◌, Bool, true, cond, not, refl, sym, ap, ◌∙◌, subst, arith, filter, find, Option, Some, None, option_map, Ok, Err}
 use Rattle.tlsf_heap.specs.declared.refusal.Refusal.TheVariants.{PoolInUse}
-use Rattle.tlsf_heap.specs.Content.{Pool, Content}
+use Rattle.tlsf_heap.specs.Content.{Pool, Content, IsSize}
 use Rattle.tlsf_heap.specs.Lists.{unlink}
 use Rattle.tlsf_heap.specs.Pools.{is_based, is_unused, without_pool, remove_found, remove_pool}
-use Rattle.tlsf_heap.specs.PlainHeap.{IsSize, IsPlain}
+use Rattle.tlsf_heap.specs.PlainHeap.{IsPlain}
 use Rattle.tlsf_heap.proofs.Good.RemovedPool.{removed, without_pool_is_good, without_pool_slots}
 
 abbrev Plain : Type 0

@@ -29,13 +29,13 @@ impl Content {
     ghost use Rattle.std.specs.Prelude.{◌≡◌, ◌<◌, ◌≤◌, ◌+◌, ◌^◌, ◌%◌, ◌==◌, not, length, map, filter, find, count_by, option_map, nat_le, nat_lt, position, IfOk, IfSome, OnOk};
     ghost use Rattle.std.specs.List.{list_any, list_all};
     ghost use Rattle.tlsf_class.specs.Classes.{unit};
-    ghost use Rattle.tlsf_heap.specs.Content.{blocks_of, is_free, is_at, size_at, used_records};
+    ghost use Rattle.tlsf_heap.specs.Content.{blocks_of, is_free, is_at, size_at, used_records, IsSize};
     ghost use Rattle.tlsf_heap.specs.Lists.{link, unlink, pick};
     ghost use Rattle.tlsf_heap.specs.Malloc.{replaced_in};
     ghost use Rattle.tlsf_heap.specs.Free.{is_live, free_previous, free_next, unlink_block, without_block};
     ghost use Rattle.tlsf_heap.specs.Pools.{created, with_pool, is_apart, end_of_places, is_based, is_unused};
     ghost use Rattle.tlsf_heap.specs.GoodSlots.{is_slot, slot_times};
-    ghost use Rattle.tlsf_heap.specs.PlainHeap.{IsSize, link_block, blocks_among, blocks_from, first_of};
+    ghost use Rattle.tlsf_heap.specs.PlainHeap.{link_block, blocks_among, blocks_from, first_of};
 
     /// The content of this many records, with no pool.
     pub fn create(alloc: Global, records: u16) -> Result<Self, AllocError>

@@ -55,13 +55,9 @@ impl PlainHeap {
             return Ok(None);
         }
         let asked = round(n).ok_or(Refusal::NoFit)?;
-        match resize(&self.content, ptr, asked) {
-            Ok((next, new)) => {
-                self.content = next;
-                Ok(Some(new))
-            }
-            Err(refusal) => Err(refusal),
-        }
+        let (next, new) = resize(&self.content, ptr, asked)?;
+        self.content = next;
+        Ok(Some(new))
     }
 }
 
@@ -154,10 +150,7 @@ impl Heaped for PlainHeap {
     fn realloc(&mut self, ptr: Option<Ptr>, n: u64) -> Result<Option<Ptr>, Refusal> {
         match ptr {
             Some(ptr) => self.reallocate(ptr, n),
-            None => match self.malloc(n) {
-                Ok(new) => Ok(Some(new)),
-                Err(refusal) => Err(refusal),
-            },
+            None => Ok(Some(self.malloc(n)?)),
         }
     }
 
