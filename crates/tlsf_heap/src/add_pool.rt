@@ -14,7 +14,7 @@ ghost use Rattle.tlsf_heap.specs.Inner.Answers.{AnswersOver};
 ghost use Rattle.tlsf_heap.specs.Inner.Entering.{pool_laid};
 
 use crate::Refusal;
-use crate::entries::{entries, is_apart, place_for, set_entries};
+use crate::entries::{entries, first_behind, is_apart, set_entries};
 use crate::free_lists::link;
 use arrayvec::ArrayVec;
 use tlsf_class::class_of;
@@ -70,7 +70,8 @@ fn put_pool(store: &mut Store, entries: &mut ArrayVec<Pool, MOST_POOLS>, entry: 
     ensures touches { AtMost 17 store.old.touches store.new.touches }
 {
     let Pool { base, bytes, first } = entry;
-    entries.insert(place_for(entries.as_slice(), base), entry);
+    let place = first_behind(entries.as_slice(), base).unwrap_or(entries.len());
+    entries.insert(place, entry);
     store.write(first, free_block(base, bytes));
     set_entries(store, entries.as_slice());
     link(store, class_of(bytes), first);

@@ -258,28 +258,17 @@ impl Content {
     pub fn pool_at(&self, base: u64) -> Option<(u32, bool)>
         ensures { result ≡ option_map (λ pool. (pool.bytes, is_unused pool)) (find (is_based base) self.now.pools) }
     {
-        for pool in &self.pools {
-            if pool.is_based(base) {
-                return Some((pool.bytes, pool.is_unused()));
-            }
-        }
-        None
+        let pool = self.pools.iter().find(|pool| pool.is_based(base))?;
+        Some((pool.bytes, pool.is_unused()))
     }
 
     /// The pools that begin at the place `base` are gone, and the block of `bytes` bytes there from its list.
-    pub fn remove_pool(&mut self, base: u32, bytes: u32) -> Result<(), AllocError>
+    pub fn remove_pool(&mut self, base: u32, bytes: u32)
         requires { IsSize bytes }
-        ensures { OnOk result (self.new ≡ record self.old { pools = filter (λ pool. not (is_based base pool)) self.old.pools; lists = unlink base bytes self.old.lists }) }
+        ensures { self.new ≡ record self.old { pools = filter (λ pool. not (is_based base pool)) self.old.pools; lists = unlink base bytes self.old.lists } }
     {
         self.unlink(base, bytes);
-        let mut pools = Vec::new(*self.pools.allocator());
-        for pool in &self.pools {
-            if !pool.is_based(u64::from(base)) {
-                pools.push(pool.clone()?)?;
-            }
-        }
-        self.pools = pools;
-        Ok(())
+        self.pools.retain(|pool| !pool.is_based(u64::from(base)));
     }
 
     /// The blocks of a pool from one on, which has this many in front of it, in all pools.

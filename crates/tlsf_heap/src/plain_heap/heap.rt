@@ -111,7 +111,7 @@ impl Heaped for PlainHeap {
             return Err(Refusal::PoolInUse);
         }
         let mut next = self.content.copy()?;
-        next.remove_pool(base as u32, bytes)?;
+        next.remove_pool(base as u32, bytes);
         self.content = next;
         Ok(())
     }

@@ -1,4 +1,4 @@
-use Rattle.std.proofs.Common.{rules, ◌≡◌, ℕ, ◌+◌, ◌-◌, ◌%◌, ◌<◌, ◌≤◌, refl, sym, ap, ◌∙◌, subst, arith, Some, Ok, Result, inl, inr}
+use Rattle.std.proofs.Common.{rules, ◌≡◌, ℕ, ◌+◌, ◌-◌, ◌%◌, ◌<◌, ◌≤◌, refl, sym, ap, ◌∙◌, subst, arith, Some, Result, inl, inr}
 use Rattle.std.proofs.lemmas.Bool.{cases_lt}
 use Rattle.std.specs.Int.{next_multiple_of}
 use Rattle.tlsf_store.specs.Records.{record_at, vacant_count}
@@ -11,7 +11,7 @@ use Rattle.tlsf_class.specs.Classes.{unit}
 use Rattle.tlsf_heap.specs.declared.span.Span.{Span}
 use Rattle.tlsf_heap.specs.Inner.Nodes.{InUse, Listed}
 use Rattle.tlsf_heap.specs.Inner.Spans.{span_of, span_at}
-use Rattle.tlsf_heap.specs.Inner.Following.{Stands, content_of}
+use Rattle.tlsf_heap.specs.Inner.Following.{content_of}
 use Rattle.tlsf_heap.specs.Inner.At.{StandsAt, at_taken, at_gapped, at_split_rest}
 use Rattle.tlsf_heap.proofs.Inner.Followed.{records_are}
 use Rattle.tlsf_heap.proofs.Inner.Steps.{slot_used, size_read}

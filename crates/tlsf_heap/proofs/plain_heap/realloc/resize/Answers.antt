@@ -1,4 +1,4 @@
-use Rattle.std.proofs.Common.{rules, ℕ, ◌<◌}
+use Rattle.std.proofs.Common.{rules, ◌<◌}
 use Rattle.tlsf_heap.proofs.Plain.Realloc.{live_below}
 use Rattle.tlsf_heap.proofs.plain_heap.realloc.resize.Goals as goal
 use Rattle.tlsf_heap.proofs.plain_heap.realloc.resize.Goals.{Start}
