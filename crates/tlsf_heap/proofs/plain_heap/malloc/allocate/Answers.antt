@@ -4,9 +4,8 @@ use Rattle.tlsf_heap.specs.Content.{Content}
 use Rattle.tlsf_heap.specs.Malloc.{allocated}
 use Rattle.tlsf_heap.specs.PlainHeap.{IsPlain, gap_block}
 use Rattle.tlsf_heap.proofs.Plain.Malloc.{IsSplit, is_split, rest_size, allocated_is_plain, allocated_by}
-use Rattle.tlsf_heap.proofs.plain_heap.malloc.allocate.Goals.{else-asked-size-via-then-asked-size+else-is_full, else-asked-size-via-else-asked-size}
+use Rattle.tlsf_heap.proofs.plain_heap.malloc.allocate.Goals.{else-asked-size-via-then-asked-size+else-is_full, else-asked-size-via-else-asked-size, After-size_at-size}
 use Rattle.tlsf_heap.proofs.plain_heap.malloc.allocate.Goals as goal
-use Rattle.tlsf_heap.proofs.plain_heap.malloc.allocate.Goals.{After-size_at-size}
 
 -- what is known of the block picked
 split : (c : After-size_at-size) → IsSplit c.in_ok-place.place c.args.asked c.size_at-size.result c.args.content.now
