@@ -8,7 +8,7 @@ use Rattle.tlsf_store.specs.declared.records.Record.{Record}
 use Rattle.tlsf_store.specs.Records.{blank, record_at, is_free_state}
 use Rattle.tlsf_heap.specs.Images.Rules.{is_used}
 use Rattle.tlsf_heap.specs.Images.Told.{told_in, told}
-use Rattle.tlsf_heap.specs.Inner.Represents.{pool_view, list_view, pool_views, list_views}
+use Rattle.tlsf_heap.specs.Inner.Represents.{pool_view, list_view}
 use Rattle.tlsf_heap.specs.Inner.Imaged.{AreAlike, LiveAlone}
 
 told_state : (state : State) (r : Record) → r.state ≡ state → (told_in state r).state ≡ state
