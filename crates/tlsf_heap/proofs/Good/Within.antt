@@ -221,45 +221,28 @@ module _ (blocks bytes size : ℕ) where
   does_enough : (request : Request) (old new : Content ℕ) → IsEnough old → IsWithin blocks bytes size request old → Does request old new → IsEnough new
   does_enough (AddPool base pool) old new enough within does = absurd within
   does_enough (RemovePool base) old new enough within does = absurd within
-  does_enough (Malloc n) old new enough within does = absurd does
-  does_enough (Memalign align n) old new enough within does = absurd does
   does_enough (Free pointer) old new enough within does =
       let gave = free_gave (λ slot. slot == pointer.slot) pointer.place old new does in
       subst IsEnough gave.1 (still_enough old (after_free pointer.place old) enough (freed_is_good (λ slot. slot == pointer.slot) pointer.place old enough.good gave.0) (freed_keeps pointer.place old))
-  does_enough (Realloc pointer n) old new enough within does = absurd does
-  does_enough (BlockSize pointer) old new enough within does = absurd does
+  does_enough _ old new enough within does = absurd does
 
   gives_enough : (request : Request) (pointer : Pointer) (old new : Content ℕ) → IsEnough old → Gives request pointer old new → IsEnough new
-  gives_enough (AddPool base pool) pointer old new enough gives = absurd gives
-  gives_enough (RemovePool base) pointer old new enough gives = absurd gives
   gives_enough (Malloc n) pointer old new enough gives =
       still_enough old new enough (malloc_is_good pointer.slot n old (pointer.place, new) enough.good gives.ok) (malloc_keeps pointer.slot n old (pointer.place, new) gives.ok)
   gives_enough (Memalign align n) pointer old new enough gives =
       still_enough old new enough (memalign_is_good pointer.slot align n old (pointer.place, new) enough.good gives.ok) (memalign_keeps pointer.slot align n old (pointer.place, new) gives.ok)
-  gives_enough (Free freed) pointer old new enough gives = absurd gives
-  gives_enough (Realloc of n) pointer old new enough gives = absurd gives
-  gives_enough (BlockSize of) pointer old new enough gives = absurd gives
+  gives_enough _ pointer old new enough gives = absurd gives
 
   moves_enough : (request : Request) (given : Option Pointer) (old new : Content ℕ) → IsEnough old → Moves request given old new → IsEnough new
-  moves_enough (AddPool base pool) given old new enough moves = absurd moves
-  moves_enough (RemovePool base) given old new enough moves = absurd moves
-  moves_enough (Malloc n) given old new enough moves = absurd moves
-  moves_enough (Memalign align n) given old new enough moves = absurd moves
-  moves_enough (Free pointer) given old new enough moves = absurd moves
   moves_enough (Realloc pointer n) given old new enough moves =
       still_enough old new enough
       (realloc_is_good (λ a b. a == b) (slot_of given) (place_and_slot pointer) n old (place_and_slot given, new) enough.good moves.ok)
       (realloc_keeps (λ a b. a == b) (slot_of given) (place_and_slot pointer) n old (place_and_slot given, new) moves.ok)
-  moves_enough (BlockSize pointer) given old new enough moves = absurd moves
+  moves_enough _ given old new enough moves = absurd moves
 
   tells_enough : (request : Request) (told : ℕ) (old new : Content ℕ) → IsEnough old → Tells request told old new → IsEnough new
-  tells_enough (AddPool base pool) told old new enough tells = absurd tells
-  tells_enough (RemovePool base) told old new enough tells = absurd tells
-  tells_enough (Malloc n) told old new enough tells = absurd tells
-  tells_enough (Memalign align n) told old new enough tells = absurd tells
-  tells_enough (Free pointer) told old new enough tells = absurd tells
-  tells_enough (Realloc pointer n) told old new enough tells = absurd tells
   tells_enough (BlockSize pointer) told old new enough tells = subst IsEnough (sym tells.1) enough
+  tells_enough _ told old new enough tells = absurd tells
 
   step_enough : (lacks : Type 0) (request : Request) (answer : Answer) (old new : Content ℕ) → IsEnough old → IsWithin blocks bytes size request old → Step lacks request answer old new → IsEnough new
   step_enough lacks request Done old new enough within step = does_enough request old new enough within step
