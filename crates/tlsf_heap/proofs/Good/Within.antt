@@ -33,16 +33,19 @@ use Rattle.tlsf_heap.proofs.Good.MallocIsGood.{malloc_is_good, add_pool_is_good,
 use Rattle.tlsf_heap.proofs.Good.Realloc.{realloc_is_good}
 use Rattle.tlsf_heap.proofs.Meaning.AlignedIsGood.{memalign_is_good}
 use Rattle.tlsf_heap.proofs.Meaning.FreedIsGood.{freed_is_good}
-use Rattle.tlsf_heap.proofs.Good.Room.{room_fits, room_records, aligned_room_fits, aligned_room_records}
+use Rattle.tlsf_heap.proofs.Good.Room.{room_serves, aligned_room_serves}
 use Rattle.tlsf_heap.proofs.Content.PoolCases.{pool_added}
 
 -- a refusal for want of a block, or of a record
 abbrev IsWant : Refusal → Type 0
 IsWant why = (why ≡ NoFit) ⊎ (why ≡ TableFull)
 
-not_bad : (why : Refusal) → IsWant why → why ≡ BadPointer → ⊥
-not_bad why (inl is) bad = cc
-not_bad why (inr is) bad = cc
+not_other : (why other : Refusal) → (NoFit ≢ other) → (TableFull ≢ other) → IsWant why → why ≢ other
+not_other why other fit full (inl is) e = fit (sym is ∙ e)
+not_other why other fit full (inr is) e = full (sym is ∙ e)
+
+not_bad : (why : Refusal) → IsWant why → why ≢ BadPointer
+not_bad why = not_other why BadPointer (λ e. cc) (λ e. cc)
 
 -- what every request but those of pools leaves as it was
 record Keeps {A : Type 0} (old new : Content A) : Type 0 where
@@ -175,22 +178,15 @@ module _ (blocks bytes size : ℕ) where
   AllWithin asked n content = n ≢ 0 → TakesWithin blocks bytes size asked n content
 
   malloc_served : (why : Refusal) → IsWant why → (owner n : ℕ) (content : Content ℕ) → IsEnough content → AllWithin (λ m. m) n content → malloc owner n content ≡ Err why → ⊥
-  malloc_served why (inl is) owner n content enough within refused =
-      let fit = refused ∙ ap Err is in
-      room_fits owner n content enough.good (room_within blocks bytes size (λ m. m) 1 n content (omega arith) enough.large (within (some_bytes owner n content NoFit (λ e. cc) fit))) fit
-  malloc_served why (inr is) owner n content enough within refused =
-      let full = refused ∙ ap Err is in
-      room_records owner n content enough.good (room_within blocks bytes size (λ m. m) 1 n content (omega arith) enough.large (within (some_bytes owner n content TableFull (λ e. cc) full))) full
+  malloc_served why want owner n content enough within refused =
+      let some = some_bytes owner n content why (not_other why ZeroSize (λ e. cc) (λ e. cc) want) refused in
+      room_serves owner n content why enough.good (room_within blocks bytes size (λ m. m) 1 n content (omega arith) enough.large (within some)) refused
 
   memalign_served : (why : Refusal) → IsWant why → (owner align n : ℕ) (content : Content ℕ) → IsEnough content → AllWithin (size_asked align) n content → memalign owner align n content ≡ Err why → ⊥
-  memalign_served why (inl is) owner align n content enough within refused =
-      let fit = refused ∙ ap Err is in
-      let some = some_aligned_bytes owner align n content NoFit (λ e. cc) (λ e. cc) fit in
-      aligned_room_fits owner align n content enough.good (room_within blocks bytes size (size_asked align) 2 n content (omega arith) enough.large (within some)) fit
-  memalign_served why (inr is) owner align n content enough within refused =
-      let full = refused ∙ ap Err is in
-      let some = some_aligned_bytes owner align n content TableFull (λ e. cc) (λ e. cc) full in
-      aligned_room_records owner align n content enough.good (room_within blocks bytes size (size_asked align) 2 n content (omega arith) enough.large (within some)) full
+  memalign_served why want owner align n content enough within refused =
+      let aligned = not_other why BadAlign (λ e. cc) (λ e. cc) want in
+      let some = some_aligned_bytes owner align n content why aligned (not_other why ZeroSize (λ e. cc) (λ e. cc) want) refused in
+      aligned (aligned_room_serves owner align n content why enough.good (room_within blocks bytes size (size_asked align) 2 n content (omega arith) enough.large (within some)) refused)
 
   -- a realloc asks for a block, or names no live block
   realloc_served : (why : Refusal) → IsWant why → (owner : ℕ) (pointer : Option (ℕ × ℕ)) (n : ℕ) (content : Content ℕ) → IsEnough content → AllWithin (λ m. m) n content → realloc (λ a b. a == b) owner pointer n content ≡ Err why → ⊥
