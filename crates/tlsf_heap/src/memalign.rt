@@ -11,7 +11,7 @@ ghost use Rattle.tlsf_heap.specs.Served.{IsServed};
 ghost use Rattle.tlsf_heap.specs.Inner.Following.{Stands};
 ghost use Rattle.tlsf_heap.specs.Inner.Nodes.{InUse};
 ghost use Rattle.tlsf_heap.specs.Inner.At.{At, StandsAt, at_gapped};
-ghost use Rattle.tlsf_heap.specs.Inner.Spans.{IsRead};
+ghost use Rattle.tlsf_heap.specs.Inner.Spans.{IsRead, IsLeft};
 ghost use Rattle.tlsf_heap.specs.Inner.Answers.{AnswersOver, IsPick};
 
 use crate::chains::split;
@@ -142,9 +142,7 @@ fn leave_gap(store: &mut Store, block: &Span, bytes: u32) -> Slot
     requires whole { bytes % unit ≡ 0 }
     requires room { 0 < bytes → 0 < vacant_count store.old.cells.records }
     ensures leads { (at : At) → StandsAt block.now.slot InUse store.old.cells at → StandsAt result InUse store.new.cells (at_gapped result bytes at) }
-    ensures same { bytes ≡ 0 → result ≡ block.now.slot }
-    ensures vacant { 0 < bytes → record_at store.old.cells.records result ≡ blank }
-    ensures below { result < length store.old.cells.records }
+    ensures slot { IsLeft bytes block.now.slot result store.old.cells.records }
     ensures touches { AtMost 13 store.old.touches store.new.touches }
 {
     if bytes == 0 {

@@ -159,11 +159,11 @@ returns c =
       stands = left.0;
       ok = record {
         ok = rw (c.new.ensures, c.live.view_is, c.start_of-start.ensures ∙ ap (λ p. next_multiple_of p c.args.align) k.place_is) (picked c.leave_gap-live.result c.args.align c.args.asked from (content_of c.args.store.now.cells) c.requires.picked.found _ left.1);
-        slot_below = rw (c.new.ensures, c.live.view_is) (omega (arith, c.leave_gap-live.ensures.below, after.stands.0.count, k.by.stands.0.count, records_are c.args.store.now.cells));
+        slot_below = rw (c.new.ensures, c.live.view_is) (omega (arith, c.leave_gap-live.ensures.slot.below, after.stands.0.count, k.by.stands.0.count, records_are c.args.store.now.cells));
         slot_new = rw (c.new.ensures, c.live.view_is) (elim (cases_lt 0 (c.start_of-start.result - c.read_used-block.result.place)) [
-          | inl some ↦ vacant_new c.args.store.now.cells c.requires.stands from c.args.slot c.args.align c.args.asked k.by c.requires.is c.requires.size.positive c.requires.size.in_units c.requires.picked.found c.take_whole.new.store.cells after.stands c.leave_gap-live.result (c.leave_gap-live.ensures.vacant some)
+          | inl some ↦ vacant_new c.args.store.now.cells c.requires.stands from c.args.slot c.args.align c.args.asked k.by c.requires.is c.requires.size.positive c.requires.size.in_units c.requires.picked.found c.take_whole.new.store.cells after.stands c.leave_gap-live.result (c.leave_gap-live.ensures.slot.vacant some)
           | inr none ↦
-              let own : c.leave_gap-live.result ≡ c.args.slot = c.leave_gap-live.ensures.same (omega (arith, none)) ∙ ap (λ (s : Span). s.slot) c.of-whole.ensures in
+              let own : c.leave_gap-live.result ≡ c.args.slot = c.leave_gap-live.ensures.slot.same (omega (arith, none)) ∙ ap (λ (s : Span). s.slot) c.of-whole.ensures in
               rw own (slot_new c.args.store.now.cells c.requires.stands from c.args.slot k.by)
         ]);
       };
