@@ -1,6 +1,6 @@
 //! malloc: the block picked is taken, whole or in part.
 
-ghost use Rattle.std.specs.Prelude.{◌≡◌, ℕ, false, ◌%◌, ◌<◌, ◌≤◌, Some, None, Err, IfSome, IfNone};
+ghost use Rattle.std.specs.Prelude.{◌≡◌, ℕ, false, ◌%◌, ◌<◌, ◌≤◌, Some, None, Err, MatchOption};
 ghost use Rattle.tlsf_class.specs.Classes.{unit};
 ghost use Rattle.tlsf_store.specs.Records.{record_at, vacant_count};
 ghost use Rattle.tlsf_heap.specs.Touches.{AtMost, malloc_touches};
@@ -62,8 +62,7 @@ pub(crate) fn pick(store: &mut Store, asked: u32) -> Option<(Class, Slot)>
     requires stands { Stands store.old.cells }
     requires whole { asked % unit ≡ 0 }
     requires some { 0 < asked }
-    ensures picked { IfSome result (λ first. IsPick asked first.0 first.1 store.old.cells) }
-    ensures none { IfNone result (pick asked (content_of store.old.cells).lists ≡ None) }
+    ensures found { MatchOption result (pick asked (content_of store.old.cells).lists ≡ None) (λ first. IsPick asked first.0 first.1 store.old.cells) }
     ensures left { Leaves store.old.cells 4 store.old store.new }
 {
     let Some(class) = class_for(asked) else {

@@ -1,6 +1,6 @@
 -- The first block of the lists is the one that is picked: its node, its record and its place.
 use Rattle.std.proofs.Common.{◌≡◌, ℕ, zero, suc, ◌+◌, ◌≤◌, not, eqb, List, [], ◌∷◌, map, drop, refl, sym, ap, ◌∙◌, subst, arith, count_by, Option, Some, None, option_map, inl, inr}
-use Rattle.std.specs.Prelude.{IfSome, IfNone, option_and_then}
+use Rattle.std.specs.Prelude.{IfSome, IfNone, MatchOption, option_and_then}
 use Rattle.std.proofs.lemmas.Bool.{cases_Bool, eqb-true}
 use Rattle.std.proofs.lemmas.List.{drop-map, get_or-drop}
 use Rattle.tlsf_class.specs.Classes.{need}
@@ -90,9 +90,9 @@ module _ (cells : Cells) (stands : Stands cells) where
 
   -- the same, where search answers the class, too
   pub search_finds : (asked number : ℕ) → need asked ≡ Some number → (first : Option (ℕ × ℕ)) → option_map (λ f. f.1) first ≡ first_head (drop number cells.heads) → IfSome first (λ f. head_at cells.heads f.0 ≡ Some f.1)
-      → IfSome first (λ f. IsPick asked f.0 f.1 cells) × IfNone first (pick asked (content_of cells).lists ≡ None)
-  search_finds asked number need_is None is head = (tt, (search_tells asked number need_is None is).none)
+      → MatchOption first (pick asked (content_of cells).lists ≡ None) (λ f. IsPick asked f.0 f.1 cells)
+  search_finds asked number need_is None is head = (search_tells asked number need_is None is).none
   search_finds asked number need_is (Some f) is head =
       let tells = search_tells asked number need_is (Some f.1) is in
       let listed = listed_at cells stands f.0 f.1 (head_listed stands.layout.lists f.0 f.1 (ap (λ heads. head_at heads f.0) (sym stands.represented.index.heads_are) ∙ head)) in
-      (record { of_class = sym listed.of_class; free = tells.free; found = tells.found }, tt)
+      record { of_class = sym listed.of_class; free = tells.free; found = tells.found }
