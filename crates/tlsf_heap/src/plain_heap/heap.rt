@@ -33,9 +33,9 @@ impl Model for PlainHeap {
 }
 
 impl PlainHeap {
-    ghost use Rattle.std.specs.Prelude.{◌≡◌, ◌≢◌, ℕ, Some, Err, IfOk, IfErr, OnErr};
+    ghost use Rattle.std.specs.Prelude.{◌≡◌, ℕ, ⊤, Some, Err, IfOk};
     ghost use Rattle.tlsf_heap.specs.Pointer.{realloc_ptr};
-    ghost use Rattle.tlsf_heap.specs.Served.{IsMoved};
+    ghost use Rattle.tlsf_heap.specs.Served.{IsMoved, RefusesOrLacks};
 
     /// The block with another size; none where no byte is asked for, for then it is freed.
     ///
@@ -44,8 +44,7 @@ impl PlainHeap {
     /// As `Heaped::realloc`.
     fn reallocate(&mut self, ptr: Ptr, n: u64) -> Result<Option<Ptr>, Refusal>
         ensures ok { IfOk result (λ given. IsMoved (realloc_ptr (Some ptr) n) (Some ptr) given self.old self.new) }
-        ensures refused { IfErr result (λ refusal. refusal ≢ Refusal.OutOfMemory → (slot : ℕ) → realloc_ptr (Some ptr) n slot self.old ≡ Err refusal) }
-        ensures unchanged { OnErr result (self.new ≡ self.old) }
+        ensures refused { RefusesOrLacks result (λ refusal. (slot : ℕ) → realloc_ptr (Some ptr) n slot self.old ≡ Err refusal) ⊤ (self.new ≡ self.old) }
     {
         if !self.content.is_live(ptr.place(), ptr.slot()) {
             return Err(Refusal::BadPointer);

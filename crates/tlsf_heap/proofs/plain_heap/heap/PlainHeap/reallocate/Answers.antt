@@ -1,4 +1,4 @@
-use Rattle.std.proofs.Common.{◌≡◌, ℕ, true, sym, ap, ◌∙◌, Some}
+use Rattle.std.proofs.Common.{◌≡◌, ℕ, true, refl, sym, ap, ◌∙◌, Some}
 use Rattle.std.specs.Prelude.{◌==◌}
 use Rattle.std.proofs.lemmas.Result.{err_from_is_err_and}
 use Rattle.tlsf_heap.specs.Content.{Content, blocks_of}
@@ -35,4 +35,8 @@ returns-clause-ok c =
 pub returns-in_err-next-clause-refused : goal.returns-in_err-next-clause-refused
 returns-in_err-next-clause-refused c =
     let p = err_from_is_err_and c.from_residual-in_err-next.result c.from_residual-in_err-next.ensures.1 in
-    rw (p.1, p.2, ← c.self.view_is) (λ named slot. same (goal.at.returns-in_err-next-clause-refused c).After-resize slot ∙ c.in_err-next.ensures.refused named slot)
+    rw (p.1, p.2, ← c.self.view_is) (record {
+      refused = λ named slot. same (goal.at.returns-in_err-next-clause-refused c).After-resize slot ∙ c.in_err-next.ensures.refused named slot;
+      memory = λ lacking. tt;
+      unchanged = refl;
+    })
