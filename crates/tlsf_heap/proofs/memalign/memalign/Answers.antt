@@ -1,11 +1,11 @@
 use Rattle.std.proofs.Common.{rules, ◌≡◌, ℕ, sym, ap, ◌∙◌, Some, Err}
+use Rattle.std.proofs.lemmas.Result.{IfErr-weaker}
 use Rattle.tlsf_store.specs.Cells.{Cells}
 use Rattle.tlsf_heap.specs.declared.refusal.Refusal.{Refusal}
 use Rattle.tlsf_heap.specs.Memalign.{memalign, memalign_rounded}
 use Rattle.tlsf_heap.specs.Inner.Following.{content_of}
 use Rattle.tlsf_heap.proofs.Content.Alignments.{asked_whole, round_size}
 use Rattle.tlsf_heap.proofs.Content.MemalignCases.{aligned_rounded}
-use Rattle.tlsf_heap.proofs.Content.Results.{if_err}
 use Rattle.tlsf_heap.proofs.Content.ServedCalls.{if_served_as}
 use Rattle.tlsf_heap.proofs.memalign.memalign.Goals as goal
 
@@ -30,7 +30,7 @@ returns c =
     record {
       stands = search rules;
       ok = if_served_as c.split_aligned.result (λ slot. memalign slot c.args.align c.args.n) (λ slot. memalign_rounded slot c.args.align (Some c.in-Some.asked)) (content_of old) (content_of c.split_aligned.new.store.cells) same (rw c.pick.ensures.left.cells at c.split_aligned.ensures.ok);
-      refused = if_err c.split_aligned.result
+      refused = IfErr-weaker c.split_aligned.result
           (λ (refusal : Refusal). (owner : ℕ) → memalign_rounded owner c.args.align (Some c.in-Some.asked) (content_of old) ≡ Err refusal)
           (λ refusal. (slot : ℕ) → memalign slot c.args.align c.args.n (content_of old) ≡ Err refusal)
           (λ refusal e slot. same slot ∙ e slot)

@@ -1,6 +1,7 @@
 use Rattle.std.specs.Prelude.{◌==◌}
 use Rattle.std.proofs.Common.{rules, ◌≡◌, ◌≢◌, ℕ, ◌<◌, true, false, refl, sym, ap, ◌∙◌, arith, Option, Some, Ok, Err, ◌≤◌, inl, inr}
 use Rattle.std.proofs.lemmas.Bool.{cases_lt}
+use Rattle.std.proofs.lemmas.Result.{IfErr-weaker}
 use Rattle.tlsf_store.specs.Records.{record_at}
 use Rattle.tlsf_store.specs.Cells.{Cells}
 use Rattle.tlsf_heap.specs.declared.refusal.Refusal.{Refusal}
@@ -13,7 +14,6 @@ use Rattle.tlsf_heap.specs.declared.span.Span.{Span}
 use Rattle.tlsf_heap.specs.Free.{is_live}
 use Rattle.tlsf_heap.specs.Inner.Spans.{IsRead}
 use Rattle.tlsf_heap.specs.Inner.Following.{Stands, content_of}
-use Rattle.tlsf_heap.proofs.Content.Results.{if_err}
 use Rattle.tlsf_heap.proofs.Content.ServedCalls.{if_moved_as}
 use Rattle.tlsf_heap.proofs.Content.ReallocCases.{sized_same, sized_in_place, sized_kept, sized_moved}
 use Rattle.tlsf_heap.proofs.Inner.Resizing.{size_known, live_below}
@@ -95,7 +95,7 @@ returns c =
     record {
       stands = search rules;
       ok = if_moved_as c.relocate.result (λ slot. realloc_sized slot c.args.ptr.place c.args.ptr.slot c.args.asked) (λ slot content. moved slot c.args.ptr.place (malloc_rounded slot (Some c.args.asked) content)) (content_of old) (content_of c.relocate.new.store.cells) same (Some c.args.ptr) (rw c.fits_in_place.ensures.left.cells at c.relocate.ensures.ok);
-      refused = if_err c.relocate.result
+      refused = IfErr-weaker c.relocate.result
           (λ (refusal : Refusal). (owner : ℕ) → moved owner c.args.ptr.place (malloc_rounded owner (Some c.args.asked) (content_of old)) ≡ Err refusal)
           (λ refusal. (owner : ℕ) → realloc_sized owner c.args.ptr.place c.args.ptr.slot c.args.asked (content_of old) ≡ Err refusal)
           (λ refusal e owner. same owner ∙ e owner)
