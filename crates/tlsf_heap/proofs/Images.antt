@@ -24,7 +24,6 @@ pub mod ListLemmas
 pub mod Once
 pub mod PackedPools
 pub mod PoolLemmas
-pub mod RangeLemmas
 pub mod ReadBack
 pub mod RuleLemmas
 pub mod RulesBack

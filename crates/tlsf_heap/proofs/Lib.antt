@@ -1,5 +1,6 @@
 -- Lemmas that several proofs share.
 pub mod Counts
+pub mod Inserted
 pub mod Content
 pub mod Good
 pub mod Bits

@@ -1,5 +1,12 @@
 -- What a heap holds: its pools with their blocks, and the free list of each class.
-use Rattle.std.specs.Prelude.{ℕ, Bool, List, length, Option, is_none, flat_map, find, option_map, unwrap_or, ◌==◌}
+use Rattle.std.specs.Prelude.{◌≡◌, ◌<◌, ◌≤◌, ◌%◌, ℕ, Bool, List, length, Option, is_none, flat_map, find, option_map, unwrap_or, ◌==◌}
+use Rattle.tlsf_class.specs.Classes.{unit, greatest_size}
+
+-- what a block can have of bytes
+pub record IsSize (size : ℕ) : Type 0 where
+  pub positive : 0 < size
+  pub in_units : size % unit ≡ 0
+  pub at_most : size ≤ greatest_size
 
 -- a block: where it begins, its size in bytes, and what its owner knows it by; a free block has none
 pub record Block (A : Type 0) : Type 0 where

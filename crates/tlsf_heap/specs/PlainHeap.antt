@@ -1,10 +1,12 @@
 -- What the fields of the plain heap stand for, and what it keeps.
-use Rattle.std.specs.Prelude.{◌≡◌, ◌<◌, ◌≤◌, ◌%◌, ◌+◌, ◌-◌, ℕ, Option, None, Some, List, [], ◌∷◌, map, drop, length, option_map, Vec, if◌then◌else◌, ◌==◌, nat_lt}
+use Rattle.std.specs.Prelude.{◌≡◌, ◌≢◌, ◌≤◌, ◌+◌, ◌-◌, ℕ, Result, Err, IfOk, IfErr, Option, None, Some, List, [], ◌∷◌, map, drop, length, option_map, Vec, if◌then◌else◌, ◌==◌, nat_lt}
 use Rattle.std.specs.List.{filter_map}
 use Rattle.std.specs.declared.alloc.Global.{Global}
-use Rattle.tlsf_class.specs.Classes.{unit, greatest_size}
 use Rattle.tlsf_heap.specs.declared.cursor.Cursor.{Cursor}
 use Rattle.tlsf_heap.specs.declared.row.Row.{Row}
+use Rattle.tlsf_heap.specs.declared.refusal.Refusal.{Refusal}
+use Rattle.tlsf_heap.specs.declared.refusal.Refusal.TheVariants.{OutOfMemory}
+use Rattle.tlsf_heap.specs.Pointer.{Pointer}
 use Rattle.tlsf_heap.specs.Content.{Block, Pool, Content}
 use Rattle.tlsf_heap.specs.Lists.{link}
 use Rattle.tlsf_heap.specs.Free.{free_block}
@@ -16,12 +18,6 @@ use Rattle.tlsf_heap.specs.Rows.{row_of}
 -- the lists of places
 abbrev pub lists_of : List (Vec ℕ Global) → List (List ℕ)
 lists_of lists = map (λ places. places.items) lists
-
--- what a block can have of bytes
-pub record IsSize (size : ℕ) : Type 0 where
-  pub positive : 0 < size
-  pub in_units : size % unit ≡ 0
-  pub at_most : size ≤ greatest_size
 
 -- a free block of this size at the place, or none where the size is 0
 abbrev pub gap_block : ℕ → ℕ → Option (Block ℕ)
@@ -41,6 +37,12 @@ pub record IsPlain (content : Content ℕ) : Type 0 where
   pub good : IsGood content
   pub slots : HasGoodSlots content
   pub records_few : content.records ≤ most_records
+
+-- what a call over a plain content promises: another plain one with what is given, or the reason of the call where memory isn't lacking
+pub record AnswersPlain {A : Type 0} (result : Result (Content ℕ × Pointer) Refusal) (gives : Pointer → Content ℕ → Content ℕ → Type 0) (call : ℕ → Content ℕ → Result A Refusal) (old : Content ℕ) : Type 0 where
+  pub plain : IfOk result (λ given. IsPlain given.0)
+  pub ok : IfOk result (λ given. gives given.1 old given.0)
+  pub refused : IfErr result (λ refusal. refusal ≢ OutOfMemory → (slot : ℕ) → call slot old ≡ Err refusal)
 
 -- the blocks of a pool from one on, which has this many blocks in front of it, in all pools
 abbrev pub blocks_from : ℕ → List (Pool ℕ) → List (Block ℕ)

@@ -19,10 +19,14 @@ created records = record { records = records; pools = []; lists = replicate clas
 abbrev pub is_apart : {A : Type 0} → ℕ → ℕ → Pool A → Bool
 is_apart base bytes pool = nat_le (base + bytes) pool.base || nat_le (pool.base + pool.bytes) base
 
+-- the item stands in front of the first one whose key is greater
+abbrev pub inserted : {A : Type 0} → (A → ℕ) → A → List A → List A
+inserted key item [] = item ∷ []
+inserted key item (other ∷ items) = if nat_lt (key item) (key other) then item ∷ other ∷ items else other ∷ inserted key item items
+
 -- the pool stands before the first one that begins behind it
 abbrev pub in_order_of_base : {A : Type 0} → Pool A → List (Pool A) → List (Pool A)
-in_order_of_base pool [] = pool ∷ []
-in_order_of_base pool (other ∷ pools) = if nat_lt pool.base other.base then pool ∷ other ∷ pools else other ∷ in_order_of_base pool pools
+in_order_of_base pool pools = inserted (λ other. other.base) pool pools
 
 -- the pool is one free block, in front of its class's list
 abbrev pub with_pool : {A : Type 0} → ℕ → ℕ → Content A → Content A

@@ -1,12 +1,11 @@
 //! The pool entries of a store, in order of base.
 
-ghost use Rattle.std.specs.Prelude.{◌≡◌, ◌≢◌, ◌+◌, ◌<◌, ◌≤◌, ◌++◌, [], length, map, insert, remove, All, ◌∷◌, IfSome, IfNone, slice_index_or};
+ghost use Rattle.std.specs.Prelude.{◌≡◌, ◌≢◌, ◌+◌, ◌<◌, ◌≤◌, ◌++◌, [], length, map, All, ◌∷◌, IfSome, IfNone, nat_lt, position, slice_index_or};
 ghost use Rattle.std.specs.List.{list_all};
 ghost use Rattle.arrayvec.specs.ArrayVec.{array_vec_len};
 ghost use Rattle.tlsf_store.specs.Cells.{most_pools};
-ghost use Rattle.tlsf_heap.specs.Inner.Entries.{entries_of, padded_at};
 ghost use Rattle.tlsf_heap.specs.Pools.{end_of_places};
-ghost use Rattle.tlsf_heap.specs.Inner.Entries.{entry_place, with_entries, is_entry_apart, entry_range};
+ghost use Rattle.tlsf_heap.specs.Inner.Entries.{entries_of, padded_at, with_entries, is_entry_apart, entry_range};
 ghost use Rattle.tlsf_store.specs.CountedCells.{LeavesAfter};
 
 use arrayvec::ArrayVec;
@@ -67,56 +66,12 @@ pub(crate) fn is_apart(entries: &[Pool], base: u64, bytes: u64) -> bool
     })
 }
 
-/// How many pools begin at or below `base`, in front of the first that begins behind it.
-pub(crate) fn place_for(entries: &[Pool], base: u32) -> usize
-    ensures within { result ≤ length entries.now }
-    ensures place { result ≡ entry_place base entries.now }
+/// The number of the first pool that begins behind `base`.
+pub(crate) fn first_behind(entries: &[Pool], base: u32) -> Option<usize>
+    ensures within { IfSome result (λ number. number ≤ length entries.now) }
+    ensures number { result ≡ position (λ entry. nat_lt base entry.base) entries.now }
 {
-    for (number, entry) in entries.iter().enumerate() {
-        if base < entry.base {
-            return number;
-        }
-    }
-    entries.len()
-}
-
-/// Appends these entries.
-fn push_all(entries: &mut ArrayVec<Pool, MOST_POOLS>, more: &[Pool])
-    requires { array_vec_len entries.old + length more.now ≤ most_pools }
-    ensures items { entries.new.items ≡ entries.old.items ++ more.now }
-{
-    for entry in more {
-        entries.push(*entry);
-    }
-}
-
-/// The entries with one more, in front of the one of this number.
-pub(crate) fn entries_with(
-    entries: &[Pool],
-    number: usize,
-    entry: Pool,
-) -> ArrayVec<Pool, MOST_POOLS>
-    requires within { number ≤ length entries.now }
-    requires room { length entries.now < most_pools }
-    ensures { result.items ≡ insert entries.now number entry }
-{
-    let mut all = ArrayVec::new();
-    push_all(&mut all, &entries[..number]);
-    all.push(entry);
-    push_all(&mut all, &entries[number..]);
-    all
-}
-
-/// The entries without the one of this number.
-pub(crate) fn entries_without(entries: &[Pool], number: usize) -> ArrayVec<Pool, MOST_POOLS>
-    requires within { number < length entries.now }
-    requires few { length entries.now ≤ most_pools }
-    ensures { result.items ≡ remove entries.now number }
-{
-    let mut rest = ArrayVec::new();
-    push_all(&mut rest, &entries[..number]);
-    push_all(&mut rest, &entries[number + 1..]);
-    rest
+    entries.iter().position(|entry| base < entry.base)
 }
 
 /// The number of the pool that begins at `base`, if there is one.
@@ -124,12 +79,9 @@ pub(crate) fn pool_number(entries: &[Pool], base: u64) -> Option<usize>
     ensures found { IfSome result (λ number. (number < length entries.now) × ((d : _) → (slice_index_or entries.now number d).base ≡ base)) }
     ensures none { IfNone result (All (λ entry. entry.base ≢ base) entries.now) }
 {
-    for (number, entry) in entries.iter().enumerate() {
-        if u64::from(entry.base) == base {
-            return Some(number);
-        }
-    }
-    None
+    entries
+        .iter()
+        .position(|entry| u64::from(entry.base) == base)
 }
 
 /// Where the pools of the entries begin and how many bytes they have.

@@ -78,10 +78,8 @@ impl Heap {
         ensures untouched { IfOk result (λ heap. heap.touches ≡ 0) }
         ensures bad_count { (result ≡ Err BadCount) ↔ ((records ≡ 0) ⊎ (most_records < records)) }
     {
-        match Store::create(alloc, records) {
-            Ok(store) => Ok(Heap { store }),
-            Err(error) => Err(error),
-        }
+        let store = Store::create(alloc, records)?;
+        Ok(Heap { store })
     }
 
     /// The heap is one of this many records, from 1 to as many as there are, with no pool. It takes no memory, and needs as

@@ -1,13 +1,11 @@
 //! A store that holds what an image describes.
 
 ghost use Rattle.std.specs.Prelude.{◌≡◌, ◌+◌, ◌*◌, ◌≤◌, length, IfOk, IfErr};
-ghost use Rattle.tlsf_class.specs.Classes.{classes, levels};
+ghost use Rattle.tlsf_class.specs.Classes.{classes};
 ghost use Rattle.tlsf_store.specs.declared.errors.StoreError.TheVariants.{OutOfMemory};
 ghost use Rattle.tlsf_store.specs.Records.{vacant_count};
 ghost use Rattle.tlsf_store.specs.Cells.{most_pools};
-ghost use Rattle.tlsf_heap.specs.Images.Described.{parts_of};
-ghost use Rattle.tlsf_heap.specs.Images.Bitmaps.{AreBitmapsOf};
-ghost use Rattle.tlsf_heap.specs.Inner.Loading.{CanBeStored, with_records, with_pools, HasNoHeads};
+ghost use Rattle.tlsf_heap.specs.Inner.Loading.{CanBeStored, with_records, with_pools, HasHeadsBelow, HoldsParts};
 
 use crate::bitmaps::set_class_bit;
 use crate::image::HasParts;
@@ -46,14 +44,11 @@ fn fill_records<T: HasParts>(store: &mut Store, table: &mut T)
 
 /// Makes the heads of a table those of a store without heads, and sets their bits. At most five touches a class.
 fn fill_heads<T: HasParts>(store: &mut Store, table: &mut T)
-    requires empty { HasNoHeads store.old.cells }
+    requires empty { HasHeadsBelow (T.parts table.old).heads store.old.cells 0 store.old.cells }
     requires count { length store.old.cells.records ≡ length (T.parts table.old).records }
     requires stored { CanBeStored (T.parts table.old) }
     ensures heads { store.new.cells.heads ≡ (T.parts table.old).heads }
-    ensures words { length store.new.cells.step_words ≡ levels }
-    ensures bitmaps { AreBitmapsOf store.new.cells.heads store.new.cells.step_words store.new.cells.level_word }
-    ensures records { store.new.cells.records ≡ store.old.cells.records }
-    ensures pools { store.new.cells.pools ≡ store.old.cells.pools }
+    ensures filled { HasHeadsBelow (T.parts table.old).heads store.old.cells classes store.new.cells }
     ensures same { T.parts table.new ≡ T.parts table.old }
     ensures touches { store.new.touches ≤ store.old.touches + 5 * classes }
 {
@@ -83,9 +78,7 @@ fn fill_pools<T: HasParts>(store: &mut Store, table: &mut T)
 /// ten more.
 pub(crate) fn stored<T: HasParts>(alloc: Global, table: &mut T) -> Result<Store, StoreError>
     requires stored { CanBeStored (T.parts table.old) }
-    ensures parts { IfOk result (λ store. parts_of store.cells ≡ T.parts table.old) }
-    ensures words { IfOk result (λ store. length store.cells.step_words ≡ levels) }
-    ensures bitmaps { IfOk result (λ store. AreBitmapsOf store.cells.heads store.cells.step_words store.cells.level_word) }
+    ensures held { IfOk result (λ store. HoldsParts (T.parts table.old) store.cells) }
     ensures bound { IfOk result (λ store. store.touches ≤ 5 * length (T.parts table.old).records + 5 * classes + 10) }
     ensures same { T.parts table.new ≡ T.parts table.old }
     ensures memory { IfErr result (λ error. error ≡ OutOfMemory) }

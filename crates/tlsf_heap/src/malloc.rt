@@ -1,10 +1,10 @@
 //! malloc: the block picked is taken, whole or in part.
 
-ghost use Rattle.std.specs.Prelude.{◌≡◌, ℕ, false, ◌%◌, ◌<◌, ◌≤◌, Some, None, Err, IfSome, IfNone};
+ghost use Rattle.std.specs.Prelude.{◌≡◌, ℕ, false, ◌%◌, ◌<◌, ◌≤◌, Some, None, Err, MatchOption};
 ghost use Rattle.tlsf_class.specs.Classes.{unit};
-ghost use Rattle.tlsf_store.specs.declared.records.State.TheVariants.{Free};
 ghost use Rattle.tlsf_store.specs.Records.{record_at, vacant_count};
 ghost use Rattle.tlsf_heap.specs.Touches.{AtMost, malloc_touches};
+ghost use Rattle.tlsf_heap.specs.Content.{IsSize};
 ghost use Rattle.tlsf_heap.specs.Lists.{pick};
 ghost use Rattle.tlsf_heap.specs.Malloc.{malloc, malloc_rounded};
 ghost use Rattle.tlsf_heap.specs.Served.{IsServed};
@@ -12,7 +12,7 @@ ghost use Rattle.tlsf_heap.specs.Inner.Following.{Stands, content_of};
 ghost use Rattle.tlsf_heap.specs.Inner.Nodes.{NodeState, InUse, Listed, is_listed};
 ghost use Rattle.tlsf_heap.specs.Inner.At.{At, StandsAt, with_slot, at_turned, at_taken, at_split_off, at_split_rest};
 ghost use Rattle.tlsf_heap.specs.Inner.Spans.{IsRead, IsOfClass};
-ghost use Rattle.tlsf_heap.specs.Inner.Answers.{AnswersOver, Leaves};
+ghost use Rattle.tlsf_heap.specs.Inner.Answers.{AnswersOver, IsPick, Leaves};
 
 use crate::chains::{split, turn};
 use crate::free_lists::{link, unlink};
@@ -47,8 +47,7 @@ pub(crate) fn malloc(store: &mut Store, n: u64) -> Result<Ptr, Refusal>
 /// `NoFit` where none is picked; `TableFull` where a rest would be left and no record is vacant.
 pub(crate) fn allocate(store: &mut Store, asked: u32) -> Result<Ptr, Refusal>
     requires stands { Stands store.old.cells }
-    requires whole { asked % unit ≡ 0 }
-    requires some { 0 < asked }
+    requires size { IsSize asked }
     ensures { AnswersOver result (IsServed (λ slot. malloc_rounded slot (Some asked))) (λ refusal old. (slot : ℕ) → malloc_rounded slot (Some asked) old ≡ Err refusal) malloc_touches store.old store.new }
 {
     let Some((class, slot)) = pick(store, asked) else {
@@ -63,10 +62,7 @@ pub(crate) fn pick(store: &mut Store, asked: u32) -> Option<(Class, Slot)>
     requires stands { Stands store.old.cells }
     requires whole { asked % unit ≡ 0 }
     requires some { 0 < asked }
-    ensures of_class { IfSome result (λ first. IsOfClass first.0 (record_at store.old.cells.records first.1)) }
-    ensures free { IfSome result (λ first. (record_at store.old.cells.records first.1).state ≡ Free) }
-    ensures found { IfSome result (λ first. pick asked (content_of store.old.cells).lists ≡ Some (record_at store.old.cells.records first.1).place) }
-    ensures none { IfNone result (pick asked (content_of store.old.cells).lists ≡ None) }
+    ensures found { MatchOption result (pick asked (content_of store.old.cells).lists ≡ None) (λ first. IsPick asked first.0 first.1 store.old.cells) }
     ensures left { Leaves store.old.cells 4 store.old store.new }
 {
     let Some(class) = class_for(asked) else {
@@ -82,11 +78,8 @@ pub(crate) fn pick(store: &mut Store, asked: u32) -> Option<(Class, Slot)>
 /// `TableFull` where a rest would be left and no record is vacant; then the cells are as they were.
 fn take(store: &mut Store, class: Class, slot: Slot, asked: u32) -> Result<Ptr, Refusal>
     requires stands { Stands store.old.cells }
-    requires whole { asked % unit ≡ 0 }
-    requires some { 0 < asked }
-    requires of_class { IsOfClass class (record_at store.old.cells.records slot) }
-    requires free { (record_at store.old.cells.records slot).state ≡ Free }
-    requires found { pick asked (content_of store.old.cells).lists ≡ Some (record_at store.old.cells.records slot).place }
+    requires size { IsSize asked }
+    requires picked { IsPick asked class slot store.old.cells }
     ensures { AnswersOver result (IsServed (λ owner. malloc_rounded owner (Some asked))) (λ refusal old. (owner : ℕ) → malloc_rounded owner (Some asked) old ≡ Err refusal) 19 store.old store.new }
 {
     let block = store.read_used(slot);

@@ -3,17 +3,16 @@
 ghost use Rattle.std.specs.Prelude.{◌≡◌, ℕ, true, ◌+◌, ◌-◌, ◌%◌, ◌^◌, ◌<◌, ◌≤◌, Some, Err, length};
 ghost use Rattle.std.specs.Int.{next_multiple_of};
 ghost use Rattle.tlsf_class.specs.Classes.{unit, greatest_size};
-ghost use Rattle.tlsf_store.specs.declared.records.State.TheVariants.{Free};
 ghost use Rattle.tlsf_store.specs.Records.{blank, record_at, vacant_count};
 ghost use Rattle.tlsf_heap.specs.Touches.{AtMost, memalign_touches};
-ghost use Rattle.tlsf_heap.specs.Lists.{pick};
+ghost use Rattle.tlsf_heap.specs.Content.{IsSize};
 ghost use Rattle.tlsf_heap.specs.Memalign.{is_alignment, size_asked, gap_records, memalign, memalign_rounded};
 ghost use Rattle.tlsf_heap.specs.Served.{IsServed};
-ghost use Rattle.tlsf_heap.specs.Inner.Following.{Stands, content_of};
+ghost use Rattle.tlsf_heap.specs.Inner.Following.{Stands};
 ghost use Rattle.tlsf_heap.specs.Inner.Nodes.{InUse};
 ghost use Rattle.tlsf_heap.specs.Inner.At.{At, StandsAt, at_gapped};
-ghost use Rattle.tlsf_heap.specs.Inner.Spans.{IsRead, IsOfClass};
-ghost use Rattle.tlsf_heap.specs.Inner.Answers.{AnswersOver};
+ghost use Rattle.tlsf_heap.specs.Inner.Spans.{IsRead, IsLeft};
+ghost use Rattle.tlsf_heap.specs.Inner.Answers.{AnswersOver, IsPick};
 
 use crate::chains::split;
 use crate::free::enter;
@@ -67,11 +66,8 @@ fn split_aligned(
 ) -> Result<Ptr, Refusal>
     requires stands { Stands store.old.cells }
     requires is { is_alignment align ≡ true }
-    requires whole { asked % unit ≡ 0 }
-    requires some { 0 < asked }
-    requires of_class { IsOfClass class (record_at store.old.cells.records slot) }
-    requires free { (record_at store.old.cells.records slot).state ≡ Free }
-    requires found { pick (size_asked align asked) (content_of store.old.cells).lists ≡ Some (record_at store.old.cells.records slot).place }
+    requires size { IsSize asked }
+    requires picked { IsPick (size_asked align asked) class slot store.old.cells }
     ensures { AnswersOver result (IsServed (λ owner. memalign_rounded owner align (Some asked))) (λ refusal old. (owner : ℕ) → memalign_rounded owner align (Some asked) old ≡ Err refusal) 34 store.old store.new }
 {
     let block = store.read_used(slot);
@@ -146,9 +142,7 @@ fn leave_gap(store: &mut Store, block: &Span, bytes: u32) -> Slot
     requires whole { bytes % unit ≡ 0 }
     requires room { 0 < bytes → 0 < vacant_count store.old.cells.records }
     ensures leads { (at : At) → StandsAt block.now.slot InUse store.old.cells at → StandsAt result InUse store.new.cells (at_gapped result bytes at) }
-    ensures same { bytes ≡ 0 → result ≡ block.now.slot }
-    ensures vacant { 0 < bytes → record_at store.old.cells.records result ≡ blank }
-    ensures below { result < length store.old.cells.records }
+    ensures slot { IsLeft bytes block.now.slot result store.old.cells.records }
     ensures touches { AtMost 13 store.old.touches store.new.touches }
 {
     if bytes == 0 {

@@ -3,7 +3,7 @@
 ghost use Rattle.std.specs.Prelude.{◌≡◌, ◌≢◌, ℕ, true, ◌%◌, ◌<◌, ◌==◌, Some, None, Err, option_map};
 ghost use Rattle.tlsf_class.specs.Classes.{unit};
 ghost use Rattle.tlsf_heap.specs.Touches.{AtMost, realloc_touches};
-ghost use Rattle.tlsf_heap.specs.Content.{blocks_of, size_at};
+ghost use Rattle.tlsf_heap.specs.Content.{IsSize, blocks_of, size_at};
 ghost use Rattle.tlsf_heap.specs.Free.{is_live};
 ghost use Rattle.tlsf_heap.specs.Realloc.{fits_in_place, resized, moved, realloc_sized};
 ghost use Rattle.tlsf_heap.specs.Malloc.{malloc_rounded};
@@ -34,10 +34,7 @@ pub(crate) fn realloc(store: &mut Store, ptr: Option<Ptr>, n: u64) -> Result<Opt
 {
     match ptr {
         Some(ptr) => reallocate(store, ptr, n),
-        None => match malloc(store, n) {
-            Ok(new) => Ok(Some(new)),
-            Err(refusal) => Err(refusal),
-        },
+        None => Ok(Some(malloc(store, n)?)),
     }
 }
 
@@ -52,10 +49,8 @@ fn reallocate(store: &mut Store, ptr: Ptr, n: u64) -> Result<Option<Ptr>, Refusa
     ensures { AnswersOver result (IsMoved (realloc_ptr (Some ptr) n) (Some ptr)) (λ refusal old. (owner : ℕ) → realloc_ptr (Some ptr) n owner old ≡ Err refusal) realloc_touches store.old store.new }
 {
     if n == 0 {
-        return match free(store, ptr) {
-            Ok(()) => Ok(None),
-            Err(refusal) => Err(refusal),
-        };
+        free(store, ptr)?;
+        return Ok(None);
     }
     let Some(block) = live(store, ptr) else {
         return Err(Refusal::BadPointer);
@@ -63,10 +58,8 @@ fn reallocate(store: &mut Store, ptr: Ptr, n: u64) -> Result<Option<Ptr>, Refusa
     let Some(asked) = round(n) else {
         return Err(Refusal::NoFit);
     };
-    match resize(store, ptr, Span::of(Slot(ptr.slot()), &block), asked) {
-        Ok(given) => Ok(Some(given)),
-        Err(refusal) => Err(refusal),
-    }
+    let given = resize(store, ptr, Span::of(Slot(ptr.slot()), &block), asked)?;
+    Ok(Some(given))
 }
 
 /// The live block with `asked` bytes, in its place where it can have them. A block that gets smaller and
@@ -81,8 +74,7 @@ fn resize(store: &mut Store, ptr: Ptr, block: Span, asked: u32) -> Result<Ptr, R
     requires slot { block.slot ≡ ptr.slot }
     requires place { block.place ≡ ptr.place }
     requires read { IsRead block store.old.cells.records }
-    requires some { 0 < asked }
-    requires whole { asked % unit ≡ 0 }
+    requires size { IsSize asked }
     ensures { AnswersOver result (λ given. IsMoved (λ slot. realloc_sized slot ptr.place ptr.slot asked) (Some ptr) (Some given)) (λ refusal old. (owner : ℕ) → realloc_sized owner ptr.place ptr.slot asked old ≡ Err refusal) 57 store.old store.new }
 {
     if asked == block.size {
@@ -138,8 +130,7 @@ fn resize_in_place(store: &mut Store, block: Span, asked: u32)
     requires read { IsRead block store.old.cells.records }
     requires fits { fits_in_place block.place asked (content_of store.old.cells) ≡ true }
     requires other { asked ≢ size_at block.place (blocks_of (content_of store.old.cells).pools) }
-    requires some { 0 < asked }
-    requires whole { asked % unit ≡ 0 }
+    requires size { IsSize asked }
     ensures stands { Stands store.new.cells }
     ensures content { content_of store.new.cells ≡ resized block.slot block.place asked (content_of store.old.cells) }
     ensures touches { AtMost 24 store.old.touches store.new.touches }
@@ -156,17 +147,12 @@ fn resize_in_place(store: &mut Store, block: Span, asked: u32)
 fn relocate(store: &mut Store, ptr: Ptr, asked: u32) -> Result<Ptr, Refusal>
     requires stands { Stands store.old.cells }
     requires live { is_live (λ slot. slot == ptr.slot) ptr.place (blocks_of (content_of store.old.cells).pools) ≡ true }
-    requires some { 0 < asked }
-    requires whole { asked % unit ≡ 0 }
+    requires size { IsSize asked }
     ensures { AnswersOver result (λ given. IsMoved (λ slot old. moved slot ptr.place (malloc_rounded slot (Some asked) old)) (Some ptr) (Some given)) (λ refusal old. (owner : ℕ) → moved owner ptr.place (malloc_rounded owner (Some asked) old) ≡ Err refusal) 55 store.old store.new }
 {
-    match allocate(store, asked) {
-        Ok(given) => {
-            let slot = Slot(ptr.slot());
-            let block = store.read_used(slot);
-            release(store, slot, &block);
-            Ok(given)
-        }
-        Err(refusal) => Err(refusal),
-    }
+    let given = allocate(store, asked)?;
+    let slot = Slot(ptr.slot());
+    let block = store.read_used(slot);
+    release(store, slot, &block);
+    Ok(given)
 }

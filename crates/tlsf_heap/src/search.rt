@@ -1,11 +1,11 @@
 //! The search for a free block, by the bitmaps.
 
-ghost use Rattle.std.specs.Prelude.{◌≡◌, ◌≢◌, ℕ, ◌+◌, ◌*◌, ◌<◌, ◌≤◌, length, drop, option_map, None, Some, IfSome, IfNone};
+ghost use Rattle.std.specs.Prelude.{◌≡◌, MatchOption, ℕ, ◌+◌, ◌*◌, ◌<◌, ◌≤◌, length, drop, option_map, None, Some, IfSome, IfNone};
 ghost use Rattle.tlsf_class.specs.Classes.{steps, levels, classes};
 ghost use Rattle.tlsf_store.specs.Cells.{head_at};
 ghost use Rattle.tlsf_store.specs.CountedCells.{LeavesAfter};
 ghost use Rattle.tlsf_heap.specs.Images.Bitmaps.{AreBitmapsOf};
-ghost use Rattle.tlsf_heap.specs.Inner.Bitmaps.{HasNoBit, IsLowestFrom, first_head};
+ghost use Rattle.tlsf_heap.specs.Inner.Bitmaps.{HasNoBit, IsLowestFrom, IsLastHead, first_head};
 ghost use Rattle.tlsf_heap.specs.Inner.Answers.{Leaves};
 
 use tlsf_class::{Class, STEPS};
@@ -13,8 +13,7 @@ use tlsf_store::{Slot, Store};
 
 /// The lowest bit set in the word at or above a place.
 fn lowest_from(word: u32, from: u32) -> Option<u32>
-    ensures found { IfSome result (λ bit. IsLowestFrom word from bit) }
-    ensures none { IfNone result (HasNoBit word from 32) }
+    ensures { MatchOption result (HasNoBit word from 32) (λ bit. IsLowestFrom word from bit) }
 {
     if from >= u32::BITS {
         return None;
@@ -79,9 +78,7 @@ fn search_levels(store: &mut Store, from: u32) -> Option<(Class, Slot)>
 pub(crate) fn last_class(store: &mut Store) -> Option<Class>
     requires bitmaps { AreBitmapsOf store.old.cells.heads store.old.cells.step_words store.old.cells.level_word }
     requires count { length store.old.cells.heads ≡ classes }
-    ensures within { IfSome result (λ class. class < classes) }
-    ensures found { IfSome result (λ class. head_at store.old.cells.heads class ≢ None) }
-    ensures last { IfSome result (λ class. (later : ℕ) → class < later → later < classes → head_at store.old.cells.heads later ≡ None) }
+    ensures last { IfSome result (λ class. IsLastHead store.old.cells.heads class) }
     ensures none { IfNone result ((class : ℕ) → class < classes → head_at store.old.cells.heads class ≡ None) }
     ensures left { Leaves store.old.cells 2 store.old store.new }
 {

@@ -1,8 +1,8 @@
 -- The alignments as the code finds them: powers of two that are not too great.
-use Rattle.std.proofs.Common.{◌≡◌, ℕ, zero, suc, ◌+◌, ◌-◌, ◌*◌, ◌/◌, ◌%◌, ◌^◌, ◌<◌, ◌≤◌, true, false, ◌&&◌, refl, sym, ap, ◌∙◌, subst, arith, inl, inr, pow_mono, zero-add, pow-add}
+use Rattle.std.proofs.Common.{◌≡◌, ℕ, zero, suc, ◌+◌, ◌-◌, ◌*◌, ◌/◌, ◌%◌, ◌^◌, ◌<◌, ◌≤◌, true, false, ◌&&◌, refl, sym, ap, ◌∙◌, subst, arith, inl, inr, pow_mono, zero-add, pow-add, Some}
 use Rattle.std.specs.Prelude.{◌⊎◌, count_ones, slice_index_or, ◌==◌, nat_le}
 use Rattle.std.specs.List.{range_with_len}
-use Rattle.std.specs.Int.{is_power_of_two}
+use Rattle.std.specs.Int.{is_power_of_two, next_multiple_of}
 use Rattle.std.specs.Int.Count.{ones_step}
 use Rattle.std.proofs.Math.Nat.{two-pow-succ, mul-mod_right, mod_self, sub-zero, mod-eq_of_lt, mod-mod_of_dvd, zero-mod, add-mul-mod_self_right}
 use Rattle.std.proofs.lemmas.Nat.Gcd.{dvd_of_mod-eq-zero}
@@ -10,8 +10,10 @@ use Rattle.std.proofs.lemmas.Bool.{cases_Bool, cases_lt, eq-eqb, eqb-true, eqb-f
 use Rattle.std.proofs.lemmas.Nat.{zero_from_ones, ones-le, mod_below, div-add-mod'}
 use Rattle.std.proofs.lemmas.List.Folds.{Any-from_list_any, list_any_at}
 use Rattle.std.proofs.lemmas.List.FromFn.{length-range_with_len, get_or-range_with_len}
-use Rattle.std.specs.Int.{next_multiple_of}
 use Rattle.tlsf_class.specs.Classes.{unit, unit_power}
+use Rattle.tlsf_class.specs.Rounding.{round}
+use Rattle.tlsf_class.proofs.RoundingLaws.{round-Some}
+use Rattle.tlsf_heap.specs.Content.{IsSize}
 use Rattle.tlsf_heap.specs.Memalign.{alignments, is_alignment, size_asked}
 
 no_ones : count_ones 0 ≡ 0
@@ -148,14 +150,18 @@ whole_above k above = elim (cases_lt k unit_power) [
 ]
 
 -- and so is what is asked of the lists
-pub asked_whole : (align m : ℕ) → is_alignment align ≡ true → m % unit ≡ 0 → 0 < m → (size_asked align m % unit ≡ 0) × (0 < size_asked align m)
-asked_whole align m is whole some = elim (cases_Bool (nat_le align unit)) [
-  | inl few ↦ rw few (whole, some)
+pub asked_whole : (align m : ℕ) → is_alignment align ≡ true → IsSize m → (size_asked align m % unit ≡ 0) × (0 < size_asked align m)
+asked_whole align m is size = elim (cases_Bool (nat_le align unit)) [
+  | inl few ↦ rw few (size.in_units, size.positive)
   | inr more ↦
       let above = leb-false align unit more in
       let at = Any-from_list_any (λ power. 2 ^ power == align) (range_with_len 0 alignments) is in
       let power : 2 ^ at.1 ≡ align = eqb-true (2 ^ at.1) align at.4 in
       let P : ℕ → Type 0 = λ n. unit < n → n % unit ≡ 0 in
       let align_whole = subst P power (whole_above at.1) above in
-      rw more (omega (arith, whole, align_whole, above), omega (arith, some, above))
+      rw more (omega (arith, size.in_units, align_whole, above), omega (arith, size.positive, above))
 ]
+
+-- what bytes are rounded to is a size
+pub round_size : (n m : ℕ) → round n ≡ Some m → IsSize m
+round_size n m is = let r = round-Some n m is in record { positive = omega (arith, r.some, r.least); in_units = r.whole; at_most = r.within }

@@ -6,8 +6,7 @@ use Rattle.tlsf_heap.specs.declared.refusal.Refusal.TheVariants.{BadPointer}
 use Rattle.tlsf_heap.specs.Content.{Block, Pool, Content, blocks_of, is_free, is_at, size_at}
 use Rattle.tlsf_heap.specs.Lists.{link}
 use Rattle.tlsf_heap.specs.Malloc.{replaced_in}
-use Rattle.tlsf_heap.specs.Free.{is_live, previous_of, next_of, if_free, first_in_pools, free_previous, free_next, unlink_block, size_of, start_of}
-use Rattle.tlsf_heap.specs.Free.{free_block, without_block, after_free, free}
+use Rattle.tlsf_heap.specs.Free.{is_live, previous_of, next_of, if_free, first_in_pools, free_previous, free_next, unlink_block, size_of, start_of, free_block, without_block, after_free, free}
 use Rattle.tlsf_heap.specs.Bare.{renamed_block, renamed_pool, renamed, renamed_result}
 use Rattle.tlsf_heap.proofs.Content.BareSteps.{ap-cond, size_at-renamed, replaced_in-renamed}
 

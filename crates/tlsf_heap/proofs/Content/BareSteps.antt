@@ -11,6 +11,7 @@ use Rattle.tlsf_heap.specs.Lists.{pick}
 use Rattle.tlsf_heap.specs.Malloc.{gap, split, replaced, replaced_in, allocated, allocate, malloc_picked, malloc_rounded, malloc}
 use Rattle.tlsf_heap.specs.Pools.{is_apart, can_be_pool, in_order_of_base, with_pool, add_pool, most_pools}
 use Rattle.tlsf_heap.specs.Bare.{renamed_block, renamed_pool, renamed, renamed_result, renamed_given}
+use Rattle.tlsf_heap.proofs.Inserted.{map-inserted}
 
 -- a function of a choice is the choice of what it gives
 pub ap-cond : {X Y : Type 0} (f : X → Y) (b : Bool) (x y : X) → f (cond b x y) ≡ cond b (f x) (f y)
@@ -94,19 +95,12 @@ module _ {A B : Type 0} (rename : A → B) where
   list_all-renamed base bytes [] = refl
   list_all-renamed base bytes (pool ∷ pools) = ap (λ more. is_apart base bytes pool && more) (list_all-renamed base bytes pools)
 
-  in_order-renamed : (pool : Pool A) (pools : List (Pool A))
-      → in_order_of_base (renamed_pool rename pool) (map (renamed_pool rename) pools) ≡ map (renamed_pool rename) (in_order_of_base pool pools)
-  in_order-renamed pool [] = refl
-  in_order-renamed pool (other ∷ pools) =
-      ap (λ more. cond (nat_lt pool.base other.base) (map (renamed_pool rename) (pool ∷ other ∷ pools)) (renamed_pool rename other ∷ more)) (in_order-renamed pool pools)
-      ∙ sym (ap-cond (map (renamed_pool rename)) (nat_lt pool.base other.base) (pool ∷ other ∷ pools) (other ∷ in_order_of_base pool pools))
-
   with_pool-renamed : (base bytes : ℕ) (content : Content A) → with_pool base bytes (renamed rename content) ≡ renamed rename (with_pool base bytes content)
   with_pool-renamed base bytes content =
       let pool_of : List (Block B) → Pool B = λ blocks. record { base = base; bytes = bytes; blocks = blocks } in
       ap (λ pools. record { records = content.records; pools = pools; lists = (with_pool base bytes content).lists })
       (ap (λ blocks. in_order_of_base (pool_of blocks) (map (renamed_pool rename) content.pools)) (sym (gap-renamed base bytes))
-      ∙ in_order-renamed (record { base = base; bytes = bytes; blocks = gap base bytes }) content.pools)
+      ∙ sym (map-inserted (renamed_pool rename) (λ (pool : Pool A). pool.base) (λ (pool : Pool B). pool.base) (λ pool. refl) (record { base = base; bytes = bytes; blocks = gap base bytes }) content.pools))
 
   -- add_pool leaves the same, or refuses for the same reason
   pub add_pool-renamed : (base bytes : ℕ) (content : Content A) → add_pool base bytes (renamed rename content) ≡ renamed_result rename (add_pool base bytes content)

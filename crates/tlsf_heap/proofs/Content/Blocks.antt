@@ -1,10 +1,9 @@
 -- Blocks in order of place: the one at a place, and how many there are of a kind once it gives way to others.
-use Rattle.std.proofs.Common.{◌≡◌, ℕ, ◌+◌, ◌<◌, ◌≤◌, true, false, ◌&&◌, List, [], ◌∷◌, ◌++◌, refl, sym, ap, ◌∙◌, subst, arith, count_by}
+use Rattle.std.proofs.Common.{◌≡◌, ℕ, ◌+◌, ◌<◌, ◌≤◌, true, false, ◌&&◌, List, [], ◌∷◌, ◌++◌, refl, sym, ap, ◌∙◌, subst, arith, count_by, inl, inr}
 use Rattle.std.specs.Prelude.{⊤, ◌==◌}
 use Rattle.tlsf_heap.proofs.Counts.{one_if, count-cons}
 use Rattle.std.proofs.lemmas.Bool.{cases_Bool, eqb-true, ne_eqb, and_parts, and_left}
 use Rattle.std.specs.List.{AllByRecursion}
-use Rattle.std.proofs.Common.{inl, inr}
 use Rattle.tlsf_class.specs.Classes.{class}
 use Rattle.tlsf_heap.specs.Content.{Block, Pool, blocks_of, is_free, is_at}
 use Rattle.tlsf_heap.specs.Good.{Covers, AreGoodPools, is_listed}

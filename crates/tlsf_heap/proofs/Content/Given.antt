@@ -1,39 +1,29 @@
 -- What malloc, free and realloc gave, where they weren't refused.
-use Rattle.std.proofs.Common.{◌≡◌, ◌≢◌, ℕ, Bool, true, ◌&&◌, refl, sym, ap, ◌∙◌, subst, Option, Some, None, Result, Ok, Err, inl, inr}
-use Rattle.std.specs.Prelude.{◌==◌, nat_lt, nat_le}
+use Rattle.std.proofs.Common.{◌≡◌, ◌≢◌, ℕ, Bool, true, refl, sym, ap, ◌∙◌, subst, Option, Some, None, Result, Ok, Err, inl, inr}
+use Rattle.std.specs.Prelude.{◌==◌, nat_lt}
 use Rattle.std.proofs.lemmas.Bool.{cases_Bool, eqb-true, eqb-false}
 use Rattle.tlsf_class.specs.Rounding.{round}
 use Rattle.tlsf_heap.specs.declared.refusal.Refusal.{Refusal}
-use Rattle.tlsf_heap.specs.declared.refusal.Refusal.TheVariants.{ZeroSize, NoFit, TableFull, BadPointer}
-use Rattle.tlsf_heap.specs.Content.{Content, blocks_of, size_at, used_records}
+use Rattle.tlsf_heap.specs.declared.refusal.Refusal.TheVariants.{NoFit, BadPointer}
+use Rattle.tlsf_heap.specs.Content.{Content, blocks_of, size_at}
 use Rattle.tlsf_heap.specs.Lists.{pick}
-use Rattle.tlsf_heap.specs.Malloc.{allocated, malloc_picked, malloc_rounded, malloc}
+use Rattle.tlsf_heap.specs.Malloc.{malloc_rounded, malloc}
 use Rattle.tlsf_heap.specs.Free.{is_live, after_free, free}
+use Rattle.tlsf_heap.proofs.Content.MallocCases.{split_there, rounded_cases, malloc_cases}
 use Rattle.tlsf_heap.specs.Realloc.{fits_in_place, resized, moved, realloc_sized, realloc_rounded, realloc}
 
 module _ {A : Type 0} (owner : A) (content : Content A) where
-  -- what malloc leaves, where it picked the block at the place for m bytes
-  abbrev split_there : ℕ → ℕ → ℕ × Content A
-  split_there m place = (place, allocated owner place m (size_at place (blocks_of content.pools)) content)
-
   -- the block that was picked, split
-  pub rounded_gave : (m : Option ℕ) (given : ℕ × Content A) → malloc_rounded owner m content ≡ Ok given → (asked place : ℕ) × (m ≡ Some asked) × (pick asked content.lists ≡ Some place) × (split_there asked place ≡ given)
-  rounded_gave None given e = absurd (cc)
-  rounded_gave (Some m) given e = of (pick m content.lists) refl e
-    where
-      of : (found : Option ℕ) → pick m content.lists ≡ found → malloc_picked owner m found content ≡ Ok given → (asked place : ℕ) × (Some m ≡ Some asked) × (pick asked content.lists ≡ Some place) × (split_there asked place ≡ given)
-      of None is h = absurd (cc)
-      of (Some place) is h = elim (cases_Bool (nat_lt m (size_at place (blocks_of content.pools)) && nat_le content.records (used_records content))) [
-        | inl full ↦ let refused : malloc_picked owner m (Some place) content ≡ Err TableFull = rw full refl in absurd (cc)
-        | inr room ↦ let served : malloc_picked owner m (Some place) content ≡ Ok (split_there m place) = rw room refl in (m, place, refl, is, cc)
-      ]
+  pub rounded_gave : (m : Option ℕ) (given : ℕ × Content A) → malloc_rounded owner m content ≡ Ok given → (asked place : ℕ) × (m ≡ Some asked) × (pick asked content.lists ≡ Some place) × (split_there owner content asked place ≡ given)
+  rounded_gave m given =
+      rounded_cases owner content (λ r. r ≡ Ok given → (asked place : ℕ) × (m ≡ Some asked) × (pick asked content.lists ≡ Some place) × (split_there owner content asked place ≡ given)) m
+      (λ none e. absurd (cc)) (λ p full e. absurd (cc)) (λ p e. (p.asked, p.place, p.rounds, p.found, cc))
 
   -- malloc gave the block that it picked, split
-  pub malloc_gave : (n : ℕ) (given : ℕ × Content A) → malloc owner n content ≡ Ok given → (asked place : ℕ) × (round n ≡ Some asked) × (pick asked content.lists ≡ Some place) × (split_there asked place ≡ given)
-  malloc_gave n given e = elim (cases_Bool (n == 0)) [
-    | inl nothing ↦ let refused : malloc owner n content ≡ Err ZeroSize = rw nothing refl in absurd (cc)
-    | inr some ↦ let asked : malloc owner n content ≡ malloc_rounded owner (round n) content = rw some refl in rounded_gave (round n) given (sym asked ∙ e)
-  ]
+  pub malloc_gave : (n : ℕ) (given : ℕ × Content A) → malloc owner n content ≡ Ok given → (asked place : ℕ) × (round n ≡ Some asked) × (pick asked content.lists ≡ Some place) × (split_there owner content asked place ≡ given)
+  malloc_gave n given =
+      malloc_cases owner content n (λ r. r ≡ Ok given → (asked place : ℕ) × (round n ≡ Some asked) × (pick asked content.lists ≡ Some place) × (split_there owner content asked place ≡ given))
+      (λ nothing e. absurd (cc)) (λ some none e. absurd (cc)) (λ p full e. absurd (cc)) (λ p e. (p.asked, p.place, p.rounds, p.found, cc))
 
 -- free was of a live block
 pub free_gave : {A : Type 0} (is_meant : A → Bool) (place : ℕ) (content new : Content A) → free is_meant place content ≡ Ok new → (is_live is_meant place (blocks_of content.pools) ≡ true) × (after_free place content ≡ new)

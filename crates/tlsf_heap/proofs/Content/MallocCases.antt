@@ -1,7 +1,7 @@
 -- malloc by its cases, whatever live blocks are known by.
-use Rattle.std.proofs.Common.{◌≡◌, ◌≢◌, ℕ, Bool, true, false, cond, refl, sym, ap, ◌∙◌, ◌⊎◌, inl, inr, Option, Some, None, Result}
-use Rattle.std.specs.Prelude.{◌&&◌, ◌==◌, nat_lt, nat_le, Ok, Err}
-use Rattle.std.proofs.lemmas.Bool.{ne_eqb, cases_eq}
+use Rattle.std.proofs.Common.{◌≡◌, ◌≢◌, ℕ, ◌≤◌, refl, sym, ap, ◌∙◌, subst, ◌⊎◌, inl, inr, Option, Some, None, Result}
+use Rattle.std.specs.Prelude.{◌&&◌, nat_lt, nat_le, Ok, Err}
+use Rattle.std.proofs.lemmas.Bool.{cases_Bool, cases_eq, eq-eqb, ne_eqb, leb-true, and_parts}
 use Rattle.tlsf_class.specs.Rounding.{round}
 use Rattle.tlsf_heap.specs.declared.refusal.Refusal.{Refusal}
 use Rattle.tlsf_heap.specs.declared.refusal.Refusal.TheVariants.{ZeroSize, NoFit, TableFull, OutOfMemory}
@@ -9,72 +9,61 @@ use Rattle.tlsf_heap.specs.Content.{Content, blocks_of, size_at, used_records}
 use Rattle.tlsf_heap.specs.Lists.{pick}
 use Rattle.tlsf_heap.specs.Malloc.{allocated, malloc_picked, malloc_rounded, malloc}
 
--- a refusal that isn't want of memory, or else what lacks none
-cond_lacks_none : {T : Type 0} (b : Bool) (refusal : Refusal) (result : Result T Refusal) → refusal ≢ OutOfMemory → result ≢ Err OutOfMemory → cond b (Err refusal) result ≢ Err OutOfMemory
-cond_lacks_none true refusal result named lacks_none is = named (cc)
-cond_lacks_none false refusal result named lacks_none is = lacks_none is
+module _ {A : Type 0} (owner : A) (content : Content A) where
+  -- nothing is picked for the bytes asked
+  abbrev pub NonePicked : Option ℕ → Type 0
+  NonePicked m = (asked : ℕ) → m ≡ Some asked → pick asked content.lists ≡ None
+
+  -- a block is picked for them
+  pub record IsPicked (m : Option ℕ) : Type 0 where
+    pub asked : ℕ
+    pub place : ℕ
+    pub rounds : m ≡ Some asked
+    pub found : pick asked content.lists ≡ Some place
+
+  -- what malloc leaves, where it picked the block at the place
+  abbrev pub split_there : ℕ → ℕ → ℕ × Content A
+  split_there asked place = (place, allocated owner place asked (size_at place (blocks_of content.pools)) content)
+
+  -- each of its answers
+  pub rounded_cases : (P : Result (ℕ × Content A) Refusal → Type 0) (m : Option ℕ)
+      → (NonePicked m → P (Err NoFit))
+      → (IsPicked m → content.records ≤ used_records content → P (Err TableFull))
+      → ((p : IsPicked m) → P (Ok (split_there p.asked p.place)))
+      → P (malloc_rounded owner m content)
+  rounded_cases P None none full given = none (λ asked e. absurd (cc))
+  rounded_cases P (Some m) none full given = of (pick m content.lists) refl
+    where
+      of : (place : Option ℕ) → pick m content.lists ≡ place → P (malloc_picked owner m place content)
+      of None found = none (λ asked e. let same : m ≡ asked = cc in ap (λ a. pick a content.lists) (sym same) ∙ found)
+      of (Some place) found =
+          let p : IsPicked (Some m) = record { asked = m; place = place; rounds = refl; found = found } in
+          elim (cases_Bool (nat_lt m (size_at place (blocks_of content.pools)) && nat_le content.records (used_records content))) [
+            | inl none_left ↦ let is : malloc_picked owner m (Some place) content ≡ Err TableFull = rw none_left refl in subst P (sym is) (full p (leb-true _ _ (and_parts _ _ none_left).1))
+            | inr room ↦ let is : malloc_picked owner m (Some place) content ≡ Ok (split_there m place) = rw room refl in subst P (sym is) (given p)
+          ]
+
+  pub malloc_cases : (n : ℕ) (P : Result (ℕ × Content A) Refusal → Type 0)
+      → (n ≡ 0 → P (Err ZeroSize))
+      → (n ≢ 0 → NonePicked (round n) → P (Err NoFit))
+      → (IsPicked (round n) → content.records ≤ used_records content → P (Err TableFull))
+      → ((p : IsPicked (round n)) → P (Ok (split_there p.asked p.place)))
+      → P (malloc owner n content)
+  malloc_cases n P zero_size none full given = elim (cases_eq n 0) [
+    | inl nothing ↦ let is : malloc owner n content ≡ Err ZeroSize = rw (eq-eqb n 0 nothing) refl in subst P (sym is) (zero_size nothing)
+    | inr some ↦ let is : malloc owner n content ≡ malloc_rounded owner (round n) content = rw (ne_eqb n 0 some) refl in subst P (sym is) (rounded_cases P (round n) (none some) full given)
+  ]
 
 module _ {A : Type 0} (owner : A) (n : ℕ) (content : Content A) where
-  some_asked : n ≢ 0 → malloc owner n content ≡ malloc_rounded owner (round n) content
-  some_asked h = rw (ne_eqb n 0 h) refl
-
-  -- where a block is picked, it is what malloc takes
-  pub picked_is_served : n ≢ 0 → (asked place : ℕ) → round n ≡ Some asked → pick asked content.lists ≡ Some place → malloc owner n content ≡ malloc_picked owner asked (Some place) content
-  picked_is_served some asked place rounded is = some_asked some ∙ ap (λ m. malloc_rounded owner m content) rounded ∙ ap (λ place. malloc_picked owner asked place content) is
-
-  -- and then it isn't refused for want of a block
-  pub picked_fits : n ≢ 0 → (asked place : ℕ) → round n ≡ Some asked → pick asked content.lists ≡ Some place → malloc owner n content ≢ Err NoFit
-  picked_fits some asked place rounded is refused = never (nat_lt asked size && nat_le content.records (used_records content)) (sym (picked_is_served some asked place rounded is) ∙ refused)
-    where
-      size : ℕ
-      size = size_at place (blocks_of content.pools)
-
-      never : (full : Bool) → cond {A = Result (ℕ × Content A) Refusal} full (Err TableFull) (Ok (place, allocated owner place asked size content)) ≢ Err NoFit
-      never true e = cc
-      never false e = cc
-
-  pub nothing_fits : n ≡ 0 → malloc owner n content ≢ Err NoFit
-  nothing_fits none refused = let other : malloc owner n content ≡ Err ZeroSize = rw none refl in absurd (cc (other, refused))
-
-  -- it is refused so where none is picked, and where what is asked for is above the greatest size
-  pub none_picked : n ≢ 0 → (asked : ℕ) → round n ≡ Some asked → pick asked content.lists ≡ None → malloc owner n content ≡ Err NoFit
-  none_picked some asked rounded is = some_asked some ∙ ap (λ m. malloc_rounded owner m content) rounded ∙ ap (λ place. malloc_picked owner asked place content) is
-
-  pub none_rounded : n ≢ 0 → round n ≡ None → malloc owner n content ≡ Err NoFit
-  none_rounded some is = some_asked some ∙ ap (λ m. malloc_rounded owner m content) is
-
   -- it is never refused for want of memory
-  picked_lacks_none : (m : ℕ) (place : Option ℕ) → malloc_picked owner m place content ≢ Err OutOfMemory
-  picked_lacks_none m None is = cc
-  picked_lacks_none m (Some place) is =
-      let size = size_at place (blocks_of content.pools) in
-      cond_lacks_none (nat_lt m size && nat_le content.records (used_records content)) TableFull (Ok (place, allocated owner place m size content)) (λ e. cc) (λ e. cc) is
-
-  rounded_lacks_none : (m : Option ℕ) → malloc_rounded owner m content ≢ Err OutOfMemory
-  rounded_lacks_none None is = cc
-  rounded_lacks_none (Some m) is = picked_lacks_none m (pick m content.lists) is
-
   pub malloc_lacks_none : malloc owner n content ≢ Err OutOfMemory
-  malloc_lacks_none is = cond_lacks_none (n == 0) ZeroSize (malloc_rounded owner (round n) content) (λ e. cc) (rounded_lacks_none (round n)) is
+  malloc_lacks_none = malloc_cases owner content n (λ r. r ≢ Err OutOfMemory) (λ nothing e. cc) (λ some none e. cc) (λ p full e. cc) (λ p e. cc)
 
   -- why it can be refused
-  picked_reasons : (m : ℕ) (place : Option ℕ) (refusal : Refusal) → malloc_picked owner m place content ≡ Err refusal → (refusal ≡ NoFit) ⊎ (refusal ≡ TableFull)
-  picked_reasons m None refusal is = inl (cc)
-  picked_reasons m (Some place) refusal is = of (nat_lt m size && nat_le content.records (used_records content)) is
-    where
-      size : ℕ
-      size = size_at place (blocks_of content.pools)
-
-      of : (full : Bool) → cond {A = Result (ℕ × Content A) Refusal} full (Err TableFull) (Ok (place, allocated owner place m size content)) ≡ Err refusal → (refusal ≡ NoFit) ⊎ (refusal ≡ TableFull)
-      of true is = inr (cc)
-      of false is = absurd (cc)
-
-  rounded_reasons : (m : Option ℕ) (refusal : Refusal) → malloc_rounded owner m content ≡ Err refusal → (refusal ≡ NoFit) ⊎ (refusal ≡ TableFull)
-  rounded_reasons None refusal is = inl (cc)
-  rounded_reasons (Some m) refusal is = picked_reasons m (pick m content.lists) refusal is
-
   pub malloc_reasons : (refusal : Refusal) → malloc owner n content ≡ Err refusal → (n ≡ 0) ⊎ ((refusal ≡ NoFit) ⊎ (refusal ≡ TableFull))
-  malloc_reasons refusal is = elim (cases_eq n 0) [
-    | inl nothing ↦ inl nothing
-    | inr some ↦ inr (rounded_reasons (round n) refusal (sym (some_asked some) ∙ is))
-  ]
+  malloc_reasons refusal =
+      malloc_cases owner content n (λ r. r ≡ Err refusal → (n ≡ 0) ⊎ ((refusal ≡ NoFit) ⊎ (refusal ≡ TableFull)))
+      (λ nothing e. inl nothing)
+      (λ some none e. inr (inl (cc)))
+      (λ p full e. inr (inr (cc)))
+      (λ p e. absurd (cc))

@@ -1,5 +1,5 @@
 -- What memalign gives, case by case, and why it is refused.
-use Rattle.std.proofs.Common.{◌≡◌, ◌≢◌, ℕ, ◌+◌, ◌-◌, ◌<◌, ◌≤◌, true, false, cond, arith, List, [], ◌∷◌, length, length-append, not, refl, sym, ap, ◌∙◌, Option, Some, None, Ok, Err, inl, inr}
+use Rattle.std.proofs.Common.{◌≡◌, ◌≢◌, ℕ, Bool, Result, subst, ◌+◌, ◌-◌, ◌<◌, ◌≤◌, true, false, cond, arith, List, [], ◌∷◌, length, length-append, not, refl, sym, ap, ◌∙◌, Option, Some, None, Ok, Err, inl, inr}
 use Rattle.std.specs.Prelude.{◌==◌, ◌⊎◌, nat_lt}
 use Rattle.std.specs.Int.{next_multiple_of}
 use Rattle.std.proofs.lemmas.Bool.{ne_eqb, eq-eqb, cases_Bool, cases_eq, ltb-true, ltb-false}
@@ -40,10 +40,6 @@ module _ {A : Type 0} (owner : A) (align n : ℕ) (content : Content A) where
       let asked : memalign owner align n content ≡ cond (n == 0) (Err ZeroSize) (memalign_rounded owner align (round n) content) = ap (λ b. cond (not b) (Err BadAlign) (cond (n == 0) (Err ZeroSize) (memalign_rounded owner align (round n) content))) is in
       asked ∙ ap (λ b. cond b (Err ZeroSize) (memalign_rounded owner align (round n) content)) (ne_eqb n 0 some)
 
-  -- and a block picked, or none
-  pub aligned_picked : (asked : ℕ) (place : Option ℕ) → is_alignment align ≡ true → n ≢ 0 → round n ≡ Some asked → pick (size_asked align asked) content.lists ≡ place → memalign owner align n content ≡ memalign_picked owner align asked place content
-  aligned_picked asked place is some rounded found = aligned_rounded is some ∙ ap (λ m. memalign_rounded owner align m content) rounded ∙ ap (λ p. memalign_picked owner align asked p content) found
-
   -- nothing is picked for the bytes asked
   abbrev pub NonePicked : Type 0
   NonePicked = (m : ℕ) → round n ≡ Some m → pick (size_asked align m) content.lists ≡ None
@@ -61,59 +57,44 @@ module _ {A : Type 0} (owner : A) (align n : ℕ) (content : Content A) where
   abbrev pub split_aligned_of : IsPicked → Content A
   split_aligned_of p = aligned owner (next_multiple_of p.place align) p.asked p.place (size_at p.place (blocks_of content.pools)) content
 
-  -- it would be too many blocks, or it is given
-  abbrev pub IsServed : IsPicked → Type 0
-  IsServed p =
-      ((memalign owner align n content ≡ Err TableFull) × (content.records < used_records (split_aligned_of p)))
-      ⊎ ((memalign owner align n content ≡ Ok (next_multiple_of p.place align, split_aligned_of p)) × (used_records (split_aligned_of p) ≤ content.records))
-
-  -- each of its answers
-  pub memalign_cases : (memalign owner align n content ≡ Err BadAlign) ⊎ (((memalign owner align n content ≡ Err ZeroSize) × (n ≡ 0)) ⊎ (((memalign owner align n content ≡ Err NoFit) × NonePicked) ⊎ ((p : IsPicked) × IsServed p)))
-  memalign_cases = elim (cases_Bool (is_alignment align)) [
-    | inr bad ↦ inl (rw bad refl)
+  -- each of its answers: it would be too many blocks, or it is given
+  pub memalign_cases : (P : Result (ℕ × Content A) Refusal → Type 0)
+      → P (Err BadAlign)
+      → (n ≡ 0 → P (Err ZeroSize))
+      → (NonePicked → P (Err NoFit))
+      → ((p : IsPicked) → content.records < used_records (split_aligned_of p) → P (Err TableFull))
+      → ((p : IsPicked) → used_records (split_aligned_of p) ≤ content.records → P (Ok (next_multiple_of p.place align, split_aligned_of p)))
+      → P (memalign owner align n content)
+  memalign_cases P bad zero_size none full given = elim (cases_Bool (is_alignment align)) [
+    | inr isn't ↦ let is : memalign owner align n content ≡ Err BadAlign = rw isn't refl in subst P (sym is) bad
     | inl is ↦ elim (cases_eq n 0) [
-      | inl nothing ↦ inr (inl (rw (is, eq-eqb n 0 nothing) refl, nothing))
-      | inr some ↦ inr (inr (of (round n) refl is some))
+      | inl nothing ↦ let zero_is : memalign owner align n content ≡ Err ZeroSize = rw (is, eq-eqb n 0 nothing) refl in subst P (sym zero_is) (zero_size nothing)
+      | inr some ↦ subst P (sym (aligned_rounded is some)) (of (round n) refl is some)
     ]
   ]
     where
-      served : (p : IsPicked) → IsServed p
-      served p =
-          let start : ℕ = next_multiple_of p.place align in
-          let is = aligned_picked p.asked (Some p.place) p.is p.some p.rounds p.found in
-          elim (cases_Bool (nat_lt content.records (used_records (split_aligned_of p)))) [
-            | inl full ↦ inl (is ∙ ap (λ b. cond b (Err TableFull) (Ok (start, split_aligned_of p))) full, ltb-true _ _ full)
-            | inr room ↦ inr (is ∙ ap (λ b. cond b (Err TableFull) (Ok (start, split_aligned_of p))) room, ltb-false _ _ room)
-          ]
-
-      picked : (asked : ℕ) (place : Option ℕ) → round n ≡ Some asked → pick (size_asked align asked) content.lists ≡ place → is_alignment align ≡ true → n ≢ 0
-          → ((memalign owner align n content ≡ Err NoFit) × NonePicked) ⊎ ((p : IsPicked) × IsServed p)
-      picked asked None rounds found is some =
-          inl (aligned_picked asked None is some rounds found, λ m other. let same : asked ≡ m = cc in ap (λ a. pick (size_asked align a) content.lists) (sym same) ∙ found)
+      picked : (asked : ℕ) (place : Option ℕ) → round n ≡ Some asked → pick (size_asked align asked) content.lists ≡ place → is_alignment align ≡ true → n ≢ 0 → P (memalign_picked owner align asked place content)
+      picked asked None rounds found is some = none (λ m other. let same : asked ≡ m = cc in ap (λ a. pick (size_asked align a) content.lists) (sym same) ∙ found)
       picked asked (Some place) rounds found is some =
           let p : IsPicked = record { is = is; some = some; asked = asked; rounds = rounds; place = place; found = found } in
-          inr (p, served p)
+          let answer : Bool → Result (ℕ × Content A) Refusal = λ b. cond b (Err TableFull) (Ok (next_multiple_of place align, split_aligned_of p)) in
+          elim (cases_Bool (nat_lt content.records (used_records (split_aligned_of p)))) [
+            | inl over ↦ subst P (ap answer (sym over)) (full p (ltb-true _ _ over))
+            | inr room ↦ subst P (ap answer (sym room)) (given p (ltb-false _ _ room))
+          ]
 
-      of : (m : Option ℕ) → round n ≡ m → is_alignment align ≡ true → n ≢ 0 → ((memalign owner align n content ≡ Err NoFit) × NonePicked) ⊎ ((p : IsPicked) × IsServed p)
-      of None rounds is some = inl (aligned_rounded is some ∙ ap (λ m. memalign_rounded owner align m content) rounds, λ m other. absurd (cc))
+      of : (m : Option ℕ) → round n ≡ m → is_alignment align ≡ true → n ≢ 0 → P (memalign_rounded owner align m content)
+      of None rounds is some = none (λ m other. absurd (cc))
       of (Some asked) rounds is some = picked asked (pick (size_asked align asked) content.lists) rounds refl is some
 
   -- where it is given
   pub memalign_given : (new : ℕ × Content A) → memalign owner align n content ≡ Ok new → (p : IsPicked) × ((next_multiple_of p.place align, split_aligned_of p) ≡ new) × (used_records (split_aligned_of p) ≤ content.records)
-  memalign_given new e = elim memalign_cases [
-    | inl other ↦ absurd (cc)
-    | inr (inl zero_size) ↦ let other = zero_size.0 in absurd (cc)
-    | inr (inr (inl none)) ↦ let other = none.0 in absurd (cc)
-    | inr (inr (inr (p, inl full))) ↦ let other = full.0 in absurd (cc)
-    | inr (inr (inr (p, inr given))) ↦ let same = given.0 in (p, cc, given.1)
-  ]
+  memalign_given new =
+      memalign_cases (λ r. r ≡ Ok new → (p : IsPicked) × ((next_multiple_of p.place align, split_aligned_of p) ≡ new) × (used_records (split_aligned_of p) ≤ content.records))
+      (λ e. absurd (cc)) (λ nothing e. absurd (cc)) (λ none e. absurd (cc)) (λ p over e. absurd (cc)) (λ p room e. (p, cc, room))
 
   -- why it can be refused
   pub memalign_reasons : (refusal : Refusal) → memalign owner align n content ≡ Err refusal → (refusal ≡ BadAlign) ⊎ ((n ≡ 0) ⊎ ((refusal ≡ NoFit) ⊎ (refusal ≡ TableFull)))
-  memalign_reasons refusal e = elim memalign_cases [
-    | inl bad ↦ inl (cc)
-    | inr (inl nothing) ↦ inr (inl nothing.1)
-    | inr (inr (inl none)) ↦ let fit = none.0 in inr (inr (inl (cc)))
-    | inr (inr (inr (p, inl full))) ↦ let is = full.0 in inr (inr (inr (cc)))
-    | inr (inr (inr (p, inr given))) ↦ let is = given.0 in absurd (cc)
-  ]
+  memalign_reasons refusal =
+      memalign_cases (λ r. r ≡ Err refusal → (refusal ≡ BadAlign) ⊎ ((n ≡ 0) ⊎ ((refusal ≡ NoFit) ⊎ (refusal ≡ TableFull))))
+      (λ e. inl (cc)) (λ nothing e. inr (inl nothing)) (λ none e. inr (inr (inl (cc)))) (λ p over e. inr (inr (inr (cc)))) (λ p room e. absurd (cc))

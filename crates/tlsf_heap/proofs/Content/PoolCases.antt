@@ -1,8 +1,9 @@
--- add_pool, where it is served.
-use Rattle.std.proofs.Common.{◌≡◌, ℕ, ◌<◌, true, false, length, refl, ◌&&◌, inl, inr}
+-- add_pool by its cases.
+use Rattle.std.proofs.Common.{◌≡◌, ℕ, ◌<◌, ◌≤◌, true, false, length, refl, sym, subst, ◌&&◌, inl, inr, Result}
 use Rattle.std.specs.Prelude.{nat_le, Ok, Err}
 use Rattle.std.specs.List.{list_all}
-use Rattle.std.proofs.lemmas.Bool.{cases_Bool, lt-leb, leb-false}
+use Rattle.std.proofs.lemmas.Bool.{cases_Bool, lt-leb, leb-true, leb-false}
+use Rattle.tlsf_heap.specs.declared.refusal.Refusal.{Refusal}
 use Rattle.tlsf_heap.specs.declared.refusal.Refusal.TheVariants.{TableFull, BadPool, PoolsFull}
 use Rattle.tlsf_heap.specs.Content.{Content, used_records}
 use Rattle.tlsf_heap.specs.Pools.{can_be_pool, is_apart, add_pool, with_pool, most_pools}
@@ -19,16 +20,21 @@ module _ {A : Type 0} (base bytes : ℕ) (content : Content A) where
     pub room : used_records content < content.records
     pub is : with_pool base bytes content ≡ new
 
-  pub pool_added : (new : Content A) → add_pool base bytes content ≡ Ok new → IsAdded new
-  pool_added new e = elim (cases_Bool (can_be_pool base bytes && list_all (is_apart base bytes) content.pools)) [
-    | inr bad ↦ let refused : add_pool base bytes content ≡ Err BadPool = rw bad refl in absurd (cc)
+  -- each of its answers
+  pub pool_cases : (P : Result (Content A) Refusal → Type 0) → P (Err BadPool) → P (Err PoolsFull) → (content.records ≤ used_records content → P (Err TableFull))
+      → ((can_be_pool base bytes && list_all (is_apart base bytes) content.pools) ≡ true → length content.pools < most_pools → used_records content < content.records → P (Ok (with_pool base bytes content)))
+      → P (add_pool base bytes content)
+  pool_cases P bad many full added = elim (cases_Bool (can_be_pool base bytes && list_all (is_apart base bytes) content.pools)) [
+    | inr cannot ↦ let is : add_pool base bytes content ≡ Err BadPool = rw cannot refl in subst P (sym is) bad
     | inl can ↦ elim (cases_Bool (nat_le most_pools (length content.pools))) [
-      | inl full ↦ let refused : add_pool base bytes content ≡ Err PoolsFull = rw (can, full) refl in absurd (cc)
+      | inl all ↦ let is : add_pool base bytes content ≡ Err PoolsFull = rw (can, all) refl in subst P (sym is) many
       | inr few ↦ elim (cases_Bool (nat_le content.records (used_records content))) [
-        | inl none_left ↦ let refused : add_pool base bytes content ≡ Err TableFull = rw (can, few, none_left) refl in absurd (cc)
-        | inr room ↦
-            let added : add_pool base bytes content ≡ Ok (with_pool base bytes content) = rw (can, few, room) refl in
-            record { can = can; few = leb-false _ _ few; room = leb-false _ _ room; is = cc }
+        | inl none_left ↦ let is : add_pool base bytes content ≡ Err TableFull = rw (can, few, none_left) refl in subst P (sym is) (full (leb-true _ _ none_left))
+        | inr room ↦ let is : add_pool base bytes content ≡ Ok (with_pool base bytes content) = rw (can, few, room) refl in subst P (sym is) (added can (leb-false _ _ few) (leb-false _ _ room))
       ]
     ]
   ]
+
+  pub pool_added : (new : Content A) → add_pool base bytes content ≡ Ok new → IsAdded new
+  pool_added new =
+      pool_cases (λ r. r ≡ Ok new → IsAdded new) (λ e. absurd (cc)) (λ e. absurd (cc)) (λ full e. absurd (cc)) (λ can few room e. record { can = can; few = few; room = room; is = cc })

@@ -1,16 +1,8 @@
 -- What is known of an answer implies what else is to be known of it.
 use Rattle.std.proofs.Common.{◌≡◌, refl, rules, Result, Ok, Err}
-use Rattle.std.specs.Prelude.{IfOk, IfErr, IsOk}
+use Rattle.std.specs.Prelude.{IfErr, IsOk}
 
 module _ {A E : Type 0} where
-  pub if_ok : (result : Result A E) (P Q : A → Type 0) → ((a : A) → P a → Q a) → IfOk result P → IfOk result Q
-  if_ok (Ok a) P Q f p = f a p
-  if_ok (Err e) P Q f p = tt
-
-  pub if_err : (result : Result A E) (P Q : E → Type 0) → ((e : E) → P e → Q e) → IfErr result P → IfErr result Q
-  if_err (Ok a) P Q f p = tt
-  if_err (Err e) P Q f p = f e p
-
   -- what each error has
   pub each_err : (result : Result A E) (P : E → Type 0) → ((e : E) → result ≡ Err e → P e) → IfErr result P
   each_err (Ok a) P f = tt

@@ -1,5 +1,5 @@
 -- What a refusal of memalign implies of the free blocks and of the number of records.
-use Rattle.std.proofs.Common.{◌≡◌, ◌≢◌, ℕ, ◌<◌, ◌-◌, arith, Err, inl, inr}
+use Rattle.std.proofs.Common.{◌≡◌, ◌≢◌, ℕ, ◌<◌, ◌-◌, arith, Err}
 use Rattle.std.specs.Int.{next_multiple_of}
 use Rattle.tlsf_heap.specs.declared.refusal.Refusal.TheVariants.{NoFit, TableFull, OutOfMemory}
 use Rattle.tlsf_heap.specs.Content.{Content, blocks_of, size_at, used_records}
@@ -14,13 +14,9 @@ module _ {A : Type 0} where
   module _ (owner : A) (align n : ℕ) (content : Content A) (good : IsGood content) where
     -- where memalign finds no fit, no free block is of the class needed for what is asked of the lists
     pub aligned_no_fit : memalign owner align n content ≡ Err NoFit → NoneFitsAligned align n content
-    aligned_no_fit refused m c rounds needed = elim (memalign_cases owner align n content) [
-      | inl other ↦ absurd (cc)
-      | inr (inl zero_size) ↦ let other = zero_size.0 in absurd (cc)
-      | inr (inr (inl none)) ↦ none_picked (size_asked align m) c content good (none.1 m rounds) needed
-      | inr (inr (inr (p, inl full))) ↦ let other = full.0 in absurd (cc)
-      | inr (inr (inr (p, inr given))) ↦ let other = given.0 in absurd (cc)
-    ]
+    aligned_no_fit =
+        memalign_cases owner align n content (λ r. r ≡ Err NoFit → NoneFitsAligned align n content)
+        (λ e. absurd (cc)) (λ nothing e. absurd (cc)) (λ none e m c rounds needed. none_picked (size_asked align m) c content good (none m rounds) needed) (λ p over e. absurd (cc)) (λ p room e. absurd (cc))
 
     -- a split in three makes at most two blocks more
     too_many : (p : IsPicked owner align n content) → content.records < used_records (split_aligned_of owner align n content p) → HasFewRecordsAndOne content
@@ -38,20 +34,10 @@ module _ {A : Type 0} where
 
     -- where it finds the table full, there are few records
     pub aligned_full : memalign owner align n content ≡ Err TableFull → HasFewRecordsAndOne content
-    aligned_full refused = elim (memalign_cases owner align n content) [
-      | inl other ↦ absurd (cc)
-      | inr (inl zero_size) ↦ let other = zero_size.0 in absurd (cc)
-      | inr (inr (inl none)) ↦ let other = none.0 in absurd (cc)
-      | inr (inr (inr (p, inl full))) ↦ too_many p full.1
-      | inr (inr (inr (p, inr given))) ↦ let other = given.0 in absurd (cc)
-    ]
+    aligned_full =
+        memalign_cases owner align n content (λ r. r ≡ Err TableFull → HasFewRecordsAndOne content)
+        (λ e. absurd (cc)) (λ nothing e. absurd (cc)) (λ none e. absurd (cc)) (λ p over e. too_many p over) (λ p room e. absurd (cc))
 
     -- it is never refused for want of memory
     pub aligned_lacks_none : memalign owner align n content ≢ Err OutOfMemory
-    aligned_lacks_none refused = elim (memalign_cases owner align n content) [
-      | inl other ↦ cc
-      | inr (inl zero_size) ↦ let other = zero_size.0 in cc
-      | inr (inr (inl none)) ↦ let other = none.0 in cc
-      | inr (inr (inr (p, inl full))) ↦ let other = full.0 in cc
-      | inr (inr (inr (p, inr given))) ↦ let other = given.0 in cc
-    ]
+    aligned_lacks_none = memalign_cases owner align n content (λ r. r ≢ Err OutOfMemory) (λ e. cc) (λ nothing e. cc) (λ none e. cc) (λ p over e. cc) (λ p room e. cc)

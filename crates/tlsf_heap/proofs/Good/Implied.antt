@@ -1,26 +1,26 @@
 -- A good content's blocks are aligned, disjoint and listed once where they are free; and what a refusal implies of them.
-use Rattle.std.proofs.Common.{◌≡◌, ℕ, zero, suc, ◌+◌, ◌-◌, ◌*◌, ◌%◌, ◌<◌, ◌≤◌, Bool, true, false, cond, ◌&&◌, not, List, [], ◌∷◌, length, get_or, refl, sym, ap, ◌∙◌, arith, count_by, Option, Some, None, drop, option_and_then, inl, inr, length-append}
-use Rattle.std.specs.Prelude.{◌==◌, Result, Ok, Err, nat_lt, nat_le, All, AllPairs, IsTrue}
-use Rattle.std.specs.List.{AllByRecursion, list_all}
-use Rattle.std.proofs.lemmas.Bool.{cases_Bool, cases_lt, eq-eqb, and_parts, leb-true}
+use Rattle.std.proofs.Common.{◌≡◌, ℕ, zero, suc, ◌+◌, ◌-◌, ◌*◌, ◌%◌, ◌<◌, ◌≤◌, Bool, true, false, ◌&&◌, not, List, [], ◌∷◌, length, get_or, refl, sym, ap, ◌∙◌, arith, count_by, Some, None, drop, option_and_then, inl, inr, length-append}
+use Rattle.std.specs.Prelude.{Err, All, AllPairs, IsTrue}
+use Rattle.std.specs.List.{AllByRecursion}
+use Rattle.std.proofs.lemmas.Bool.{cases_lt, eq-eqb}
 use Rattle.std.proofs.lemmas.List.{get_or-drop}
 use Rattle.std.proofs.Math.Seq.{get_or-append_seam}
 use Rattle.std.proofs.lemmas.List.Elements.{All-from_recursion, All-append}
 use Rattle.std.proofs.lemmas.List.Kept.{AllPairs-cons}
 use Rattle.tlsf_class.specs.Classes.{unit, classes, low, class, need}
-use Rattle.tlsf_class.specs.Rounding.{round}
 use Rattle.tlsf_class.proofs.ClassLaws.{class-lt, lt-low_above, need-lt}
-use Rattle.tlsf_heap.specs.declared.refusal.Refusal.{Refusal}
-use Rattle.tlsf_heap.specs.declared.refusal.Refusal.TheVariants.{ZeroSize, NoFit, TableFull, BadPool, PoolsFull}
-use Rattle.tlsf_heap.specs.Content.{Block, Pool, Content, blocks_of, is_free, is_at, size_at, used_records}
+use Rattle.tlsf_heap.specs.declared.refusal.Refusal.TheVariants.{NoFit, TableFull}
+use Rattle.tlsf_heap.specs.Content.{Block, Pool, Content, blocks_of, is_free, is_at, used_records}
 use Rattle.tlsf_heap.specs.Lists.{list_of, first_of_lists, pick}
-use Rattle.tlsf_heap.specs.Malloc.{allocated, malloc_picked, malloc_rounded, malloc}
-use Rattle.tlsf_heap.specs.Pools.{most_pools, add_pool, with_pool, can_be_pool, is_apart}
+use Rattle.tlsf_heap.specs.Malloc.{malloc}
+use Rattle.tlsf_heap.specs.Pools.{add_pool}
 use Rattle.tlsf_heap.specs.Good.{Covers, NoFreeNeighbours, AreGoodPools, IsGood, times, is_listed}
 use Rattle.tlsf_heap.specs.Implied.{IsAligned, AreDisjoint, HasAlignedBlocks, HasDisjointBlocks, ListsFreeBlocks, ListsNothingElse, AreFreeBelow, NoneFits, HasFewRecords}
 use Rattle.tlsf_heap.proofs.Counts.{count-cons, count-append, one_if}
 use Rattle.tlsf_heap.proofs.Content.Blocks.{Ascends, Ascends-higher, Ascends-pools, found_listed}
 use Rattle.tlsf_heap.proofs.Meaning.FreeFirst.{listed_once}
+use Rattle.tlsf_heap.proofs.Content.MallocCases.{malloc_cases}
+use Rattle.tlsf_heap.proofs.Content.PoolCases.{pool_cases}
 
 -- lists of which none is the first that isn't empty are empty
 no_first : (lists : List (List ℕ)) → first_of_lists lists ≡ None → (k : ℕ) → list_of k lists ≡ []
@@ -73,29 +73,14 @@ module _ {A : Type 0} where
       (below_class c (blocks_of content.pools) (need-lt m c is)
       (λ k place above below. sym (good.listed k place below) ∙ ap (times place) (pick_none m c content.lists none is k above)))
 
-  picked_no_fit : (owner : A) (m c : ℕ) (content : Content A) (place : Option ℕ) → pick m content.lists ≡ place → IsGood content → malloc_picked owner m place content ≡ Err NoFit → need m ≡ Some c
-      → AreFreeBelow (low c) (blocks_of content.pools)
-  picked_no_fit owner m c content None is good refused needed = none_picked m c content good is needed
-  picked_no_fit owner m c content (Some place) is good refused needed = absurd (never (nat_lt m size && nat_le content.records (used_records content)) refused)
-    where
-      size : ℕ
-      size = size_at place (blocks_of content.pools)
-
-      never : (b : Bool) → cond {A = Result (ℕ × Content A) Refusal} b (Err TableFull) (Ok (place, allocated owner place m size content)) ≡ Err NoFit → ⊥
-      never true e = cc
-      never false e = cc
-
   -- where malloc finds no fit, no free block is of the class needed
   pub no_fit : (owner : A) (n : ℕ) (content : Content A) → IsGood content → malloc owner n content ≡ Err NoFit → NoneFits n content
-  no_fit owner n content good refused m c rounds needed = elim (cases_Bool (n == 0)) [
-    | inl zero_bytes ↦
-        let other : malloc owner n content ≡ Err ZeroSize = rw zero_bytes refl in
-        absurd (cc)
-    | inr some_bytes ↦
-        let asked : malloc owner n content ≡ malloc_rounded owner (round n) content = rw some_bytes refl in
-        let picked : malloc_rounded owner (round n) content ≡ malloc_picked owner m (pick m content.lists) content = ap (λ r. malloc_rounded owner r content) rounds in
-        picked_no_fit owner m c content (pick m content.lists) refl good (sym picked ∙ sym asked ∙ refused) needed
-  ]
+  no_fit owner n content good =
+      malloc_cases owner content n (λ r. r ≡ Err NoFit → NoneFits n content)
+      (λ nothing e. absurd (cc))
+      (λ some none e m c rounds needed. none_picked m c content good (none m rounds) needed)
+      (λ p full e. absurd (cc))
+      (λ p e. absurd (cc))
 
   -- each block begins at or above the place from which the blocks ascend
   begins_from : (from : ℕ) (blocks : List (Block A)) → Ascends from blocks → AllByRecursion (λ block. from ≤ block.place) blocks
@@ -186,42 +171,20 @@ module _ {A : Type 0} where
   full : (content : Content A) → IsGood content → content.records ≤ used_records content → HasFewRecords content
   full content good used = omega (arith, used, few_blocks content.pools 0 good.pools_good)
 
-  picked_full : (owner : A) (m : ℕ) (content : Content A) (place : Option ℕ) → IsGood content → malloc_picked owner m place content ≡ Err TableFull → HasFewRecords content
-  picked_full owner m content None good refused = absurd (cc)
-  picked_full owner m content (Some place) good refused = full content good (leb-true _ _ (and_parts _ _ (of (nat_lt m size && nat_le content.records (used_records content)) refused)).1)
-    where
-      size : ℕ
-      size = size_at place (blocks_of content.pools)
-
-      of : (b : Bool) → cond {A = Result (ℕ × Content A) Refusal} b (Err TableFull) (Ok (place, allocated owner place m size content)) ≡ Err TableFull → b ≡ true
-      of true e = refl
-      of false e = absurd (cc)
-
   -- where malloc finds the table full, there are few records
   pub malloc_full : (owner : A) (n : ℕ) (content : Content A) → IsGood content → malloc owner n content ≡ Err TableFull → HasFewRecords content
-  malloc_full owner n content good refused = elim (cases_Bool (n == 0)) [
-    | inl zero_bytes ↦
-        let other : malloc owner n content ≡ Err ZeroSize = rw zero_bytes refl in
-        absurd (cc)
-    | inr some_bytes ↦
-        let asked : malloc owner n content ≡ malloc_rounded owner (round n) content = rw some_bytes refl in
-        of (round n) (sym asked ∙ refused)
-  ]
-    where
-      of : (m : Option ℕ) → malloc_rounded owner m content ≡ Err TableFull → HasFewRecords content
-      of None e = absurd (cc)
-      of (Some m) e = picked_full owner m content (pick m content.lists) good e
+  malloc_full owner n content good =
+      malloc_cases owner content n (λ r. r ≡ Err TableFull → HasFewRecords content)
+      (λ nothing e. absurd (cc))
+      (λ some none e. absurd (cc))
+      (λ p used e. full content good used)
+      (λ p e. absurd (cc))
 
   -- and add_pool alike
   pub add_pool_full : (base bytes : ℕ) (content : Content A) → IsGood content → add_pool base bytes content ≡ Err TableFull → HasFewRecords content
-  add_pool_full base bytes content good refused =
-      elim (cases_Bool (can_be_pool base bytes && list_all (is_apart base bytes) content.pools)) [
-        | inr bad ↦ let other : add_pool base bytes content ≡ Err BadPool = rw bad refl in absurd (cc)
-        | inl can ↦ elim (cases_Bool (nat_le most_pools (length content.pools))) [
-          | inl full_pools ↦ let other : add_pool base bytes content ≡ Err PoolsFull = rw (can, full_pools) refl in absurd (cc)
-          | inr few ↦ elim (cases_Bool (nat_le content.records (used_records content))) [
-            | inl none_left ↦ full content good (leb-true _ _ none_left)
-            | inr room ↦ let added : add_pool base bytes content ≡ Ok (with_pool base bytes content) = rw (can, few, room) refl in absurd (cc)
-          ]
-        ]
-      ]
+  add_pool_full base bytes content good =
+      pool_cases base bytes content (λ r. r ≡ Err TableFull → HasFewRecords content)
+      (λ e. absurd (cc))
+      (λ e. absurd (cc))
+      (λ used e. full content good used)
+      (λ can few room e. absurd (cc))

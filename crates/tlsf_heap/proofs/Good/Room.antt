@@ -7,7 +7,7 @@ use Rattle.tlsf_class.specs.Classes.{unit, low}
 use Rattle.tlsf_class.specs.Rounding.{round}
 use Rattle.tlsf_class.proofs.LowestSizes.{low-unit}
 use Rattle.tlsf_heap.specs.declared.refusal.Refusal.{Refusal}
-use Rattle.tlsf_heap.specs.declared.refusal.Refusal.TheVariants.{NoFit, TableFull, BadPointer, BadAlign}
+use Rattle.tlsf_heap.specs.declared.refusal.Refusal.TheVariants.{BadPointer, BadAlign}
 use Rattle.tlsf_heap.specs.Content.{Block, Pool, Content, blocks_of, is_free}
 use Rattle.tlsf_heap.specs.Malloc.{malloc}
 use Rattle.tlsf_heap.specs.Memalign.{size_asked, memalign}
@@ -117,39 +117,24 @@ module _ {A : Type 0} where
   one_fits : (asked : ℕ → ℕ) (rests n : ℕ) (content : Content A) → IsGood content → (room : HasRoomFor asked rests n content) → AreFreeBelow (low room.c) (blocks_of content.pools) → ⊥
   one_fits asked rests n content good room below = omega (arith, few_bytes room.c content good below, room.bytes)
 
-  -- so malloc finds one
-  pub room_fits : (owner : A) (n : ℕ) (content : Content A) → IsGood content → HasRoom n content → malloc owner n content ≡ Err NoFit → ⊥
-  room_fits owner n content good room refused = one_fits (λ m. m) 1 n content good room (no_fit owner n content good refused room.m room.c room.rounds room.needed)
-
-  -- and a record
-  pub room_records : (owner : A) (n : ℕ) (content : Content A) → IsGood content → HasRoom n content → malloc owner n content ≡ Err TableFull → ⊥
-  room_records owner n content good room refused = omega (arith, malloc_full owner n content good refused, room.records)
-
   some_bytes : (asked : ℕ → ℕ) (rests n : ℕ) (content : Content A) → HasRoomFor asked rests n content → n ≢ 0
   some_bytes asked rests n content room nothing = let none : round 0 ≡ Some room.m = subst (λ k. round k ≡ Some room.m) nothing room.rounds in absurd (cc)
 
-  -- and it has no other reason to refuse
+  -- so malloc finds one, and a record, and it has no other reason to refuse
   pub room_serves : (owner : A) (n : ℕ) (content : Content A) (refusal : Refusal) → IsGood content → HasRoom n content → malloc owner n content ≡ Err refusal → ⊥
   room_serves owner n content refusal good room refused = elim (malloc_reasons owner n content refusal refused) [
     | inl nothing ↦ some_bytes (λ m. m) 1 n content room nothing
-    | inr (inl fit) ↦ room_fits owner n content good room (refused ∙ ap (λ why. Err why) fit)
-    | inr (inr full) ↦ room_records owner n content good room (refused ∙ ap (λ why. Err why) full)
+    | inr (inl fit) ↦ one_fits (λ m. m) 1 n content good room (no_fit owner n content good (refused ∙ ap (λ why. Err why) fit) room.m room.c room.rounds room.needed)
+    | inr (inr full) ↦ omega (arith, malloc_full owner n content good (refused ∙ ap (λ why. Err why) full), room.records)
   ]
 
   -- memalign finds both, too, and refuses a bad alignment alone
-  pub aligned_room_fits : (owner : A) (align n : ℕ) (content : Content A) → IsGood content → HasRoomAligned align n content → memalign owner align n content ≡ Err NoFit → ⊥
-  aligned_room_fits owner align n content good room refused =
-      one_fits (size_asked align) 2 n content good room (aligned_no_fit owner align n content good refused room.m room.c room.rounds room.needed)
-
-  pub aligned_room_records : (owner : A) (align n : ℕ) (content : Content A) → IsGood content → HasRoomAligned align n content → memalign owner align n content ≡ Err TableFull → ⊥
-  aligned_room_records owner align n content good room refused = omega (arith, aligned_full owner align n content good refused, room.records)
-
   pub aligned_room_serves : (owner : A) (align n : ℕ) (content : Content A) (refusal : Refusal) → IsGood content → HasRoomAligned align n content → memalign owner align n content ≡ Err refusal → refusal ≡ BadAlign
   aligned_room_serves owner align n content refusal good room refused = elim (memalign_reasons owner align n content refusal refused) [
     | inl bad ↦ bad
     | inr (inl nothing) ↦ absurd (some_bytes (size_asked align) 2 n content room nothing)
-    | inr (inr (inl fit)) ↦ absurd (aligned_room_fits owner align n content good room (refused ∙ ap (λ why. Err why) fit))
-    | inr (inr (inr full)) ↦ absurd (aligned_room_records owner align n content good room (refused ∙ ap (λ why. Err why) full))
+    | inr (inr (inl fit)) ↦ absurd (one_fits (size_asked align) 2 n content good room (aligned_no_fit owner align n content good (refused ∙ ap (λ why. Err why) fit) room.m room.c room.rounds room.needed))
+    | inr (inr (inr full)) ↦ absurd (omega (arith, aligned_full owner align n content good (refused ∙ ap (λ why. Err why) full), room.records))
   ]
 
   -- realloc refuses a bad pointer alone

@@ -33,16 +33,19 @@ use Rattle.tlsf_heap.proofs.Good.MallocIsGood.{malloc_is_good, add_pool_is_good,
 use Rattle.tlsf_heap.proofs.Good.Realloc.{realloc_is_good}
 use Rattle.tlsf_heap.proofs.Meaning.AlignedIsGood.{memalign_is_good}
 use Rattle.tlsf_heap.proofs.Meaning.FreedIsGood.{freed_is_good}
-use Rattle.tlsf_heap.proofs.Good.Room.{room_fits, room_records, aligned_room_fits, aligned_room_records}
+use Rattle.tlsf_heap.proofs.Good.Room.{room_serves, aligned_room_serves}
 use Rattle.tlsf_heap.proofs.Content.PoolCases.{pool_added}
 
 -- a refusal for want of a block, or of a record
 abbrev IsWant : Refusal → Type 0
 IsWant why = (why ≡ NoFit) ⊎ (why ≡ TableFull)
 
-not_bad : (why : Refusal) → IsWant why → why ≡ BadPointer → ⊥
-not_bad why (inl is) bad = cc
-not_bad why (inr is) bad = cc
+not_other : (why other : Refusal) → (NoFit ≢ other) → (TableFull ≢ other) → IsWant why → why ≢ other
+not_other why other fit full (inl is) e = fit (sym is ∙ e)
+not_other why other fit full (inr is) e = full (sym is ∙ e)
+
+not_bad : (why : Refusal) → IsWant why → why ≢ BadPointer
+not_bad why = not_other why BadPointer (λ e. cc) (λ e. cc)
 
 -- what every request but those of pools leaves as it was
 record Keeps {A : Type 0} (old new : Content A) : Type 0 where
@@ -175,22 +178,15 @@ module _ (blocks bytes size : ℕ) where
   AllWithin asked n content = n ≢ 0 → TakesWithin blocks bytes size asked n content
 
   malloc_served : (why : Refusal) → IsWant why → (owner n : ℕ) (content : Content ℕ) → IsEnough content → AllWithin (λ m. m) n content → malloc owner n content ≡ Err why → ⊥
-  malloc_served why (inl is) owner n content enough within refused =
-      let fit = refused ∙ ap Err is in
-      room_fits owner n content enough.good (room_within blocks bytes size (λ m. m) 1 n content (omega arith) enough.large (within (some_bytes owner n content NoFit (λ e. cc) fit))) fit
-  malloc_served why (inr is) owner n content enough within refused =
-      let full = refused ∙ ap Err is in
-      room_records owner n content enough.good (room_within blocks bytes size (λ m. m) 1 n content (omega arith) enough.large (within (some_bytes owner n content TableFull (λ e. cc) full))) full
+  malloc_served why want owner n content enough within refused =
+      let some = some_bytes owner n content why (not_other why ZeroSize (λ e. cc) (λ e. cc) want) refused in
+      room_serves owner n content why enough.good (room_within blocks bytes size (λ m. m) 1 n content (omega arith) enough.large (within some)) refused
 
   memalign_served : (why : Refusal) → IsWant why → (owner align n : ℕ) (content : Content ℕ) → IsEnough content → AllWithin (size_asked align) n content → memalign owner align n content ≡ Err why → ⊥
-  memalign_served why (inl is) owner align n content enough within refused =
-      let fit = refused ∙ ap Err is in
-      let some = some_aligned_bytes owner align n content NoFit (λ e. cc) (λ e. cc) fit in
-      aligned_room_fits owner align n content enough.good (room_within blocks bytes size (size_asked align) 2 n content (omega arith) enough.large (within some)) fit
-  memalign_served why (inr is) owner align n content enough within refused =
-      let full = refused ∙ ap Err is in
-      let some = some_aligned_bytes owner align n content TableFull (λ e. cc) (λ e. cc) full in
-      aligned_room_records owner align n content enough.good (room_within blocks bytes size (size_asked align) 2 n content (omega arith) enough.large (within some)) full
+  memalign_served why want owner align n content enough within refused =
+      let aligned = not_other why BadAlign (λ e. cc) (λ e. cc) want in
+      let some = some_aligned_bytes owner align n content why aligned (not_other why ZeroSize (λ e. cc) (λ e. cc) want) refused in
+      aligned (aligned_room_serves owner align n content why enough.good (room_within blocks bytes size (size_asked align) 2 n content (omega arith) enough.large (within some)) refused)
 
   -- a realloc asks for a block, or names no live block
   realloc_served : (why : Refusal) → IsWant why → (owner : ℕ) (pointer : Option (ℕ × ℕ)) (n : ℕ) (content : Content ℕ) → IsEnough content → AllWithin (λ m. m) n content → realloc (λ a b. a == b) owner pointer n content ≡ Err why → ⊥
@@ -221,45 +217,28 @@ module _ (blocks bytes size : ℕ) where
   does_enough : (request : Request) (old new : Content ℕ) → IsEnough old → IsWithin blocks bytes size request old → Does request old new → IsEnough new
   does_enough (AddPool base pool) old new enough within does = absurd within
   does_enough (RemovePool base) old new enough within does = absurd within
-  does_enough (Malloc n) old new enough within does = absurd does
-  does_enough (Memalign align n) old new enough within does = absurd does
   does_enough (Free pointer) old new enough within does =
       let gave = free_gave (λ slot. slot == pointer.slot) pointer.place old new does in
       subst IsEnough gave.1 (still_enough old (after_free pointer.place old) enough (freed_is_good (λ slot. slot == pointer.slot) pointer.place old enough.good gave.0) (freed_keeps pointer.place old))
-  does_enough (Realloc pointer n) old new enough within does = absurd does
-  does_enough (BlockSize pointer) old new enough within does = absurd does
+  does_enough _ old new enough within does = absurd does
 
   gives_enough : (request : Request) (pointer : Pointer) (old new : Content ℕ) → IsEnough old → Gives request pointer old new → IsEnough new
-  gives_enough (AddPool base pool) pointer old new enough gives = absurd gives
-  gives_enough (RemovePool base) pointer old new enough gives = absurd gives
   gives_enough (Malloc n) pointer old new enough gives =
       still_enough old new enough (malloc_is_good pointer.slot n old (pointer.place, new) enough.good gives.ok) (malloc_keeps pointer.slot n old (pointer.place, new) gives.ok)
   gives_enough (Memalign align n) pointer old new enough gives =
       still_enough old new enough (memalign_is_good pointer.slot align n old (pointer.place, new) enough.good gives.ok) (memalign_keeps pointer.slot align n old (pointer.place, new) gives.ok)
-  gives_enough (Free freed) pointer old new enough gives = absurd gives
-  gives_enough (Realloc of n) pointer old new enough gives = absurd gives
-  gives_enough (BlockSize of) pointer old new enough gives = absurd gives
+  gives_enough _ pointer old new enough gives = absurd gives
 
   moves_enough : (request : Request) (given : Option Pointer) (old new : Content ℕ) → IsEnough old → Moves request given old new → IsEnough new
-  moves_enough (AddPool base pool) given old new enough moves = absurd moves
-  moves_enough (RemovePool base) given old new enough moves = absurd moves
-  moves_enough (Malloc n) given old new enough moves = absurd moves
-  moves_enough (Memalign align n) given old new enough moves = absurd moves
-  moves_enough (Free pointer) given old new enough moves = absurd moves
   moves_enough (Realloc pointer n) given old new enough moves =
       still_enough old new enough
       (realloc_is_good (λ a b. a == b) (slot_of given) (place_and_slot pointer) n old (place_and_slot given, new) enough.good moves.ok)
       (realloc_keeps (λ a b. a == b) (slot_of given) (place_and_slot pointer) n old (place_and_slot given, new) moves.ok)
-  moves_enough (BlockSize pointer) given old new enough moves = absurd moves
+  moves_enough _ given old new enough moves = absurd moves
 
   tells_enough : (request : Request) (told : ℕ) (old new : Content ℕ) → IsEnough old → Tells request told old new → IsEnough new
-  tells_enough (AddPool base pool) told old new enough tells = absurd tells
-  tells_enough (RemovePool base) told old new enough tells = absurd tells
-  tells_enough (Malloc n) told old new enough tells = absurd tells
-  tells_enough (Memalign align n) told old new enough tells = absurd tells
-  tells_enough (Free pointer) told old new enough tells = absurd tells
-  tells_enough (Realloc pointer n) told old new enough tells = absurd tells
   tells_enough (BlockSize pointer) told old new enough tells = subst IsEnough (sym tells.1) enough
+  tells_enough _ told old new enough tells = absurd tells
 
   step_enough : (lacks : Type 0) (request : Request) (answer : Answer) (old new : Content ℕ) → IsEnough old → IsWithin blocks bytes size request old → Step lacks request answer old new → IsEnough new
   step_enough lacks request Done old new enough within step = does_enough request old new enough within step

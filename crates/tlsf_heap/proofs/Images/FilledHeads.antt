@@ -1,27 +1,16 @@
 -- Heads that enter cells one after the other.
-use Rattle.std.proofs.Common.{◌≡◌, ℕ, ◌+◌, ◌<◌, ◌≤◌, ◌/◌, List, length, sym, ◌∙◌, subst, arith, Option, Some, None, inl, inr, set}
+use Rattle.std.proofs.Common.{◌≡◌, ℕ, ◌+◌, ◌<◌, ◌≤◌, ◌/◌, List, length, refl, sym, ◌∙◌, subst, arith, Option, Some, None, inl, inr, set}
 use Rattle.std.proofs.lemmas.Bool.{cases_lt}
 use Rattle.std.proofs.lemmas.List.{ext_get_or, get_or-set_same, get_or-set_other, length-set, get_or-replicate, length-replicate}
 use Rattle.tlsf_class.specs.Classes.{classes, steps}
 use Rattle.tlsf_store.specs.Cells.{Cells, head_at, with_head, empty_cells}
 use Rattle.tlsf_store.specs.declared.records.Record.{Record}
 use Rattle.tlsf_heap.specs.Inner.Edits.{with_class_bit}
-use Rattle.tlsf_heap.specs.Inner.Loading.{HasNoHeads, HasHeadsBelow, with_records}
+use Rattle.tlsf_heap.specs.Inner.Loading.{HasHeadsBelow, with_records}
 use Rattle.tlsf_heap.proofs.Bits.Edits.{bits_set}
 use Rattle.tlsf_heap.proofs.Inner.Empty.{empty_stands}
 
 module _ (heads : List (Option ℕ)) (old : Cells) where
-  pub heads_none : HasNoHeads old → HasHeadsBelow heads old 0 old
-  heads_none none = record {
-    records = λ i. old.records;
-    pools = λ i. old.pools;
-    heads_count = none.heads_count;
-    words_count = none.words_count;
-    bitmaps = none.bitmaps;
-    done = λ k below. absurd (omega (arith, below));
-    left = λ k above within. none.none k within;
-  }
-
   module _ (number : ℕ) (cells : Cells) (within : number < classes) (so_far : HasHeadsBelow heads old number cells) where
     -- one head more
     pub heads_on : (first : ℕ) → head_at heads number ≡ Some first → HasHeadsBelow heads old (number + 1) (with_class_bit number (with_head cells number (Some first)))
@@ -62,13 +51,16 @@ module _ (heads : List (Option ℕ)) (old : Cells) where
   heads_all number cells all count so_far = ext_get_or None cells.heads heads (omega (arith, so_far.heads_count, count)) (λ k within. so_far.done k (omega (arith, within, all, so_far.heads_count)))
 
 -- an empty store has none
-pub none_at_first : (count : ℕ) (records others : List Record) → HasNoHeads (with_records records (with_records others (empty_cells count)))
-none_at_first count records others =
+pub none_at_first : (count : ℕ) (records others : List Record) (heads : List (Option ℕ)) → let cells = with_records records (with_records others (empty_cells count)) in HasHeadsBelow heads cells 0 cells
+none_at_first count records others heads =
     let index = (empty_stands count).represented.index in
     let no_head : Option ℕ = None in
     record {
-      none = λ class within. get_or-replicate classes class None None within;
+      records = refl;
+      pools = refl;
       heads_count = length-replicate classes no_head;
       words_count = index.words_count;
       bitmaps = index.bitmaps;
+      done = λ k below. absurd (omega (arith, below));
+      left = λ k above within. get_or-replicate classes k None None within;
     }

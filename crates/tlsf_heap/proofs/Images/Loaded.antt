@@ -11,15 +11,14 @@ use Rattle.tlsf_store.specs.declared.pools.Pool.{Pool as StoredPool}
 use Rattle.tlsf_store.specs.Records.{blank, record_at}
 use Rattle.tlsf_store.specs.Cells.{Cells, most_pools}
 use Rattle.tlsf_heap.specs.declared.image.rule.Rule.TheVariants.{Magic, Length, Pools, UnusedPools, States}
-use Rattle.tlsf_heap.specs.Images.Image.{two_at, count_at, pools_at, size_word, pool_in as pool_of_bytes, head_in, record_in, parts_in}
+use Rattle.tlsf_heap.specs.Images.Image.{two_at, count_at, pools_at, size_word, pool_in as pool_of_bytes, head_in, record_in, Parts, parts_in}
 use Rattle.tlsf_heap.specs.Images.Rules.{has_magic, has_length, has_pools, has_unused_pools, has_states, are_pools, first_of, rules_of_parts, first_broken}
 use Rattle.tlsf_heap.proofs.Images.UnbrokenRules.{holds_first}
-use Rattle.tlsf_heap.specs.Images.Described.{described, parts_of}
+use Rattle.tlsf_heap.specs.Images.Described.{described}
 use Rattle.tlsf_heap.specs.Inner.Entries.{entries_of, padded}
 use Rattle.tlsf_heap.specs.Inner.Following.{content_from, content_of, Stands}
-use Rattle.tlsf_heap.specs.Inner.Imaged.{AreImaged, AreLoaded}
+use Rattle.tlsf_heap.specs.Inner.Loading.{HoldsParts}
 use Rattle.tlsf_heap.proofs.Images.Standing.{imaged_stand}
-use Rattle.tlsf_heap.proofs.Images.Alike.{alike_stand, alike_content}
 use Rattle.tlsf_heap.proofs.Inner.EntryLists.{entries_of-none}
 use Rattle.tlsf_heap.proofs.Images.ImageLemmas.{records_count}
 
@@ -85,31 +84,28 @@ module _ (bytes : List ℕ) where
     pub ordered : are_pools (length (parts_in bytes).records) 0 (entries_of (parts_in bytes).pools) ≡ true
     ordered = ap (λ count. are_pools count 0 (entries_of (parts_in bytes).pools)) (records_count bytes) ∙ (and_parts (are_pools (two_at count_at bytes) 0 (entries_of (parts_in bytes).pools)) _ pools_hold.0).0
 
-    module _ (cells : Cells) (loaded : AreLoaded bytes cells) where
-      -- the cells with the records as they are read
-      abbrev as_read : Cells
-      as_read = record cells { records = (parts_in bytes).records }
+    module _ (cells : Cells) (loaded : HoldsParts (parts_in bytes) cells) where
+      pools : cells.pools ≡ (parts_in bytes).pools
+      pools = ap (λ (p : Parts). p.pools) loaded.held
 
-      imaged : AreImaged as_read
-      imaged =
-          let parts : parts_of as_read ≡ parts_in bytes = λ i. record { pools = loaded.pools i; heads = loaded.heads i; records = (parts_in bytes).records } in
-          record {
-            unbroken = ap (λ p. first_of (rules_of_parts p)) parts ∙ parts_hold;
-            ordered = ap (λ ps. are_pools (length (parts_in bytes).records) 0 (entries_of ps)) loaded.pools ∙ ordered;
-            packed = loaded.pools ∙ packed_from (pool_of_bytes bytes) (two_at pools_at bytes) 0 most_pools ∙ ap (λ ps. padded (entries_of ps)) (sym loaded.pools);
-            pools_count = ap length loaded.pools ∙ length-map-range_with_len (entry (pool_of_bytes bytes) (two_at pools_at bytes)) 0 most_pools;
-            heads_count = ap length loaded.heads ∙ length-map-range_with_len (head_in bytes) 0 classes;
-            words_count = loaded.words_count;
-            bitmaps = loaded.bitmaps;
-            in_units = in_units;
-          }
+      heads : cells.heads ≡ (parts_in bytes).heads
+      heads = ap (λ (p : Parts). p.heads) loaded.held
+
+      records : cells.records ≡ (parts_in bytes).records
+      records = ap (λ (p : Parts). p.records) loaded.held
 
       pub loaded_stand : Stands cells
-      loaded_stand = alike_stand as_read cells.records loaded.alike (imaged_stand as_read imaged)
-
-      as_described : content_of as_read ≡ described bytes
-      unfolding content_of
-      as_described = λ i. content_from (parts_in bytes).records (entries_of (loaded.pools i)) (loaded.heads i)
+      loaded_stand = imaged_stand cells (record {
+        unbroken = ap (λ p. first_of (rules_of_parts p)) loaded.held ∙ parts_hold;
+        ordered = (λ i. are_pools (length (records i)) 0 (entries_of (pools i))) ∙ ordered;
+        packed = pools ∙ packed_from (pool_of_bytes bytes) (two_at pools_at bytes) 0 most_pools ∙ ap (λ ps. padded (entries_of ps)) (sym pools);
+        pools_count = ap length pools ∙ length-map-range_with_len (entry (pool_of_bytes bytes) (two_at pools_at bytes)) 0 most_pools;
+        heads_count = ap length heads ∙ length-map-range_with_len (head_in bytes) 0 classes;
+        words_count = loaded.words_count;
+        bitmaps = loaded.bitmaps;
+        in_units = λ slot. ap (λ rs. (record_at rs slot).size % unit) records ∙ in_units slot;
+      })
 
       pub loaded_content : content_of cells ≡ described bytes
-      loaded_content = alike_content as_read cells.records loaded.alike (imaged_stand as_read imaged) ∙ as_described
+      unfolding content_of
+      loaded_content = λ i. content_from (records i) (entries_of (pools i)) (heads i)

@@ -2,7 +2,7 @@
 use Rattle.std.proofs.Common.{◌≡◌, ℕ, zero, suc, ◌+◌, ◌-◌, ◌<◌, ◌≤◌, Bool, true, false, ◌&&◌, List, [], ◌∷◌, map, Option, Some, None, refl, sym, ap, ◌∙◌, subst, arith, ◌⊎◌, inl, inr}
 use Rattle.std.specs.Prelude.{nat_lt, if◌then◌else◌}
 use Rattle.std.specs.List.{list_all, range_with_len}
-use Rattle.std.proofs.lemmas.Bool.{lt-ltb, le-ltb}
+use Rattle.std.proofs.lemmas.Bool.{lt-ltb, le-ltb, and_right}
 use Rattle.tlsf_store.specs.declared.pools.Pool.{Pool}
 use Rattle.tlsf_store.specs.Cells.{most_pools}
 use Rattle.tlsf_heap.specs.Images.Image.{two_at, count_at, pools_at, entry_at, are_zero, pool_in, parts_in}
@@ -41,21 +41,6 @@ module _ (bytes : List ℕ) where
   are_pools_from place number end =
       are_pools (two_at count_at bytes) place (map (pool_in bytes) (range_with_len number (end - number))) && list_all (λ number. are_zero (entry_at number + 10) 2 bytes) (range_with_len number (end - number))
 
-  drop_both : (u v a b : Bool) → u ≡ true → v ≡ true → ((u && a) && (v && b)) ≡ (a && b)
-  drop_both true true a b p q = refl
-  drop_both true false a b p q = absurd (cc)
-  drop_both false v a b p q = absurd (cc)
-
-  drop_first : (u v a b : Bool) → u ≡ false → ((u && a) && (v && b)) ≡ false
-  drop_first false v a b p = refl
-  drop_first true v a b p = absurd (cc)
-
-  drop_second : (u v a b : Bool) → v ≡ false → ((u && a) && (v && b)) ≡ false
-  drop_second u true a b p = absurd (cc)
-  drop_second false false a b p = refl
-  drop_second true false true b p = refl
-  drop_second true false false b p = refl
-
   module _ (place number end : ℕ) where
     abbrev first_is : Bool
     first_is = is_pool (two_at count_at bytes) place (pool_in bytes number)
@@ -76,11 +61,11 @@ module _ (bytes : List ℕ) where
         subst P one refl
 
     pub pools_on : number < end → first_is ≡ true → zeros_are ≡ true → are_pools_from place number end ≡ are_pools_from ((pool_in bytes number).base + (pool_in bytes number).bytes) (number + 1) end
-    pools_on within is zeros = unfolded within ∙ drop_both first_is zeros_are more_are more_zeros is zeros
+    pools_on within is zeros = unfolded within ∙ ap (λ u. (u && more_are) && (zeros_are && more_zeros)) is ∙ ap (λ v. more_are && (v && more_zeros)) zeros
 
     pub pools_off : number < end → (first_is ≡ false) ⊎ (zeros_are ≡ false) → are_pools_from place number end ≡ false
-    pools_off within (inl off) = unfolded within ∙ drop_first first_is zeros_are more_are more_zeros off
-    pools_off within (inr off) = unfolded within ∙ drop_second first_is zeros_are more_are more_zeros off
+    pools_off within (inl off) = unfolded within ∙ ap (λ u. (u && more_are) && (zeros_are && more_zeros)) off
+    pools_off within (inr off) = unfolded within ∙ ap (λ v. (first_is && more_are) && (v && more_zeros)) off ∙ and_right (first_is && more_are) false refl
 
     pub pools_end : end ≤ number → are_pools_from place number end ≡ true
     pools_end all =

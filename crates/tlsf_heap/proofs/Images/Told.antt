@@ -8,17 +8,8 @@ use Rattle.tlsf_store.specs.declared.records.Record.{Record}
 use Rattle.tlsf_store.specs.Records.{blank, record_at, is_free_state}
 use Rattle.tlsf_heap.specs.Images.Rules.{is_used}
 use Rattle.tlsf_heap.specs.Images.Told.{told_in, told}
-use Rattle.tlsf_heap.specs.Inner.Represents.{pool_view, list_view, pool_views, list_views}
+use Rattle.tlsf_heap.specs.Inner.Represents.{pool_view, list_view}
 use Rattle.tlsf_heap.specs.Inner.Imaged.{AreAlike, LiveAlone}
-
--- equal records are alike
-pub alike_same : (records others : List Record) → records ≡ others → AreAlike records others
-alike_same records others same = record {
-  count = ap length same;
-  states = λ slot. ap (λ rs. (record_at rs slot).state) same;
-  in_pool = λ slot used. ap (λ rs. pool_views rs slot) same;
-  in_list = λ slot free. ap (λ rs. list_views rs slot) same;
-}
 
 told_state : (state : State) (r : Record) → r.state ≡ state → (told_in state r).state ≡ state
 told_state Vacant r is = refl

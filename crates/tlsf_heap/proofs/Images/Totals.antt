@@ -1,6 +1,6 @@
 -- How many blocks stand on chains and in lists, and whether those are all that there are.
 use Rattle.std.proofs.Common.{◌≡◌, ℕ, ◌+◌, ◌<◌, ◌≤◌, Bool, true, false, not, ◌&&◌, ◌||◌, eqb, List, [], ◌∷◌, length, refl, sym, ap, ◌∙◌, subst, arith, count_by, Option, Some, None, inl, inr}
-use Rattle.std.specs.Prelude.{◌==◌, if◌then◌else◌}
+use Rattle.std.specs.Prelude.{⊤, ◌==◌, if◌then◌else◌}
 use Rattle.std.specs.List.{list_all, list_any, flat_map, range_with_len}
 use Rattle.std.proofs.lemmas.Bool.{cases_Bool, cases_lt, and_parts, or_right, eqb-true, eq-eqb, leb-true, ltb-true, both_ways}
 use Rattle.std.proofs.lemmas.List.{get_or_past}
@@ -103,6 +103,31 @@ all_among test (other ∷ slots) all slot some = elim (cases_Bool (eqb other slo
   | inr apart ↦ all_among test slots (all_rest test other slots all) slot (omega (arith, some, times-cons slot other slots, ap one_if apart))
 ]
 
+-- slots of items in bands of a key: each item's stand once, in its band, and those of later items above it
+module _ {X : Type 0} (slots : X → List ℕ) (key : ℕ → ℕ) where
+  abbrev AreBanded : ℕ → List X → Type 0
+  AreBanded from [] = ⊤
+  AreBanded from (x ∷ xs) = (to : ℕ) × ((slot : ℕ) → times slot (slots x) ≤ 1) × ((slot : ℕ) → 1 ≤ times slot (slots x) → (from ≤ key slot) × (key slot < to)) × (from ≤ to) × AreBanded to xs
+
+  banded_above : (from : ℕ) (xs : List X) → AreBanded from xs → (slot : ℕ) → 1 ≤ times slot (flat_map slots xs) → from ≤ key slot
+  banded_above from [] banded slot some = absurd (omega (arith, some))
+  banded_above from (x ∷ xs) banded slot some = elim (cases_lt 0 (times slot (slots x))) [
+    | inl here ↦ (banded.2 slot (omega (arith, here))).0
+    | inr none ↦ omega (arith, banded.3, banded_above banded.0 xs banded.4 slot (omega (arith, some, none, times-append slot (slots x) (flat_map slots xs))))
+  ]
+
+  banded_once : (from : ℕ) (xs : List X) → AreBanded from xs → (slot : ℕ) → times slot (flat_map slots xs) ≤ 1
+  banded_once from [] banded slot = omega arith
+  banded_once from (x ∷ xs) banded slot =
+      let both = times-append slot (slots x) (flat_map slots xs) in
+      elim (cases_lt 0 (times slot (slots x))) [
+        | inr none ↦ omega (arith, none, banded_once banded.0 xs banded.4 slot, both)
+        | inl here ↦ elim (cases_lt 0 (times slot (flat_map slots xs))) [
+          | inr none ↦ omega (arith, none, banded.1 slot, both)
+          | inl more ↦ absurd (omega (arith, (banded.2 slot (omega (arith, here))).1, banded_above banded.0 xs banded.4 slot (omega (arith, more))))
+        ]
+      ]
+
 module _ (parts : Parts) where
   abbrev pub is_block : ℕ → Bool
   is_block slot = is_used (at parts slot).state
@@ -182,49 +207,23 @@ module _ (parts : Parts) where
           ]
         ]
 
-    -- the blocks on the chains of pools in order stand above where these begin
-    pub stands_above : (count from : ℕ) (pools : List Pool) → are_pools count from pools ≡ true → list_all (is_chain parts) pools ≡ true → list_all covers_pool pools ≡ true → (slot : ℕ) → 1 ≤ times slot (slots_of pools) → from ≤ (at parts slot).place
-    stands_above count from [] ordered chains covered slot some = absurd (omega (arith, some))
-    stands_above count from (pool ∷ pools) ordered chains covered slot some =
+    chains_banded : (count from : ℕ) (pools : List Pool) → are_pools count from pools ≡ true → list_all (is_chain parts) pools ≡ true → list_all covers_pool pools ≡ true → AreBanded (chain_of parts) (λ slot. (at parts slot).place) from pools
+    chains_banded count from [] ordered chains covered = tt
+    chains_banded count from (pool ∷ pools) ordered chains covered =
+        let end : ℕ = pool.base + pool.bytes in
         let begins = begins_above count from pool pools ordered in
-        elim (cases_lt 0 (times slot (chain_of parts pool))) [
-          | inl here ↦
-              let used = chain_used pool (all_first (is_chain parts) pool pools chains) in
-              omega (arith, begins, (stands_within (chain_of parts pool) pool.base (pool.base + pool.bytes) used (all_first covers_pool pool pools covered) slot (omega (arith, here))).0)
-          | inr none ↦
-              let ordered_rest = (and_parts (is_pool count from pool) (are_pools count (pool.base + pool.bytes) pools) ordered).1 in
-              omega (
-                arith,
-                begins,
-                stands_above count (pool.base + pool.bytes) pools ordered_rest (all_rest (is_chain parts) pool pools chains) (all_rest covers_pool pool pools covered) slot
-                    (omega (arith, some, none, times-append slot (chain_of parts pool) (slots_of pools))),
-              )
-        ]
-
-    -- each of them once
-    pub chains_once : (count from : ℕ) (pools : List Pool) → are_pools count from pools ≡ true → list_all (is_chain parts) pools ≡ true → list_all covers_pool pools ≡ true → (slot : ℕ) → times slot (slots_of pools) ≤ 1
-    chains_once count from [] ordered chains covered slot = omega arith
-    chains_once count from (pool ∷ pools) ordered chains covered slot =
         let used = chain_used pool (all_first (is_chain parts) pool pools chains) in
-        let covered_here = all_first covers_pool pool pools covered in
-        let ordered_rest = (and_parts (is_pool count from pool) (are_pools count (pool.base + pool.bytes) pools) ordered).1 in
-        let chains_rest = all_rest (is_chain parts) pool pools chains in
-        let covered_behind = all_rest covers_pool pool pools covered in
-        let here = covers_once (chain_of parts pool) pool.base (pool.base + pool.bytes) used covered_here slot in
-        let rest = chains_once count (pool.base + pool.bytes) pools ordered_rest chains_rest covered_behind slot in
-        let both = times-append slot (chain_of parts pool) (slots_of pools) in
-        elim (cases_lt 0 (times slot (chain_of parts pool))) [
-          | inr none ↦ omega (arith, none, rest, both)
-          | inl some ↦ elim (cases_lt 0 (times slot (slots_of pools))) [
-            | inr none ↦ omega (arith, none, here, both)
-            | inl more ↦
-                absurd (omega (
-                  arith,
-                  (stands_within (chain_of parts pool) pool.base (pool.base + pool.bytes) used covered_here slot (omega (arith, some))).1,
-                  stands_above count (pool.base + pool.bytes) pools ordered_rest chains_rest covered_behind slot (omega (arith, more)),
-                ))
-          ]
-        ]
+        let here = all_first covers_pool pool pools covered in (
+          end,
+          covers_once (chain_of parts pool) pool.base end used here,
+          λ slot some. (let within = stands_within (chain_of parts pool) pool.base end used here slot some in (omega (arith, begins, within.0), within.1)),
+          omega (arith, begins),
+          chains_banded count end pools (and_parts (is_pool count from pool) (are_pools count end pools) ordered).1 (all_rest (is_chain parts) pool pools chains) (all_rest covers_pool pool pools covered),
+        )
+
+    -- each block on the chains of pools in order stands there once
+    pub chains_once : (count from : ℕ) (pools : List Pool) → are_pools count from pools ≡ true → list_all (is_chain parts) pools ≡ true → list_all covers_pool pools ≡ true → (slot : ℕ) → times slot (slots_of pools) ≤ 1
+    chains_once count from pools ordered chains covered = banded_once (chain_of parts) (λ slot. (at parts slot).place) from pools (chains_banded count from pools ordered chains covered)
 
   pub on_chain_used : (pools : List Pool) → list_all (is_chain parts) pools ≡ true → (slot : ℕ) → 1 ≤ times slot (flat_map (chain_of parts) pools) → is_block slot ≡ true
   on_chain_used [] chains slot some = absurd (omega (arith, some))
@@ -277,24 +276,19 @@ module _ (parts : Parts) where
         (free.0, let e : number ≤ class (at parts slot).size = omega (arith, free.1) in e)
   ]
 
-  pub lists_once : (number : ℕ) (heads : List (Option ℕ)) → are_lists parts number heads ≡ true → (slot : ℕ) → times slot (flat_map (slots_in_list parts) heads) ≤ 1
-  lists_once number [] lists slot = omega arith
-  lists_once number (first ∷ heads) lists slot =
-      let list = first_list number first heads lists in
-      let others = other_lists number first heads lists in
-      let here = list_once number first list slot in
-      let rest = lists_once (number + 1) heads others slot in
-      let both = times-append slot (slots_in_list parts first) (flat_map (slots_in_list parts) heads) in
-      elim (cases_lt 0 (times slot (slots_in_list parts first))) [
-        | inr none ↦ omega (arith, none, rest, both)
-        | inl some ↦ elim (cases_lt 0 (times slot (flat_map (slots_in_list parts) heads))) [
-          | inr none ↦ omega (arith, none, here, both)
-          | inl more ↦ absurd (omega (arith, (listed_here number first list slot (omega (arith, some))).1, (listed_from (number + 1) heads others slot (omega (arith, more))).1))
-        ]
-      ]
+  lists_banded : (number : ℕ) (heads : List (Option ℕ)) → are_lists parts number heads ≡ true → AreBanded (slots_in_list parts) (λ slot. class (at parts slot).size) number heads
+  lists_banded number [] lists = tt
+  lists_banded number (first ∷ heads) lists =
+      let list = first_list number first heads lists in (
+        number + 1,
+        list_once number first list,
+        λ slot some. (let own = (listed_here number first list slot some).1 in (omega (arith, own), omega (arith, own))),
+        omega arith,
+        lists_banded (number + 1) heads (other_lists number first heads lists),
+      )
 
   -- as many blocks stand in the lists as are free exactly where each of these is in a list
   pub lists_counted : has_lists parts ≡ true → (length (flat_map (slots_in_list parts) parts.heads) == count_by (λ r. is_free_state r.state) parts.records) ≡ has_all_on_lists parts
   lists_counted lists =
-      counted parts.records (λ r. is_free_state r.state) (flat_map (slots_in_list parts) parts.heads) refl (lists_once 0 parts.heads lists) (λ slot some. (listed_from 0 parts.heads lists slot some).0)
+      counted parts.records (λ r. is_free_state r.state) (flat_map (slots_in_list parts) parts.heads) refl (banded_once (slots_in_list parts) (λ slot. class (at parts slot).size) 0 parts.heads (lists_banded 0 parts.heads lists)) (λ slot some. (listed_from 0 parts.heads lists slot some).0)
       ∙ ap (λ test. list_all test (range_with_len 0 (length parts.records))) (λ i slot. not (is_free_state (at parts slot).state) || among_any (slots_in_list parts) parts.heads slot i)

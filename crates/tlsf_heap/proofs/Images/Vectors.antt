@@ -1,5 +1,5 @@
 -- The rules at worked images.
-use Rattle.std.proofs.Common.{◌≡◌, ℕ, ◌+◌, ◌*◌, ◌-◌, List, [], ◌∷◌, ◌++◌, refl, replicate, Option, Some, None}
+use Rattle.std.proofs.Common.{◌≡◌, ℕ, ◌+◌, ◌*◌, ◌-◌, List, map, [], ◌∷◌, ◌++◌, refl, replicate, Option, Some, None}
 use Rattle.std.specs.Prelude.{Bool, nat_lt, if◌then◌else◌, slice_set, codes, take}
 use Rattle.tlsf_class.specs.Classes.{class, low}
 use Rattle.tlsf_heap.specs.declared.image.rule.Rule.{Rule}
@@ -47,26 +47,22 @@ abbrev vector : List ℕ
 vector = image (of_digits (codes "0100010000000000")) (of_digits (codes "000000004000000000000000")) 4 (of_digits (codes "0000"))
     (of_digits (codes "0000000041000000ffffffffffffffff"))
 
--- its first byte changed, and a byte behind its end
-another_magic : broken_in_bytes (slice_set vector 0 0x55) ≡ Magic ∷ []
-another_magic = refl
+-- the vector with some bytes changed, and the rules that it breaks then
+abbrev byte_rows : List (List ℕ × List Rule)
+byte_rows =
+    -- its first byte changed, and a byte behind its end
+    (slice_set vector 0 0x55, Magic ∷ [])
+    ∷ (vector ++ 0 ∷ [], Length ∷ [])
+    -- a byte that is to be zero: behind the numbers, in the entry and behind it
+    ∷ (slice_set vector 12 1, Length ∷ [])
+    ∷ (slice_set vector 27 1, Pools ∷ [])
+    ∷ (slice_set vector 28 1, UnusedPools ∷ [])
+    -- a state of 3
+    ∷ (slice_set vector 1524 0x43, States ∷ [])
+    ∷ []
 
-a_byte_behind : broken_in_bytes (vector ++ 0 ∷ []) ≡ Length ∷ []
-a_byte_behind = refl
-
--- a byte that is to be zero: behind the numbers, in the entry and behind it
-a_byte_of_no_number : broken_in_bytes (slice_set vector 12 1) ≡ Length ∷ []
-a_byte_of_no_number = refl
-
-an_end_of_an_entry : broken_in_bytes (slice_set vector 27 1) ≡ Pools ∷ []
-an_end_of_an_entry = refl
-
-an_unused_entry : broken_in_bytes (slice_set vector 28 1) ≡ UnusedPools ∷ []
-an_unused_entry = refl
-
--- a state of 3
-another_state : broken_in_bytes (slice_set vector 1524 0x43) ≡ States ∷ []
-another_state = refl
+byte_rows-broken : map (λ row. broken_in_bytes row.0) byte_rows ≡ map (λ row. row.1) byte_rows
+byte_rows-broken = refl
 
 -- what the images here describe: one pool of this many bytes from 0 on, and the head of one class
 abbrev parts_of : ℕ → ℕ → Option ℕ → List Record → Parts
@@ -94,45 +90,30 @@ vector_holds : first_broken vector ≡ None
 unfolding class low
 vector_holds = refl
 
--- the head of none; a head of no record; the list of another class
-in_no_list : broken_in_parts (parts_of 64 4 None (block 0 64 Free None None ∷ [])) ≡ OnLists ∷ []
-unfolding class low
-in_no_list = refl
+-- parts, and the rules that they break
+abbrev part_rows : List (Parts × List Rule)
+part_rows =
+    -- the head of none; a head of no record; the list of another class
+    (parts_of 64 4 None (block 0 64 Free None None ∷ []), OnLists ∷ [])
+    ∷ (parts_of 64 4 (Some 1) (block 0 64 Free None None ∷ []), Links ∷ Lists ∷ OnLists ∷ [])
+    ∷ (parts_of 64 5 (Some 0) (block 0 64 Free None None ∷ []), Lists ∷ [])
+    -- a link back to itself; another place
+    ∷ (parts_of 64 4 (Some 0) (block 0 64 Free (Some 0) None ∷ []), Chains ∷ [])
+    ∷ (parts_of 64 4 (Some 0) (block 16 64 Free None None ∷ []), Cover ∷ [])
+    -- rules of both are broken
+    ∷ (parts_of 64 4 (Some 65280) (block 16 64 Free None None ∷ []), Links ∷ Cover ∷ Lists ∷ OnLists ∷ [])
+    -- a block of no chain
+    ∷ (parts_of 64 4 (Some 0) (block 0 64 Free None None ∷ block 0 16 Live None None ∷ []), OnChains ∷ [])
+    ∷ []
 
-another_slot : broken_in_parts (parts_of 64 4 (Some 1) (block 0 64 Free None None ∷ [])) ≡ Links ∷ Lists ∷ OnLists ∷ []
+part_rows-broken : map (λ row. broken_in_parts row.0) part_rows ≡ map (λ row. row.1) part_rows
 unfolding class low
-another_slot = refl
+part_rows-broken = refl
 
-another_list : broken_in_parts (parts_of 64 5 (Some 0) (block 0 64 Free None None ∷ [])) ≡ Lists ∷ []
+-- a ring; of two that are broken the one that stands first is named
+first_named : map (λ parts. first_of (rules_of_parts parts)) (parts_of 64 4 (Some 0) (block 0 64 Free None (Some 0) ∷ []) ∷ parts_of 64 4 (Some 65280) (block 16 64 Free None None ∷ []) ∷ []) ≡ Some Chains ∷ Some Links ∷ []
 unfolding class low
-another_list = refl
-
--- a link back to itself; a ring; another place
-linked_back_to_itself : broken_in_parts (parts_of 64 4 (Some 0) (block 0 64 Free (Some 0) None ∷ [])) ≡ Chains ∷ []
-unfolding class low
-linked_back_to_itself = refl
-
-a_ring : first_of (rules_of_parts (parts_of 64 4 (Some 0) (block 0 64 Free None (Some 0) ∷ []))) ≡ Some Chains
-unfolding class low
-a_ring = refl
-
-another_base : broken_in_parts (parts_of 64 4 (Some 0) (block 16 64 Free None None ∷ [])) ≡ Cover ∷ []
-unfolding class low
-another_base = refl
-
--- rules of both are broken, and the one that stands first is named
-two_broken : broken_in_parts (parts_of 64 4 (Some 65280) (block 16 64 Free None None ∷ [])) ≡ Links ∷ Cover ∷ Lists ∷ OnLists ∷ []
-unfolding class low
-two_broken = refl
-
-first_of_two : first_of (rules_of_parts (parts_of 64 4 (Some 65280) (block 16 64 Free None None ∷ []))) ≡ Some Links
-unfolding class low
-first_of_two = refl
-
--- a block of no chain
-another_block : broken_in_parts (parts_of 64 4 (Some 0) (block 0 64 Free None None ∷ block 0 16 Live None None ∷ [])) ≡ OnChains ∷ []
-unfolding class low
-another_block = refl
+first_named = refl
 
 -- free-neighbours: two free blocks of 32 bytes side by side
 free_neighbours : broken (image (of_digits (codes "0200010000000000")) (of_digits (codes "000000004000000000000000")) 2 (of_digits (codes "0000"))

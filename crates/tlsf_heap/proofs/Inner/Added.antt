@@ -12,8 +12,7 @@ use Rattle.tlsf_heap.specs.declared.refusal.Refusal.TheVariants.{BadPool, PoolsF
 use Rattle.tlsf_store.specs.declared.pools.Pool.{Pool as StoredPool}
 use Rattle.tlsf_heap.specs.Content.{used_records}
 use Rattle.tlsf_heap.specs.Pools.{add_pool, with_pool, can_be_pool, is_apart}
-use Rattle.tlsf_heap.specs.Inner.Entries.{is_entry_apart}
-use Rattle.tlsf_heap.specs.Inner.Entries.{entries_of}
+use Rattle.tlsf_heap.specs.Inner.Entries.{is_entry_apart, entries_of}
 use Rattle.tlsf_heap.specs.Inner.Nodes.{Node, Listed, turned, content_by}
 use Rattle.tlsf_heap.specs.Inner.Represents.{Represents}
 use Rattle.tlsf_heap.specs.Inner.Merging.{is_loose}

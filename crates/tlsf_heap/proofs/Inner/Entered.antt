@@ -1,5 +1,5 @@
 -- A pool whose slot was taken enters, and its one free block its class's list.
-use Rattle.std.proofs.Common.{◌≡◌, ◌≢◌, ℕ, List, [], ◌∷◌, map, refl, sym, ap, ◌∙◌, subst, arith, Some, inl, inr}
+use Rattle.std.proofs.Common.{◌≡◌, ◌≢◌, List, [], ◌∷◌, refl, sym, ap, ◌∙◌, subst, arith, Some, inl, inr}
 use Rattle.std.specs.Prelude.{nat_lt}
 use Rattle.std.proofs.lemmas.Bool.{cases_Bool, eq-eqb}
 use Rattle.std.proofs.lemmas.List.{length-set}
@@ -9,9 +9,8 @@ use Rattle.tlsf_store.proofs.RecordLaws.{record_at-set_same}
 use Rattle.tlsf_store.specs.Cells.{Cells, head_at}
 use Rattle.tlsf_class.specs.Classes.{class}
 use Rattle.tlsf_store.specs.declared.pools.Pool.{Pool as StoredPool}
-use Rattle.tlsf_heap.specs.Inner.Entries.{entries_of}
 use Rattle.tlsf_heap.specs.Inner.Edits.{IsUsed}
-use Rattle.tlsf_heap.specs.Inner.Entries.{inserted, with_entry, free_record, pool_entered}
+use Rattle.tlsf_heap.specs.Inner.Entries.{entries_of, with_entry, free_record, pool_entered}
 use Rattle.tlsf_heap.specs.Inner.Nodes.{Node, Area, Layout, Listed, turned, entered}
 use Rattle.tlsf_heap.specs.Inner.Positions.{plug, Position}
 use Rattle.tlsf_heap.specs.Inner.Represents.{Represents}
@@ -19,20 +18,11 @@ use Rattle.tlsf_heap.specs.Inner.CellEdits.{pool_put}
 use Rattle.tlsf_heap.specs.Inner.Entering.{pool_node, area_of_one, entries_in, with_area, pool_laid}
 use Rattle.tlsf_heap.proofs.Inner.EntryLists.{entries_of-padded}
 use Rattle.tlsf_heap.proofs.Counts.{one_if}
+use Rattle.tlsf_heap.proofs.Inserted.{map-inserted}
 use Rattle.tlsf_heap.proofs.Content.FreeLists.{times-cons}
 use Rattle.tlsf_heap.proofs.Inner.Used.{stands_used, head_used}
 use Rattle.tlsf_heap.proofs.Inner.Linked.{linked_laid}
 use Rattle.tlsf_heap.proofs.Inner.PoolMoves.{pool_enters}
-
--- an item in its place, seen through a function that keeps the keys
-pub map-inserted : {A B : Type 0} (f : A → B) (key : A → ℕ) (new_key : B → ℕ) → ((a : A) → new_key (f a) ≡ key a) → (item : A) (items : List A) → map f (inserted key item items) ≡ inserted new_key (f item) (map f items)
-map-inserted f key new_key same item [] = refl
-map-inserted f key new_key same item (other ∷ items) =
-    let tests : nat_lt (new_key (f item)) (new_key (f other)) ≡ nat_lt (key item) (key other) = ap (λ n. nat_lt n (new_key (f other))) (same item) ∙ ap (nat_lt (key item)) (same other) in
-    elim (cases_Bool (nat_lt (key item) (key other))) [
-      | inl before ↦ rw (before, tests, before) refl
-      | inr after ↦ rw (after, tests, after) (ap (λ xs. f other ∷ xs) (map-inserted f key new_key same item items))
-    ]
 
 -- where the entry's area will stand: the areas in front of it, nearest first, and those behind
 pub record Place (entry : StoredPool) (passed areas : List Area) : Type 0 where

@@ -1,14 +1,12 @@
--- Lists of pool entries: read, written, and in order of base.
-use Rattle.std.proofs.Common.{◌≡◌, ℕ, zero, suc, one-add, ◌+◌, ◌-◌, ◌<◌, ◌≤◌, not, List, [], ◌∷◌, ◌++◌, length, map, replicate, take, get_or, refl, sym, ap, ◌∙◌, subst, arith, Option, Some, None, inl, inr}
-use Rattle.std.specs.Prelude.{All, nat_lt, insert}
-use Rattle.std.proofs.lemmas.Bool.{cases_Bool, cases_lt, lt-ltb, le-ltb, not_from_true, not_from_false}
+-- Lists of pool entries: read and written.
+use Rattle.std.proofs.Common.{◌≡◌, ℕ, zero, suc, ◌+◌, ◌-◌, ◌<◌, ◌≤◌, List, [], ◌∷◌, ◌++◌, length, map, replicate, take, get_or, refl, sym, ap, ◌∙◌, subst, arith, Option, Some, None, inl, inr}
+use Rattle.std.specs.Prelude.{All}
+use Rattle.std.proofs.lemmas.Bool.{cases_lt}
 use Rattle.std.proofs.lemmas.List.{take_more, get_or-map, get_or_past, get_or_append_left, get_or-append_right, get_or-replicate, length-append, length-map, length-replicate, ext_get_or}
 use Rattle.std.proofs.lemmas.List.Elements.{All-push}
-use Rattle.std.proofs.lemmas.List.Sums.{prefix_len_is}
 use Rattle.tlsf_store.specs.declared.pools.Pool.{Pool as StoredPool}
 use Rattle.tlsf_store.specs.Cells.{pool_at, most_pools, IsPoolBelow}
 use Rattle.tlsf_heap.specs.Inner.Entries.{padded, padded_at, entries_of}
-use Rattle.tlsf_heap.specs.Inner.Entries.{entry_place, with_entry}
 
 -- the entry that fills no place
 abbrev pub no_entry : StoredPool
@@ -83,19 +81,4 @@ padded_at-below count entries k all = elim (cases_lt k (length entries)) [
   | inr past ↦
       let P : Option StoredPool → Type 0 = λ p. IsPoolBelow count p in
       subst P (sym (get_or_past (map (λ (e : StoredPool). Some e) entries) k None (omega (arith, past, length-map {A = StoredPool} {B = Option StoredPool} entries (λ e. Some e))))) tt
-]
-
--- the first entry that begins behind the base
-pub entry_place_is : (base : ℕ) (entries : List StoredPool) (n : ℕ) (d : StoredPool) → n ≤ length entries → ((k : ℕ) (d : StoredPool) → k < n → (get_or entries k d).base ≤ base) → (n < length entries → base < (get_or entries n d).base) → n ≡ entry_place base entries
-entry_place_is base entries n d within before behind =
-    sym (prefix_len_is (λ (e : StoredPool). not (nat_lt base e.base)) entries n d within
-    (λ k below. not_from_false _ (le-ltb base (get_or entries k d).base (before k d below)))
-    (λ below. not_from_true _ (lt-ltb base (get_or entries n d).base (behind below))))
-
--- an entry in front of the first that begins behind it stands in order of base
-pub insert_is : (entry : StoredPool) (entries : List StoredPool) → insert entries (entry_place entry.base entries) entry ≡ with_entry entry entries
-insert_is entry [] = refl
-insert_is entry (other ∷ entries) = elim (cases_Bool (nat_lt entry.base other.base)) [
-  | inl before ↦ rw before refl
-  | inr after ↦ rw (after, one-add) (ap (λ xs. other ∷ xs) (insert_is entry entries))
 ]

@@ -16,7 +16,7 @@ use Rattle.tlsf_heap.specs.Readings.{IsLargestRequest}
 use Rattle.tlsf_heap.specs.Inner.Bitmaps.{first_head}
 use Rattle.tlsf_heap.specs.Inner.Following.{content_of, Stands}
 use Rattle.tlsf_heap.proofs.Bits.Search.{first_head_passes}
-use Rattle.tlsf_heap.proofs.Content.MallocCases.{picked_fits, nothing_fits, none_picked, none_rounded}
+use Rattle.tlsf_heap.proofs.Content.MallocCases.{IsPicked, malloc_cases}
 use Rattle.tlsf_heap.proofs.Inner.Followed.{heads_count}
 use Rattle.tlsf_heap.proofs.Inner.Picked.{search_tells}
 
@@ -56,11 +56,11 @@ module _ (cells : Cells) (stands : Stands cells) (bytes : ℕ) (last : AreLastHe
   none_picked_from m (Some number) needed above = none_picked_above m number needed above
 
   no_fit_above : (slot n : ℕ) → bytes < n → malloc slot n (content_of cells) ≡ Err NoFit
-  no_fit_above slot n above = of (round n) refl
+  no_fit_above slot n above =
+      malloc_cases slot (content_of cells) n (λ r. r ≡ Err NoFit) (λ nothing. absurd (omega (arith, nothing, above))) (λ some none. refl) (λ p full. absurd (never p)) (λ p. absurd (never p))
     where
-      of : (m : Option ℕ) → round n ≡ m → malloc slot n (content_of cells) ≡ Err NoFit
-      of None is = none_rounded slot n (content_of cells) (λ none. omega (arith, none, above)) is
-      of (Some m) is = none_picked slot n (content_of cells) (λ none. omega (arith, none, above)) m is (none_picked_from m (need m) refl (omega (arith, above, (round-Some n m is).least)))
+      never : IsPicked slot (content_of cells) (round n) → ⊥
+      never p = let e : None ≡ Some p.place = sym (none_picked_from p.asked (need p.asked) refl (omega (arith, above, (round-Some n p.asked p.rounds).least))) ∙ p.found in cc
 
   -- the class of the last block has it for fewer
   picked_below : (m class : ℕ) → class < classes → head_at cells.heads class ≢ None → m ≤ low class → (place : ℕ) × (pick m (content_of cells).lists ≡ Some place)
@@ -81,15 +81,13 @@ module _ (cells : Cells) (stands : Stands cells) (bytes : ℕ) (last : AreLastHe
           found (Some slot) is = (_, (search_tells cells stands m number needed (Some slot) (sym is)).found)
 
   fits_below : (slot n : ℕ) → n ≤ bytes → malloc slot n (content_of cells) ≢ Err NoFit
-  fits_below slot n most = elim (cases_lt 0 n) [
-    | inr nothing ↦ nothing_fits slot n (content_of cells) (omega (arith, nothing))
-    | inl some ↦
-        let at = last.found (λ none. omega (arith, none, some, most)) in
-        let whole : bytes % unit ≡ 0 = omega (arith, at.2, low-unit at.0) in
-        let r = round_within n some (omega (arith, most, at.2, low-le at.0 (pred classes) (omega (arith, at.1)), low_last)) in
-        let picked = picked_below (rounded n) at.0 at.1 at.3 (omega (arith, rounded-le n bytes whole most, at.2)) in
-        picked_fits slot n (content_of cells) (λ none. omega (arith, none, some)) (rounded n) picked.0 r picked.1
-  ]
+  fits_below slot n most =
+      malloc_cases slot (content_of cells) n (λ r. r ≢ Err NoFit) (λ nothing e. cc) (λ some none e.
+      let at = last.found (λ zero. omega (arith, zero, some, most)) in
+      let whole : bytes % unit ≡ 0 = omega (arith, at.2, low-unit at.0) in
+      let rounds = round_within n (omega (arith, some)) (omega (arith, most, at.2, low-le at.0 (pred classes) (omega (arith, at.1)), low_last)) in
+      let picked = picked_below (rounded n) at.0 at.1 at.3 (omega (arith, rounded-le n bytes whole most, at.2)) in
+      let never : None ≡ Some picked.0 = sym (none (rounded n) rounds) ∙ picked.1 in absurd (cc)) (λ p full e. cc) (λ p e. cc)
 
   pub largest_is : IsLargestRequest bytes (content_of cells)
   largest_is = record { found = fits_below; no_fit = no_fit_above }

@@ -8,8 +8,7 @@ use Rattle.tlsf_store.specs.Records.{record_at}
 use Rattle.tlsf_store.specs.Cells.{Cells}
 use Rattle.tlsf_heap.specs.Content.{Block, Content, blocks_of, is_at, size_at}
 use Rattle.tlsf_heap.specs.Good.{times, IsGood}
-use Rattle.tlsf_heap.specs.Free.{is_owned_by, is_live}
-use Rattle.tlsf_heap.specs.Free.{after_free}
+use Rattle.tlsf_heap.specs.Free.{is_owned_by, is_live, after_free}
 use Rattle.tlsf_heap.specs.Inner.Nodes.{NodeState, InUse, Listed, Loose, Node, Layout, turned, owner_of, block_of, pool_of, content_by, nodes_of, has_slot, has_place}
 use Rattle.tlsf_heap.specs.Inner.Positions.{filled}
 use Rattle.tlsf_heap.specs.Inner.Represents.{state_of, uses_in, Represents}

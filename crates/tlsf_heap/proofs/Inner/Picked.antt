@@ -1,6 +1,6 @@
 -- The first block of the lists is the one that is picked: its node, its record and its place.
 use Rattle.std.proofs.Common.{◌≡◌, ℕ, zero, suc, ◌+◌, ◌≤◌, not, eqb, List, [], ◌∷◌, map, drop, refl, sym, ap, ◌∙◌, subst, arith, count_by, Option, Some, None, option_map, inl, inr}
-use Rattle.std.specs.Prelude.{IfSome, IfNone, option_and_then}
+use Rattle.std.specs.Prelude.{IfSome, IfNone, MatchOption, option_and_then}
 use Rattle.std.proofs.lemmas.Bool.{cases_Bool, eqb-true}
 use Rattle.std.proofs.lemmas.List.{drop-map, get_or-drop}
 use Rattle.tlsf_class.specs.Classes.{need}
@@ -12,7 +12,7 @@ use Rattle.tlsf_heap.specs.Lists.{first_of_lists, pick}
 use Rattle.tlsf_heap.specs.Inner.Bitmaps.{first_head}
 use Rattle.tlsf_heap.specs.Inner.Nodes.{Node, nodes_in, has_slot}
 use Rattle.tlsf_heap.specs.Inner.Represents.{first_slot}
-use Rattle.tlsf_heap.specs.Inner.Spans.{IsOfClass}
+use Rattle.tlsf_heap.specs.Inner.Answers.{IsPick}
 use Rattle.tlsf_heap.specs.Inner.Following.{content_of, Stands}
 use Rattle.tlsf_heap.proofs.Counts.{one_if, count-cons}
 use Rattle.tlsf_heap.proofs.Inner.Links.{first_stands}
@@ -89,15 +89,10 @@ module _ (cells : Cells) (stands : Stands cells) where
           subst P (sym slot_is) (record { free = says.0; found = place_is ∙ ap Some (sym says.1); none = tt })
 
   -- the same, where search answers the class, too
-  pub record Finds (asked : ℕ) (first : Option (ℕ × ℕ)) : Type 0 where
-    pub of_class : IfSome first (λ f. IsOfClass f.0 (record_at cells.records f.1))
-    pub free : IfSome first (λ f. (record_at cells.records f.1).state ≡ Free)
-    pub found : IfSome first (λ f. pick asked (content_of cells).lists ≡ Some (record_at cells.records f.1).place)
-    pub none : IfNone first (pick asked (content_of cells).lists ≡ None)
-
-  pub search_finds : (asked number : ℕ) → need asked ≡ Some number → (first : Option (ℕ × ℕ)) → option_map (λ f. f.1) first ≡ first_head (drop number cells.heads) → IfSome first (λ f. head_at cells.heads f.0 ≡ Some f.1) → Finds asked first
-  search_finds asked number need_is None is head = record { of_class = tt; free = tt; found = tt; none = (search_tells asked number need_is None is).none }
+  pub search_finds : (asked number : ℕ) → need asked ≡ Some number → (first : Option (ℕ × ℕ)) → option_map (λ f. f.1) first ≡ first_head (drop number cells.heads) → IfSome first (λ f. head_at cells.heads f.0 ≡ Some f.1)
+      → MatchOption first (pick asked (content_of cells).lists ≡ None) (λ f. IsPick asked f.0 f.1 cells)
+  search_finds asked number need_is None is head = (search_tells asked number need_is None is).none
   search_finds asked number need_is (Some f) is head =
       let tells = search_tells asked number need_is (Some f.1) is in
       let listed = listed_at cells stands f.0 f.1 (head_listed stands.layout.lists f.0 f.1 (ap (λ heads. head_at heads f.0) (sym stands.represented.index.heads_are) ∙ head)) in
-      record { of_class = sym listed.of_class; free = tells.free; found = tells.found; none = tt }
+      record { of_class = sym listed.of_class; free = tells.free; found = tells.found }

@@ -21,7 +21,7 @@ use Rattle.tlsf_heap.proofs.Inner.Followed.{stood_for, records_are}
 use Rattle.tlsf_heap.proofs.Inner.Steps.{size_read, slot_used}
 use Rattle.tlsf_heap.proofs.Inner.TakenBlock.{used_is}
 use Rattle.tlsf_heap.proofs.Inner.Live.{NodeAt, node_stood, node_good, node_agrees_once, node_size, node_taken, live_at, stands_with}
-use Rattle.tlsf_heap.proofs.Inner.Standing.{used_are, content_is_good}
+use Rattle.tlsf_heap.proofs.Inner.Standing.{content_is_good, vacant_there}
 use Rattle.tlsf_heap.proofs.Meaning.Places.{AgreeOnce, alone}
 use Rattle.tlsf_heap.proofs.Meaning.NodeBlocks.{back_is}
 use Rattle.tlsf_heap.proofs.Meaning.Freed.{NoneLoose, listed_is_free}
@@ -39,9 +39,6 @@ module _ (cells : Cells) (stands : Stands cells) (place slot : ℕ) (by : NodeAt
       omega (arith, by.stands.1.others_settled, count-filled loose by.at.position by.at.nodes)
 
   -- its size
-  pub size_there : size_at place (blocks_of (content_of cells).pools) ≡ by.at.node.size
-  size_there = node_size cells stands place slot InUse by
-
   -- and the free block behind it
   pub next_there : free_next place (content_of cells) ≡ option_map block_of (listed_first by.at.nodes)
   next_there =
@@ -54,17 +51,13 @@ module _ (cells : Cells) (stands : Stands cells) (place slot : ℕ) (by : NodeAt
   pub fits_there : (m : ℕ) → fits_in_place place m (content_of cells) ≡ cond (nat_lt m by.at.node.size) (is_some (listed_first by.at.nodes) || nat_lt (used_records (content_of cells)) (content_of cells).records) (nat_le m (by.at.node.size + size_of (option_map block_of (listed_first by.at.nodes))))
   fits_there m =
       let room : Option (Block ℕ) → Bool = λ o. is_some o || nat_lt (used_records (content_of cells)) (content_of cells).records in
-      ap (λ n. cond (nat_lt m n) (room (free_next place (content_of cells))) (nat_le m (n + size_of (free_next place (content_of cells))))) size_there
+      ap (λ n. cond (nat_lt m n) (room (free_next place (content_of cells))) (nat_le m (n + size_of (free_next place (content_of cells))))) (node_size cells stands place slot InUse by)
       ∙ ap (λ o. cond (nat_lt m by.at.node.size) (room o) (nat_le m (by.at.node.size + size_of o))) next_there
       ∙ ap (λ b. cond (nat_lt m by.at.node.size) (b || nat_lt (used_records (content_of cells)) (content_of cells).records) (nat_le m (by.at.node.size + size_of (option_map block_of (listed_first by.at.nodes))))) (some_alike (listed_first by.at.nodes))
     where
       some_alike : (o : Option Node) → is_some (option_map block_of o) ≡ is_some o
       some_alike None = refl
       some_alike (Some b) = refl
-
-  -- how many records are vacant
-  pub vacant_there : used_records (content_of cells) + vacant_count cells.records ≡ (content_of cells).records
-  vacant_there = omega (arith, used_are cells stands, records_are cells)
 
   -- once it was merged with the free one behind it and split
   pub resized_stands : (new : Cells) (m rest : ℕ) → is_live (λ owner. owner == slot) place (blocks_of (content_of cells).pools) ≡ true → fits_in_place place m (content_of cells) ≡ true → m ≢ size_at place (blocks_of (content_of cells).pools) → 0 < m → m % unit ≡ 0
@@ -151,11 +144,11 @@ module _ (cells : Cells) (stands : Stands cells) (place slot : ℕ) (by : NodeAt
           size_none (Some b) none = absurd (cc)
 
           go : (is_some (listed_first by.at.nodes) ≡ true) ⊎ (is_some (listed_first by.at.nodes) ≡ false) → 0 < vacant_count new.records
-          go (inl there) = omega (arith, counted, ap (λ b. cond {A = ℕ} b 1 0) there, vacant_after, used_there, vacant_there)
+          go (inl there) = omega (arith, counted, ap (λ b. cond {A = ℕ} b 1 0) there, vacant_after, used_there, vacant_there cells stands)
           go (inr none) =
               let shorter : nat_lt m by.at.node.size ≡ true = lt-ltb m by.at.node.size (omega (arith, less, sized, grown, size_none (listed_first by.at.nodes) none)) in
               let left : nat_lt (used_records (content_of cells)) (content_of cells).records ≡ true = rw (shorter, none) at told_so in
-              omega (arith, counted, ap (λ b. cond {A = ℕ} b 1 0) none, vacant_after, used_there, vacant_there, ltb-true (used_records (content_of cells)) (content_of cells).records left)
+              omega (arith, counted, ap (λ b. cond {A = ℕ} b 1 0) none, vacant_after, used_there, vacant_there cells stands, ltb-true (used_records (content_of cells)) (content_of cells).records left)
 
   -- it fits where the bytes that are missing are behind it, or a record is left for those given back
   pub fits_larger : (m : ℕ) (behind : Option ℕ) → behind ≡ option_map (λ (node : Node). node.size) (listed_first by.at.nodes) → by.at.node.size ≤ m → nat_le (m - by.at.node.size) (unwrap_or behind 0) ≡ fits_in_place place m (content_of cells)
@@ -187,15 +180,15 @@ module _ (cells : Cells) (stands : Stands cells) (place slot : ℕ) (by : NodeAt
 
       room : nat_lt (used_records (content_of cells)) (content_of cells).records ≡ nat_lt 0 (vacant_count cells.records)
       room = elim (cases_Bool (nat_lt 0 (vacant_count cells.records))) [
-        | inl some ↦ lt-ltb (used_records (content_of cells)) (content_of cells).records (omega (arith, vacant_there, ltb-true 0 (vacant_count cells.records) some)) ∙ sym some
-        | inr none ↦ le-ltb (used_records (content_of cells)) (content_of cells).records (omega (arith, vacant_there, ltb-false 0 (vacant_count cells.records) none)) ∙ sym none
+        | inl some ↦ lt-ltb (used_records (content_of cells)) (content_of cells).records (omega (arith, vacant_there cells stands, ltb-true 0 (vacant_count cells.records) some)) ∙ sym some
+        | inr none ↦ le-ltb (used_records (content_of cells)) (content_of cells).records (omega (arith, vacant_there cells stands, ltb-false 0 (vacant_count cells.records) none)) ∙ sym none
       ]
 
 -- what is known of the block of a live pointer: its size, and that its slot is of a record
 pub size_known : (cells : Cells) (stands : Stands cells) (place slot : ℕ) → is_live (λ owner. owner == slot) place (blocks_of (content_of cells).pools) ≡ true → (block : Record) → block ≡ record_at cells.records slot → block.size ≡ size_at place (blocks_of (content_of cells).pools)
 size_known cells stands place slot live block read =
     let by = live_at cells stands place slot live in
-    ap (λ (r : Record). r.size) read ∙ size_read cells slot InUse by.at by.stands ∙ sym (size_there cells stands place slot by)
+    ap (λ (r : Record). r.size) read ∙ size_read cells slot InUse by.at by.stands ∙ sym (node_size cells stands place slot InUse by)
 
 pub live_below : (cells : Cells) (stands : Stands cells) (place slot : ℕ) → is_live (λ owner. owner == slot) place (blocks_of (content_of cells).pools) ≡ true → (slot < length cells.records) × (slot < (content_of cells).records)
 live_below cells stands place slot live =

@@ -7,7 +7,7 @@ use Rattle.tlsf_class.specs.Classes.{unit}
 use Rattle.tlsf_store.specs.Records.{vacant_count, blank, record_at}
 use Rattle.tlsf_store.specs.Cells.{Cells}
 use Rattle.tlsf_heap.specs.declared.refusal.Refusal.TheVariants.{TableFull}
-use Rattle.tlsf_heap.specs.Content.{Block, Content, blocks_of, size_at, used_records}
+use Rattle.tlsf_heap.specs.Content.{Block, Content, blocks_of, used_records}
 use Rattle.tlsf_heap.specs.Lists.{pick}
 use Rattle.tlsf_heap.specs.Memalign.{is_alignment, size_asked, gap_records, aligned, if_recorded, memalign_picked}
 use Rattle.tlsf_heap.specs.Good.{IsGood}
@@ -18,9 +18,9 @@ use Rattle.tlsf_heap.specs.Inner.At.{layout_at, StandsAt, at_taken, at_split_res
 use Rattle.tlsf_heap.proofs.Counts.{count_all, count-cons, count-append, count-map}
 use Rattle.tlsf_heap.proofs.Content.MemalignCases.{used_aligned}
 use Rattle.tlsf_heap.proofs.Inner.Sums.{all_records}
-use Rattle.tlsf_heap.proofs.Inner.Followed.{stood_for, records_are}
+use Rattle.tlsf_heap.proofs.Inner.Followed.{stood_for}
 use Rattle.tlsf_heap.proofs.Inner.Live.{NodeAt, node_stood, node_agrees_once, node_size, node_taken, stands_with, free_at}
-use Rattle.tlsf_heap.proofs.Inner.Standing.{used_are, content_is_good, owners_few}
+use Rattle.tlsf_heap.proofs.Inner.Standing.{vacant_there, content_is_good, owners_few}
 use Rattle.tlsf_heap.proofs.Meaning.Places.{blocks_of_areas}
 use Rattle.tlsf_heap.proofs.Meaning.Aligned.{aligned_is}
 use Rattle.tlsf_heap.proofs.Meaning.AlignedIsGood.{CanSplitAligned, can_split_aligned}
@@ -43,9 +43,6 @@ module _ (cells : Cells) (stands : Stands cells) (place slot align asked : ℕ) 
   abbrev left_over : ℕ
   left_over = (by.at.node.size - (next_multiple_of place align - place)) - asked
 
-  pub size_there : size_at place (blocks_of (content_of cells).pools) ≡ by.at.node.size
-  size_there = node_size cells stands place slot Listed by
-
   pub can_split : CanSplitAligned align asked place (content_of cells)
   can_split = can_split_aligned align asked place (content_of cells) (content_is_good cells stands) is found
 
@@ -53,27 +50,24 @@ module _ (cells : Cells) (stands : Stands cells) (place slot align asked : ℕ) 
   used_after : (owner : ℕ) → used_records (aligned owner start asked place by.at.node.size (content_of cells)) ≡ used_records (content_of cells) + (gap_records front + gap_records left_over)
   used_after owner = used_aligned owner start asked place by.at.node.size (content_of cells) can_split.picked.found
 
-  vacant_there : used_records (content_of cells) + vacant_count cells.records ≡ (content_of cells).records
-  vacant_there = omega (arith, used_are cells stands, records_are cells)
-
   -- where too few records are vacant
   pub split_aligned_full : vacant_count cells.records < gap_records front + gap_records left_over → (owner : ℕ) → memalign_picked owner align asked (Some place) (content_of cells) ≡ Err TableFull
   split_aligned_full few owner =
       let after : ℕ → Content ℕ = λ n. aligned owner start asked place n (content_of cells) in
-      let full : nat_lt (content_of cells).records (used_records (after by.at.node.size)) ≡ true = lt-ltb (content_of cells).records (used_records (after by.at.node.size)) (omega (arith, few, vacant_there, used_after owner)) in
-      ap (λ n. if_recorded start (after n)) size_there ∙ ap (λ b. cond b (Err TableFull) (Ok (start, after by.at.node.size))) full
+      let full : nat_lt (content_of cells).records (used_records (after by.at.node.size)) ≡ true = lt-ltb (content_of cells).records (used_records (after by.at.node.size)) (omega (arith, few, vacant_there cells stands, used_after owner)) in
+      ap (λ n. if_recorded start (after n)) (node_size cells stands place slot Listed by) ∙ ap (λ b. cond b (Err TableFull) (Ok (start, after by.at.node.size))) full
 
   -- where there are enough
   pub split_aligned_stands : (new : Cells) (live rest : ℕ) → gap_records front + gap_records left_over ≤ vacant_count cells.records → StandsAt live InUse new (at_split_rest rest asked (at_gapped live front (at_taken by.at)))
       → Stands new × (memalign_picked live align asked (Some place) (content_of cells) ≡ Ok (start, content_of new))
   split_aligned_stands new live rest enough after =
       let of : ℕ → Content ℕ = λ n. aligned live start asked place n (content_of cells) in
-      let room : used_records (of by.at.node.size) ≤ (content_of cells).records = omega (arith, enough, vacant_there, used_after live) in
+      let room : used_records (of by.at.node.size) ≤ (content_of cells).records = omega (arith, enough, vacant_there cells stands, used_after live) in
       let given : memalign_picked live align asked (Some place) (content_of cells) ≡ Ok (start, of by.at.node.size) =
-      ap (λ n. if_recorded start (of n)) size_there ∙ ap (λ b. cond b (Err TableFull) (Ok (start, of by.at.node.size))) (le-ltb (content_of cells).records (used_records (of by.at.node.size)) room) in
+      ap (λ n. if_recorded start (of n)) (node_size cells stands place slot Listed by) ∙ ap (λ b. cond b (Err TableFull) (Ok (start, of by.at.node.size))) (le-ltb (content_of cells).records (used_records (of by.at.node.size)) room) in
       let P : ℕ → Type 0 = λ n. used_records (of n) ≤ (content_of cells).records → IsGood (of n) in
       let good_after : IsGood (of by.at.node.size) =
-      subst P size_there (λ few. aligned_is_good live start asked place (content_of cells) (content_is_good cells stands) can_split.picked.once can_split.start.begins can_split.fits some whole can_split.start.gap_whole few) room in
+      subst P (node_size cells stands place slot Listed by) (λ few. aligned_is_good live start asked place (content_of cells) (content_is_good cells stands) can_split.picked.once can_split.start.begins can_split.fits some whole can_split.start.gap_whole few) room in
       let begins : by.at.node.place + front ≡ start = omega (arith, by.place_is, can_split.start.begins) in
       let is_so : content_by (layout_at (at_split_rest rest asked (at_gapped live front (at_taken by.at)))) ≡ of by.at.node.size =
       aligned_is by.at.count by.at.position by.at.node by.at.nodes by.at.lists (node_agrees_once cells stands place slot Listed by) live rest front asked by.at.taken by.at.taken
@@ -166,7 +160,7 @@ known cells stands slot align asked is some whole free found block read =
     let can = can_split cells stands place slot align asked by is some whole found in
     let size = ap (λ (r : Record). r.size) read ∙ size_read cells slot Listed by.at by.stands in
     let place_is = ap (λ (r : Record). r.place) read in
-    let there = size_there cells stands place slot align asked by is some whole found in
+    let there = node_size cells stands place slot Listed by in
     let P : ℕ → Type 0 = λ p. p ≤ next_multiple_of p align in
     let Q : ℕ → Type 0 = λ p. (next_multiple_of p align - p) + asked ≤ block.size in
     let R : ℕ → Type 0 = λ p. (next_multiple_of p align - p) % unit ≡ 0 in

@@ -10,8 +10,7 @@ use Rattle.tlsf_heap.specs.Pools.{is_apart}
 use Rattle.tlsf_heap.specs.Good.{IsGood}
 use Rattle.tlsf_heap.specs.GoodSlots.{is_slot, slot_times, HasGoodSlots}
 use Rattle.tlsf_heap.specs.Counted.{range_of}
-use Rattle.tlsf_heap.specs.Inner.Entries.{is_entry_apart, entry_range}
-use Rattle.tlsf_heap.specs.Inner.Entries.{entries_of}
+use Rattle.tlsf_heap.specs.Inner.Entries.{is_entry_apart, entry_range, entries_of}
 use Rattle.tlsf_heap.specs.Inner.Nodes.{NodeState, InUse, Listed, Loose, Node, Area, owner_of, block_of, pool_of, nodes_of, has_slot}
 use Rattle.tlsf_heap.specs.Inner.Represents.{uses_in}
 use Rattle.tlsf_heap.specs.Inner.Entering.{entries_in}
@@ -19,7 +18,7 @@ use Rattle.tlsf_heap.specs.Inner.Following.{content_of, Stands}
 use Rattle.tlsf_heap.proofs.Inner.EntryLists.{entries_of-padded}
 use Rattle.tlsf_heap.proofs.Counts.{one_if, count_apart, count-map}
 use Rattle.tlsf_heap.proofs.Inner.Chains.{uses_most}
-use Rattle.tlsf_heap.proofs.Inner.Followed.{stood_for}
+use Rattle.tlsf_heap.proofs.Inner.Followed.{stood_for, records_are}
 use Rattle.tlsf_heap.proofs.Inner.Sums.{all_records}
 use Rattle.tlsf_heap.proofs.Meaning.Places.{blocks_of_areas}
 
@@ -66,6 +65,9 @@ module _ (cells : Cells) (stands : Stands cells) where
     all_records cells stands.layout stands.represented,
     ap length stands.none_taken,
   )
+
+  pub vacant_there : used_records (content_of cells) + vacant_count cells.records ≡ (content_of cells).records
+  vacant_there = omega (arith, used_are, records_are cells)
 
   -- what cells stand for is good
   pub content_is_good : IsGood (content_of cells)

@@ -4,10 +4,9 @@ use Rattle.tlsf_class.specs.Classes.{class}
 use Rattle.tlsf_store.specs.Records.{record_at}
 use Rattle.tlsf_store.specs.Cells.{Cells, head_at}
 use Rattle.tlsf_heap.specs.Inner.Edits.{IsUsed, linked, with_state}
-use Rattle.tlsf_heap.specs.Inner.At.{AreCovered}
+use Rattle.tlsf_heap.specs.Inner.At.{AreCovered, At, areas_at, layout_at, StandsAt, at_turned, at_listed}
 use Rattle.tlsf_heap.specs.Inner.Nodes.{NodeState, Listed, Loose, Node, turned, block_of, pool_of, is_listed}
 use Rattle.tlsf_heap.specs.Inner.Represents.{InPool, state_of, first_slot, Represents}
-use Rattle.tlsf_heap.specs.Inner.At.{At, areas_at, layout_at, StandsAt, at_turned, at_listed}
 use Rattle.tlsf_heap.proofs.Good.MallocIsGood.{IsWholeBlock}
 use Rattle.tlsf_heap.proofs.Inner.Chains.{AtNode, at_node}
 use Rattle.tlsf_heap.proofs.Inner.Used.{node_is_used, head_used}

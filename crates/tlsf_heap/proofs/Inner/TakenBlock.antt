@@ -10,7 +10,7 @@ use Rattle.tlsf_store.specs.Cells.{Cells}
 use Rattle.tlsf_store.proofs.RecordLaws.{vacant_count-take}
 use Rattle.tlsf_heap.specs.declared.refusal.Refusal.TheVariants.{TableFull}
 use Rattle.tlsf_heap.specs.GoodSlots.{is_slot, slot_times}
-use Rattle.tlsf_heap.specs.Content.{Block, Content, blocks_of, size_at, used_records}
+use Rattle.tlsf_heap.specs.Content.{Block, Content, blocks_of, used_records}
 use Rattle.tlsf_heap.specs.Lists.{pick}
 use Rattle.tlsf_heap.specs.Malloc.{allocated, malloc_picked}
 use Rattle.tlsf_heap.specs.Good.{IsGood}
@@ -41,11 +41,8 @@ no_room : (cells : Cells) (stands : Stands cells) → vacant_count cells.records
 no_room cells stands none = omega (arith, none, used_are cells stands, records_are cells)
 
 module _ (cells : Cells) (stands : Stands cells) (place slot asked : ℕ) (by : NodeAt place slot Listed cells stands.layout) (some : 0 < asked) (whole : asked % unit ≡ 0) (found : pick asked (content_of cells).lists ≡ Some place) where
-  size_there : size_at place (blocks_of (content_of cells).pools) ≡ by.at.node.size
-  size_there = node_size cells stands place slot Listed by
-
   pub holds : asked ≤ by.at.node.size
-  holds = omega (arith, (picked asked place (content_of cells) (content_is_good cells stands) found).holds, size_there)
+  holds = omega (arith, (picked asked place (content_of cells) (content_is_good cells stands) found).holds, node_size cells stands place slot Listed by)
 
   -- what malloc gives, where a rest has a record
   gives : (asked < by.at.node.size → used_records (content_of cells) < (content_of cells).records)
@@ -56,9 +53,9 @@ module _ (cells : Cells) (stands : Stands cells) (place slot asked : ℕ) (by : 
         | inl larger ↦ and_right (nat_lt asked by.at.node.size) _ (lt-leb (content_of cells).records (used_records (content_of cells)) (room larger))
         | inr as_large ↦ and_left _ _ (le-ltb asked by.at.node.size as_large)
       ]) in (
-        ap (λ n. cond (nat_lt asked n && nat_le (content_of cells).records (used_records (content_of cells))) (Err TableFull) (Ok (place, allocated slot place asked n (content_of cells)))) size_there
+        ap (λ n. cond (nat_lt asked n && nat_le (content_of cells).records (used_records (content_of cells))) (Err TableFull) (Ok (place, allocated slot place asked n (content_of cells)))) (node_size cells stands place slot Listed by)
             ∙ ap (λ b. cond b (Err TableFull) (Ok (place, allocated slot place asked by.at.node.size (content_of cells)))) served,
-        subst P size_there (allocated_is_good slot asked place (content_of cells) (content_is_good cells stands) found some whole (λ larger. room (omega (arith, larger, size_there)))),
+        subst P (node_size cells stands place slot Listed by) (allocated_is_good slot asked place (content_of cells) (content_is_good cells stands) found some whole (λ larger. room (omega (arith, larger, node_size cells stands place slot Listed by)))),
       )
 
   -- the block taken is the slot's, at its place
@@ -99,7 +96,7 @@ module _ (cells : Cells) (stands : Stands cells) (place slot asked : ℕ) (by : 
   full_refused no_vacant less owner =
       let refused : (nat_lt asked by.at.node.size && nat_le (content_of cells).records (used_records (content_of cells))) ≡ true =
       rw (lt-ltb asked by.at.node.size less, le-leb (content_of cells).records (used_records (content_of cells)) (no_room cells stands no_vacant)) refl in
-      ap (λ n. cond (nat_lt asked n && nat_le (content_of cells).records (used_records (content_of cells))) (Err TableFull) (Ok (place, allocated owner place asked n (content_of cells)))) size_there
+      ap (λ n. cond (nat_lt asked n && nat_le (content_of cells).records (used_records (content_of cells))) (Err TableFull) (Ok (place, allocated owner place asked n (content_of cells)))) (node_size cells stands place slot Listed by)
       ∙ ap (λ b. cond b (Err TableFull) (Ok (place, allocated owner place asked by.at.node.size (content_of cells)))) refused
 
 -- the slot of a listed node is of no live block

@@ -1,6 +1,5 @@
 -- What a layout stands for after a pool entered.
-use Rattle.std.proofs.Common.{◌≡◌, ◌≢◌, ℕ, ◌+◌, Bool, true, false, cond, List, [], ◌∷◌, length, map, refl, sym, ap, ◌∙◌, arith, count_by, None}
-use Rattle.std.specs.Prelude.{nat_lt}
+use Rattle.std.proofs.Common.{◌≡◌, ◌≢◌, ℕ, ◌+◌, Bool, cond, List, [], ◌∷◌, length, map, refl, sym, ap, ◌∙◌, arith, count_by, None}
 use Rattle.std.proofs.lemmas.Bool.{ne_eqb}
 use Rattle.tlsf_class.specs.Classes.{classes}
 use Rattle.tlsf_store.specs.declared.pools.Pool.{Pool as StoredPool}
@@ -8,20 +7,13 @@ use Rattle.tlsf_heap.specs.Content.{Block, Pool}
 use Rattle.tlsf_heap.specs.Malloc.{gap}
 use Rattle.tlsf_heap.specs.Lists.{link}
 use Rattle.tlsf_heap.specs.Pools.{in_order_of_base, with_pool}
-use Rattle.tlsf_heap.specs.Inner.Entries.{inserted}
 use Rattle.tlsf_heap.specs.Inner.Nodes.{Node, Area, Layout, Listed, turned, pool_of, content_by, nodes_of, entered}
 use Rattle.tlsf_heap.specs.Inner.Entering.{pool_node, area_of_one, with_area, pool_laid}
 use Rattle.tlsf_heap.proofs.Counts.{one_if, count-cons}
+use Rattle.tlsf_heap.proofs.Inserted.{map-inserted}
 use Rattle.tlsf_heap.proofs.Inner.Plugs.{count-nodes, count-nodes-plug}
-use Rattle.tlsf_heap.proofs.Inner.Entered.{map-inserted, Place, place}
+use Rattle.tlsf_heap.proofs.Inner.Entered.{Place, place}
 use Rattle.tlsf_heap.proofs.Meaning.Places.{by_places, places-entered}
-
-inserted_is : (pool : Pool ℕ) (pools : List (Pool ℕ)) → inserted (λ p. p.base) pool pools ≡ in_order_of_base pool pools
-inserted_is pool [] = refl
-inserted_is pool (other ∷ pools) = elim (nat_lt pool.base other.base) as (λ b. cond b (pool ∷ other ∷ pools) (other ∷ inserted (λ p. p.base) pool pools) ≡ cond b (pool ∷ other ∷ pools) (other ∷ in_order_of_base pool pools)) [
-  | true ↦ refl
-  | false ↦ ap (λ ps. other ∷ ps) (inserted_is pool pools)
-]
 
 -- the nodes are one more
 pub count-with_area : (test : Node → Bool) (entry : StoredPool) (node : Node) (areas : List Area) → count_by test (nodes_of (with_area (area_of_one entry node) areas)) ≡ one_if (test node) + count_by test (nodes_of areas)
@@ -46,7 +38,6 @@ pool_laid_is entry layout full some =
     let whole : block ∷ [] ≡ gap entry.base entry.bytes = sym (ap (λ b. cond b [] (block ∷ [])) (ne_eqb entry.bytes 0 some)) in
     let by_pools : map pool_of (with_area one layout.areas) ≡ in_order_of_base (record { base = entry.base; bytes = entry.bytes; blocks = gap entry.base entry.bytes }) (map pool_of layout.areas) =
     map-inserted pool_of (λ (area : Area). area.entry.base) (λ (pool : Pool ℕ). pool.base) (λ area. refl) one layout.areas
-    ∙ inserted_is (pool_of one) (map pool_of layout.areas)
     ∙ ap (λ blocks. in_order_of_base (record { base = entry.base; bytes = entry.bytes; blocks = blocks }) (map pool_of layout.areas)) whole in
     let by_lists : by_places (entered node layout.lists) ≡ link entry.base entry.bytes (by_places layout.lists) = places-entered node layout.lists full in
     λ i. record { records = layout.count; pools = by_pools i; lists = by_lists i }

@@ -6,8 +6,7 @@ use Rattle.tlsf_class.specs.Classes.{classes, class}
 use Rattle.tlsf_heap.specs.Content.{Block, Pool, Content, is_free, is_at, blocks_of}
 use Rattle.tlsf_heap.specs.Lists.{list_of}
 use Rattle.tlsf_heap.specs.Good.{Covers, NoFreeNeighbours, AreGoodPools, times, is_listed, IsGood}
-use Rattle.tlsf_heap.specs.Free.{if_free, unlink_block, size_of, start_of, without_block}
-use Rattle.tlsf_heap.specs.Free.{free_block, free}
+use Rattle.tlsf_heap.specs.Free.{if_free, unlink_block, size_of, start_of, without_block, free_block, free}
 use Rattle.tlsf_heap.specs.Inner.Positions.{plug}
 use Rattle.tlsf_heap.proofs.Content.FreeLists.{listed_at, times-unlink, length-unlink}
 use Rattle.tlsf_heap.proofs.Counts.{one_if, count-cons}

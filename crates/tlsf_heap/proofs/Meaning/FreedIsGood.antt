@@ -8,8 +8,7 @@ use Rattle.tlsf_heap.specs.Content.{Block, Pool, Content, blocks_of, is_free, is
 use Rattle.tlsf_heap.specs.Lists.{list_of, link}
 use Rattle.tlsf_heap.specs.Malloc.{replaced_in}
 use Rattle.tlsf_heap.specs.Good.{Covers, NoFreeNeighbours, AreGoodPools, times, is_listed, IsGood}
-use Rattle.tlsf_heap.specs.Free.{is_owned_by, is_live, if_free, free_previous, free_next, unlink_block, size_of, start_of}
-use Rattle.tlsf_heap.specs.Free.{free_block, without_block, after_free}
+use Rattle.tlsf_heap.specs.Free.{is_owned_by, is_live, if_free, free_previous, free_next, unlink_block, size_of, start_of, free_block, without_block, after_free}
 use Rattle.tlsf_heap.specs.Inner.Positions.{plug}
 use Rattle.tlsf_heap.proofs.Content.FreeLists.{times-link, length-link}
 use Rattle.tlsf_heap.proofs.Good.MallocIsGood.{Covers-le}

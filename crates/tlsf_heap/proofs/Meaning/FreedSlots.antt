@@ -1,10 +1,9 @@
 -- free gives back one slot, and changes no other.
 use Rattle.std.proofs.Common.{◌≡◌, ℕ, ◌+◌, ◌≤◌, true, false, cond, List, [], ◌∷◌, ◌++◌, map, sym, subst, arith, Option, Some, None, refl}
 use Rattle.tlsf_heap.specs.Content.{Block, Pool, Content, blocks_of, is_at, size_at}
-use Rattle.tlsf_heap.specs.Free.{free_previous, free_next, size_of, start_of}
+use Rattle.tlsf_heap.specs.Free.{free_previous, free_next, size_of, start_of, free_block, without_block, after_free}
 use Rattle.tlsf_heap.specs.Malloc.{replaced, replaced_in}
 use Rattle.tlsf_heap.specs.GoodSlots.{slot_times, HasGoodSlots}
-use Rattle.tlsf_heap.specs.Free.{free_block, without_block, after_free}
 use Rattle.tlsf_heap.proofs.Content.Replacing.{blocks_of-replaced}
 use Rattle.tlsf_heap.proofs.Good.Slots.{slot_times-cons, slot_times-append, slots_fewer}
 

@@ -5,13 +5,13 @@ use Rattle.std.specs.Int.{next_multiple_of}
 use Rattle.std.proofs.lemmas.Bool.{ltb-false}
 use Rattle.tlsf_class.specs.Classes.{unit}
 use Rattle.tlsf_heap.specs.declared.refusal.Refusal.TheVariants.{TableFull}
-use Rattle.tlsf_heap.specs.Content.{Block, Content, blocks_of, is_free, size_at, used_records}
+use Rattle.tlsf_heap.specs.Content.{Block, Content, blocks_of, is_free, size_at, used_records, IsSize}
 use Rattle.tlsf_heap.specs.Lists.{link, unlink, pick}
 use Rattle.tlsf_heap.specs.Malloc.{replaced_in}
 use Rattle.tlsf_heap.specs.Memalign.{is_alignment, size_asked, aligned, if_recorded, memalign_picked, memalign_rounded}
 use Rattle.tlsf_heap.specs.Free.{free_block}
 use Rattle.tlsf_heap.specs.Pools.{end_of_places}
-use Rattle.tlsf_heap.specs.PlainHeap.{IsSize, IsPlain, gap_block, link_block, blocks_among}
+use Rattle.tlsf_heap.specs.PlainHeap.{IsPlain, gap_block, link_block, blocks_among}
 use Rattle.tlsf_heap.specs.GoodSlots.{slot_times}
 use Rattle.tlsf_heap.proofs.Content.MemalignCases.{few_gap, used_aligned}
 use Rattle.tlsf_heap.proofs.Good.Slots.{aligned_slots}
@@ -19,11 +19,8 @@ use Rattle.tlsf_heap.proofs.Good.SlotsLeft.{free_found}
 use Rattle.tlsf_heap.proofs.Meaning.AlignedIsGood.{CanSplitAligned, can_split_aligned}
 use Rattle.tlsf_heap.proofs.Meaning.SplitInThree.{aligned_is_good}
 
-abbrev Plain : Type 0
-Plain = Content ℕ
-
 -- what the code has to know of the block that it splits
-pub record IsSplitAligned (align asked place start size : ℕ) (content : Plain) : Type 0 where
+pub record IsSplitAligned (align asked place start size : ℕ) (content : Content ℕ) : Type 0 where
   pub picked : pick (size_asked align asked) content.lists ≡ Some place
   pub can_split : CanSplitAligned align asked place content
   pub start_is : start ≡ next_multiple_of place align
@@ -39,7 +36,7 @@ pub record IsSplitAligned (align asked place start size : ℕ) (content : Plain)
   pub ends : (start + asked) + ((size - (start - place)) - asked) ≤ end_of_places
   pub some_free : 1 ≤ count_by is_free (blocks_of content.pools)
 
-pub is_split_aligned : {align asked place start size bytes : ℕ} {content : Plain} {pick_gave : Option ℕ} → IsPlain content → is_alignment align ≡ true → asked % unit ≡ 0 → 0 < asked → bytes ≡ size_asked align asked
+pub is_split_aligned : {align asked place start size bytes : ℕ} {content : Content ℕ} {pick_gave : Option ℕ} → IsPlain content → is_alignment align ≡ true → asked % unit ≡ 0 → 0 < asked → bytes ≡ size_asked align asked
     → pick_gave ≡ pick bytes content.lists → pick_gave ≡ Some place → size ≡ size_at place (blocks_of content.pools) → start ≡ next_multiple_of place align → IsSplitAligned align asked place start size content
 is_split_aligned {align} {asked} {place} {start} {size} {bytes} {content} {pick_gave} plain is whole some bytes_is picks gave size_is start_is =
     let found : pick (size_asked align asked) content.lists ≡ Some place = ap (λ n. pick n content.lists) (sym bytes_is) ∙ sym picks ∙ gave in
@@ -67,7 +64,7 @@ is_split_aligned {align} {asked} {place} {start} {size} {bytes} {content} {pick_
       some_free = free_found place _ at.picked.found at.picked.free;
     }
 
-module _ {align asked place start size : ℕ} {content : Plain} (by : IsSplitAligned align asked place start size content) where
+module _ {align asked place start size : ℕ} {content : Content ℕ} (by : IsSplitAligned align asked place start size content) where
   -- two blocks more, at most
   pub used_few : (slot : ℕ) → used_records (aligned slot start asked place size content) ≤ used_records content + 2
   used_few slot = omega (arith, used_aligned slot start asked place size content by.can_split.picked.found, few_gap (start - place), few_gap ((size - (start - place)) - asked))
@@ -83,16 +80,16 @@ module _ {align asked place start size : ℕ} {content : Plain} (by : IsSplitAli
 
   -- whether it would be too many blocks
   pub split_aligned_or_full : (slot : ℕ) (full : _) → full ≡ nat_lt content.records (used_records (aligned slot start asked place size content)) → (other : ℕ)
-      → memalign_rounded other align (Some asked) content ≡ cond {A = Result (ℕ × Plain) _} full (Err TableFull) (Ok (start, aligned other start asked place size content))
+      → memalign_rounded other align (Some asked) content ≡ cond {A = Result (ℕ × Content ℕ) _} full (Err TableFull) (Ok (start, aligned other start asked place size content))
   split_aligned_or_full slot full is other =
       picked_is other ∙ ap (λ b. cond b (Err TableFull) (Ok (start, aligned other start asked place size content))) (ap (nat_lt content.records) (used_same other slot) ∙ sym is)
 
   pub split_aligned_is_plain : (slot : ℕ) → IsPlain content → 0 < asked → asked % unit ≡ 0 → nat_lt content.records (used_records (aligned slot start asked place size content)) ≡ false → slot < content.records
       → slot_times slot (blocks_of content.pools) ≡ 0 → IsPlain (aligned slot start asked place size content)
   split_aligned_is_plain slot plain some whole room below new =
-      let of : ℕ → ℕ → Plain = λ s n. aligned slot s asked place n content in
+      let of : ℕ → ℕ → Content ℕ = λ s n. aligned slot s asked place n content in
       let same : of (next_multiple_of place align) (size_at place (blocks_of content.pools)) ≡ of start size = ap (of (next_multiple_of place align)) (sym by.size_is) ∙ ap (λ s. of s size) (sym by.start_is) in
-      let P : Plain → Type 0 = λ x. used_records x ≤ content.records → IsPlain x in
+      let P : Content ℕ → Type 0 = λ x. used_records x ≤ content.records → IsPlain x in
       subst P same (λ few. record {
         good = aligned_is_good slot (next_multiple_of place align) asked place content plain.good by.can_split.picked.once by.can_split.start.begins by.can_split.fits some whole by.can_split.start.gap_whole few;
         slots = aligned_slots slot (size_asked align asked) place content plain.good by.picked (next_multiple_of place align) asked plain.slots below new;
@@ -100,7 +97,7 @@ module _ {align asked place start size : ℕ} {content : Plain} (by : IsSplitAli
       }) (ltb-false _ _ room)
 
 -- the steps of the code are those of the definition
-pub aligned_by : (slot place start asked size : ℕ) (front rest : Option (Block ℕ)) (content copy out first second after : Plain)
+pub aligned_by : (slot place start asked size : ℕ) (front rest : Option (Block ℕ)) (content copy out first second after : Content ℕ)
     → copy ≡ content
     → out ≡ record copy { lists = unlink place size copy.lists }
     → first ≡ record out { lists = link_block front out.lists }
@@ -111,8 +108,8 @@ pub aligned_by : (slot place start asked size : ℕ) (front rest : Option (Block
     → after ≡ aligned slot start asked place size content
 aligned_by slot place start asked size front rest content copy out first second after a b c d e front_is rest_is =
     let live : Block ℕ = record { place = start; size = asked; owner = Some slot } in
-    let of : Option (Block ℕ) → Option (Block ℕ) → Plain → Plain = λ f r x. record x { pools = map (replaced_in place (blocks_among (f ∷ Some live ∷ r ∷ []))) x.pools; lists = link_block r (link_block f x.lists) } in
-    let left : Plain = record content { lists = unlink place size content.lists } in
+    let of : Option (Block ℕ) → Option (Block ℕ) → Content ℕ → Content ℕ = λ f r x. record x { pools = map (replaced_in place (blocks_among (f ∷ Some live ∷ r ∷ []))) x.pools; lists = link_block r (link_block f x.lists) } in
+    let left : Content ℕ = record content { lists = unlink place size content.lists } in
     let g : ℕ = start - place in
     let o : ℕ = (size - g) - asked in
     let gap_front : Block ℕ = free_block place g in
@@ -122,9 +119,9 @@ aligned_by slot place start asked size front rest content copy out first second 
       lists = cond u (cond t left.lists (link place g left.lists)) (link (start + asked) o (cond t left.lists (link place g left.lists)));
     } in
     e
-    ∙ ap (λ (x : Plain). record x { pools = map (replaced_in place (blocks_among (front ∷ Some live ∷ rest ∷ []))) x.pools }) d
-    ∙ ap (λ (x : Plain). record x { pools = map (replaced_in place (blocks_among (front ∷ Some live ∷ rest ∷ []))) x.pools; lists = link_block rest x.lists }) c
-    ∙ ap (of front rest) (b ∙ ap (λ (x : Plain). record x { lists = unlink place size x.lists }) a)
+    ∙ ap (λ (x : Content ℕ). record x { pools = map (replaced_in place (blocks_among (front ∷ Some live ∷ rest ∷ []))) x.pools }) d
+    ∙ ap (λ (x : Content ℕ). record x { pools = map (replaced_in place (blocks_among (front ∷ Some live ∷ rest ∷ []))) x.pools; lists = link_block rest x.lists }) c
+    ∙ ap (of front rest) (b ∙ ap (λ (x : Content ℕ). record x { lists = unlink place size x.lists }) a)
     ∙ ap (λ f. of f rest left) front_is
     ∙ ap (λ r. of (gap_block place g) r left) rest_is
     ∙ elim (g == 0) as (λ t. IsSame t (o == 0)) [

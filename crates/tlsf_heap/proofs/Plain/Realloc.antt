@@ -3,22 +3,19 @@ use Rattle.std.proofs.Common.{◌≡◌, ◌≢◌, ℕ, ◌+◌, ◌-◌, ◌%�
 use Rattle.std.specs.Prelude.{◌==◌, ◌&&◌, ◌||◌, is_some, nat_lt, nat_le}
 use Rattle.std.proofs.lemmas.Bool.{cases_Bool, cases_lt, ltb-true, leb-true}
 use Rattle.tlsf_class.specs.Classes.{unit}
-use Rattle.tlsf_heap.specs.Content.{Block, Content, blocks_of, is_at, size_at, used_records}
+use Rattle.tlsf_heap.specs.Content.{Block, Content, blocks_of, is_at, size_at, used_records, IsSize}
 use Rattle.tlsf_heap.specs.Lists.{link}
 use Rattle.tlsf_heap.specs.Malloc.{replaced_in}
 use Rattle.tlsf_heap.specs.Free.{is_owned_by, is_live, free_next, size_of, free_block}
 use Rattle.tlsf_heap.specs.Realloc.{size_with_next, fits_in_place, resized}
 use Rattle.tlsf_heap.specs.Pools.{end_of_places}
-use Rattle.tlsf_heap.specs.PlainHeap.{IsSize, IsPlain, gap_block, link_block, blocks_among}
+use Rattle.tlsf_heap.specs.PlainHeap.{IsPlain, gap_block, link_block, blocks_among}
 use Rattle.tlsf_heap.specs.GoodSlots.{is_slot, slot_times}
 use Rattle.tlsf_heap.proofs.Counts.{any_counts, count_and, count_same}
 use Rattle.tlsf_heap.proofs.Meaning.ResizedIsGood.{resized_is_good, resized_slots, size_with_next_whole}
 use Rattle.tlsf_heap.proofs.Plain.Free.{removed}
 
-abbrev Plain : Type 0
-Plain = Content ℕ
-
-fits_within : (place m : ℕ) (content : Plain) → fits_in_place place m content ≡ true → m ≤ size_with_next place content
+fits_within : (place m : ℕ) (content : Content ℕ) → fits_in_place place m content ≡ true → m ≤ size_with_next place content
 fits_within place m content fits =
     let size : ℕ = size_at place (blocks_of content.pools) in
     let room : Bool = is_some (free_next place content) || nat_lt (used_records content) content.records in
@@ -36,7 +33,7 @@ pub record IsResized (place asked size : ℕ) : Type 0 where
   pub rest_size : 0 < size - asked → IsSize (size - asked)
   pub ends : place + size ≤ end_of_places
 
-module _ (known place : ℕ) (content : Plain) (plain : IsPlain content) (live : is_live (λ slot. slot == known) place (blocks_of content.pools) ≡ true) where
+module _ (known place : ℕ) (content : Content ℕ) (plain : IsPlain content) (live : is_live (λ slot. slot == known) place (blocks_of content.pools) ≡ true) where
   owned_slot : (owner : Option ℕ) → is_owned_by (λ slot. slot == known) owner ≡ is_slot known owner
   owned_slot None = refl
   owned_slot (Some slot) = refl
@@ -83,7 +80,7 @@ module _ (known place : ℕ) (content : Plain) (plain : IsPlain content) (live :
     }
 
 -- the steps of the code are those of the definition
-pub resized_by : (slot place asked here behind : ℕ) (next rest : Option (Block ℕ)) (content copy first linked after : Plain)
+pub resized_by : (slot place asked here behind : ℕ) (next rest : Option (Block ℕ)) (content copy first linked after : Content ℕ)
     → copy ≡ content → first ≡ removed next copy
     → linked ≡ record first { lists = link_block rest first.lists }
     → after ≡ record linked { pools = map (replaced_in place (blocks_among (Some (record { place = place; size = asked; owner = Some slot }) ∷ rest ∷ []))) linked.pools }
@@ -92,13 +89,13 @@ pub resized_by : (slot place asked here behind : ℕ) (next rest : Option (Block
     → after ≡ resized slot place asked content
 resized_by slot place asked here behind next rest content copy first linked after a b c d next_is here_is behind_is rest_is =
     let live : Block ℕ = record { place = place; size = asked; owner = Some slot } in
-    let of : Option (Block ℕ) → Plain → Plain = λ o x. record x { pools = map (replaced_in place (blocks_among (Some live ∷ o ∷ []))) x.pools; lists = link_block o x.lists } in
+    let of : Option (Block ℕ) → Content ℕ → Content ℕ = λ o x. record x { pools = map (replaced_in place (blocks_among (Some live ∷ o ∷ []))) x.pools; lists = link_block o x.lists } in
     let size : ℕ = size_with_next place content in
-    let gone : Plain = removed (free_next place content) content in
+    let gone : Content ℕ = removed (free_next place content) content in
     let left_over : Block ℕ = free_block (place + asked) (size - asked) in
     let total : here + behind ≡ size = omega (arith, here_is, behind_is, ap size_of next_is) in
     d
-    ∙ ap (λ (x : Plain). record x { pools = map (replaced_in place (blocks_among (Some live ∷ rest ∷ []))) x.pools }) c
+    ∙ ap (λ (x : Content ℕ). record x { pools = map (replaced_in place (blocks_among (Some live ∷ rest ∷ []))) x.pools }) c
     ∙ ap (of rest) (b ∙ ap (removed next) a ∙ ap (λ o. removed o content) next_is)
     ∙ ap (λ o. of o gone) (rest_is ∙ ap (λ n. gap_block (place + asked) (n - asked)) total)
     ∙ elim ((size - asked) == 0) as (λ t. of (cond t None (Some left_over)) gone ≡ record gone {

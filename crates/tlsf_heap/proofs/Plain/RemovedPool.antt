@@ -1,17 +1,14 @@
 -- What the plain heap's remove_pool leaves.
 use Rattle.std.proofs.Common.{◌≡◌, ℕ, ◌<◌, Bool, true, cond, not, refl, sym, ap, ◌∙◌, subst, arith, filter, find, Option, Some, None, option_map, Ok, Err}
 use Rattle.tlsf_heap.specs.declared.refusal.Refusal.TheVariants.{PoolInUse}
-use Rattle.tlsf_heap.specs.Content.{Pool, Content}
+use Rattle.tlsf_heap.specs.Content.{Pool, Content, IsSize}
 use Rattle.tlsf_heap.specs.Lists.{unlink}
 use Rattle.tlsf_heap.specs.Pools.{is_based, is_unused, without_pool, remove_found, remove_pool}
-use Rattle.tlsf_heap.specs.PlainHeap.{IsSize, IsPlain}
+use Rattle.tlsf_heap.specs.PlainHeap.{IsPlain}
 use Rattle.tlsf_heap.proofs.Good.RemovedPool.{removed, without_pool_is_good, without_pool_slots}
 
-abbrev Plain : Type 0
-Plain = Content ℕ
-
 -- the pool found
-pub record IsFound (base bytes : ℕ) (unused : Bool) (content : Plain) : Type 0 where
+pub record IsFound (base bytes : ℕ) (unused : Bool) (content : Content ℕ) : Type 0 where
   pub pool : Pool ℕ
   pub there : find (is_based base) content.pools ≡ Some pool
   pub bytes_is : pool.bytes ≡ bytes
@@ -24,7 +21,7 @@ pub record IsFound (base bytes : ℕ) (unused : Bool) (content : Plain) : Type 0
 abbrev told_of : Pool ℕ → ℕ × Bool
 told_of pool = (pool.bytes, is_unused pool)
 
-pub is_found : {base bytes : ℕ} {unused : Bool} {content : Plain} {told : Option (ℕ × Bool)} → IsPlain content → told ≡ option_map told_of (find (is_based base) content.pools) → told ≡ Some (bytes, unused)
+pub is_found : {base bytes : ℕ} {unused : Bool} {content : Content ℕ} {told : Option (ℕ × Bool)} → IsPlain content → told ≡ option_map told_of (find (is_based base) content.pools) → told ≡ Some (bytes, unused)
     → IsFound base bytes unused content
 is_found {base} {bytes} {unused} {content} {told} plain tells is = of (find (is_based base) content.pools) refl (sym tells ∙ is)
   where
@@ -44,11 +41,11 @@ is_found {base} {bytes} {unused} {content} {told} plain tells is = of (find (is_
           below = omega (arith, gone.good.least_bytes, gone.good.ends, gone.based);
         }
 
-module _ {base bytes : ℕ} {content : Plain} (found : IsFound base bytes true content) where
+module _ {base bytes : ℕ} {content : Content ℕ} (found : IsFound base bytes true content) where
   -- the content without it
-  pub left_is : (copy new : Plain) → copy ≡ content → new ≡ record copy { pools = filter (λ pool. not (is_based base pool)) copy.pools; lists = unlink base bytes copy.lists } → new ≡ without_pool found.pool content
+  pub left_is : (copy new : Content ℕ) → copy ≡ content → new ≡ record copy { pools = filter (λ pool. not (is_based base pool)) copy.pools; lists = unlink base bytes copy.lists } → new ≡ without_pool found.pool content
   left_is copy new same is =
-      let of : ℕ → ℕ → Plain → Plain = λ b n x. record x { pools = filter (λ pool. not (is_based b pool)) x.pools; lists = unlink b n x.lists } in
+      let of : ℕ → ℕ → Content ℕ → Content ℕ = λ b n x. record x { pools = filter (λ pool. not (is_based b pool)) x.pools; lists = unlink b n x.lists } in
       is ∙ ap (of base bytes) same ∙ ap (λ b. of b bytes content) (sym found.based) ∙ ap (λ n. of found.pool.base n content) (sym found.bytes_is)
 
   pub removed_is : remove_pool base content ≡ Ok (without_pool found.pool content)

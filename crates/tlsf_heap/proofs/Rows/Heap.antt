@@ -94,53 +94,25 @@ told after = (after.answers, rows after.content)
 abbrev first_split : After
 first_split = from_create 4 (pool 0 1024 ∷ malloc_of 100 ∷ [])
 
-first_split-told : told first_split ≡ (done ∷ given 0 ∷ [], (0, 112, true) ∷ (112, 912, false) ∷ [])
-unfolding class need low rounded
-first_split-told = refl
-
 first_split-list : list_of 57 first_split.content.lists ≡ 112 ∷ []
 unfolding class need low rounded
 first_split-list = refl
-
--- lower-class-not-taken
-lower_class : told (from_create 2 (pool 0 1040 ∷ malloc_of 1040 ∷ malloc_of 1024 ∷ [])) ≡ (done ∷ refused NoFit ∷ given 0 ∷ [], (0, 1024, true) ∷ (1024, 16, false) ∷ [])
-unfolding class need low rounded
-lower_class = refl
 
 -- greatest-class
 abbrev greatest : After
 greatest = from_create 2 (pool 0 1073741808 ∷ malloc_of 1056964609 ∷ malloc_of 1056964608 ∷ [])
 
-greatest-told : told greatest ≡ (done ∷ refused NoFit ∷ given 0 ∷ [], (0, 1056964608, true) ∷ (1056964608, 16777200, false) ∷ [])
-unfolding class need low rounded
-greatest-told = refl
-
 greatest-list : list_of 511 greatest.content.lists ≡ 1056964608 ∷ []
 unfolding class need low rounded
 greatest-list = refl
-
--- pool-limits, its add_pool
-pool_limits : (from_create 4 (pool 4294967232 64 ∷ pool 4294967240 64 ∷ pool 4 64 ∷ pool 0 0 ∷ pool 4294967168 72 ∷ pool 8 64 ∷ pool 4294967248 64 ∷ pool 4294967168 80 ∷ [])).answers
-    ≡ done ∷ refused BadPool ∷ refused BadPool ∷ refused BadPool ∷ refused BadPool ∷ refused BadPool ∷ refused BadPool ∷ refused BadPool ∷ []
-unfolding class need low rounded
-pool_limits = refl
 
 -- pools-in-order
 abbrev in_order : After
 in_order = from_create 3 (pool 128 64 ∷ pool 0 64 ∷ pool 64 64 ∷ pool 192 64 ∷ pool 32 64 ∷ [])
 
-in_order-answers : in_order.answers ≡ done ∷ done ∷ done ∷ refused TableFull ∷ refused BadPool ∷ []
-unfolding class need low rounded
-in_order-answers = refl
-
 in_order-pools : pools in_order.content ≡ (0, 64) ∷ (64, 64) ∷ (128, 64) ∷ []
 unfolding class need low rounded
 in_order-pools = refl
-
--- reuse-without-split: the slot of a live block is the number of its request
-reuse : (from_create 4 (pool 0 1024 ∷ malloc_of 100 ∷ malloc_of 1 ∷ free_of 0 1 ∷ malloc_of 100 ∷ [])).answers ≡ done ∷ given 0 ∷ given 112 ∷ done ∷ given 0 ∷ []
-unfolding class need low rounded
-reuse = refl
 
 -- merge-both-sides
 abbrev both_sides : Held
@@ -153,23 +125,6 @@ both_sides-rows = refl
 both_sides-lists : list_of 64 both_sides.lists ≡ 0 ∷ []
 unfolding class need low rounded
 both_sides-lists = refl
-
--- newest-freed-first
-newest_first : (from_create 8 (pool 0 128 ∷ malloc_of 8 ∷ malloc_of 8 ∷ malloc_of 8 ∷ malloc_of 8 ∷ malloc_of 8 ∷ malloc_of 8 ∷ malloc_of 8 ∷ malloc_of 8
-    ∷ free_of 0 1 ∷ free_of 32 3 ∷ malloc_of 8 ∷ malloc_of 8 ∷ malloc_of 8 ∷ [])).answers
-    ≡ done ∷ given 0 ∷ given 16 ∷ given 32 ∷ given 48 ∷ given 64 ∷ given 80 ∷ given 96 ∷ given 112 ∷ done ∷ done ∷ given 32 ∷ given 0 ∷ refused NoFit ∷ []
-unfolding class need low rounded
-newest_first = refl
-
--- pools-never-merged
-never_merged : (from_create 4 (pool 0 64 ∷ pool 64 64 ∷ malloc_of 64 ∷ free_of 64 2 ∷ malloc_of 128 ∷ malloc_of 0 ∷ [])).answers ≡ done ∷ done ∷ given 64 ∷ done ∷ refused NoFit ∷ refused ZeroSize ∷ []
-unfolding class need low rounded
-never_merged = refl
-
--- a second free of the block, and one by its place alone
-free_twice : (from_create 4 (pool 0 1024 ∷ malloc_of 100 ∷ free_of 0 9 ∷ free_of 16 1 ∷ free_of 0 1 ∷ free_of 0 1 ∷ [])).answers ≡ done ∷ given 0 ∷ refused BadPointer ∷ refused BadPointer ∷ done ∷ refused BadPointer ∷ []
-unfolding class need low rounded
-free_twice = refl
 
 -- first-split: its two blocks are aligned and disjoint
 abbrev two_blocks : List (Block ℕ)
@@ -238,16 +193,6 @@ not_full : HasFewRecords (from_create 2 (pool 0 64 ∷ [])).content → ⊥
 unfolding class need low rounded
 not_full few = omega (arith, few)
 
--- memalign-gap-and-rest
-gap_and_rest : told (from_create 4 (pool 16 256 ∷ memalign_of 64 32 ∷ memalign_of 3 0 ∷ memalign_of 1073741824 8 ∷ memalign_of 8 0 ∷ [])) ≡ (done ∷ given 64 ∷ refused BadAlign ∷ refused BadAlign ∷ refused ZeroSize ∷ [], (16, 48, false) ∷ (64, 32, true) ∷ (96, 176, false) ∷ [])
-unfolding class need low rounded
-gap_and_rest = refl
-
--- memalign-needs-records: the gap alone takes the one that is vacant
-needs_records : told (from_create 2 (pool 16 256 ∷ memalign_of 64 32 ∷ memalign_of 64 200 ∷ [])) ≡ (done ∷ refused TableFull ∷ given 64 ∷ [], (16, 48, false) ∷ (64, 208, true) ∷ [])
-unfolding class need low rounded
-needs_records = refl
-
 -- the gap enters its list before the rest, where both are of one class
 gap_first : list_of 3 (from_create 3 (pool 16 128 ∷ memalign_of 64 32 ∷ [])).content.lists ≡ 96 ∷ 16 ∷ []
 unfolding class need low rounded
@@ -257,49 +202,77 @@ gap_first = refl
 alignments : map is_alignment (0 ∷ 1 ∷ 2 ∷ 3 ∷ 536870912 ∷ 536870913 ∷ 1073741824 ∷ []) ≡ false ∷ true ∷ true ∷ false ∷ true ∷ false ∷ false ∷ []
 alignments = refl
 
--- grow-and-shrink-in-place
-grown_in_place : told (from_create 4 (pool 0 1024 ∷ malloc_of 100 ∷ realloc_of (Some (0, 1)) 200 ∷ [])) ≡ (done ∷ given 0 ∷ moved (Some (0, 1)) ∷ [], (0, 208, true) ∷ (208, 816, false) ∷ [])
-unfolding class need low rounded
-grown_in_place = refl
-
-shrunk_in_place : told (from_create 4 (pool 0 1024 ∷ malloc_of 100 ∷ realloc_of (Some (0, 1)) 200 ∷ realloc_of (Some (0, 1)) 8 ∷ [])) ≡ (done ∷ given 0 ∷ moved (Some (0, 1)) ∷ moved (Some (0, 1)) ∷ [], (0, 16, true) ∷ (16, 1008, false) ∷ [])
-unfolding class need low rounded
-shrunk_in_place = refl
-
--- realloc-moves
-moves : told (from_create 4 (pool 0 1024 ∷ malloc_of 100 ∷ malloc_of 1 ∷ realloc_of (Some (0, 1)) 200 ∷ [])) ≡ (done ∷ given 0 ∷ given 112 ∷ moved (Some (128, 3)) ∷ [], (0, 112, false) ∷ (112, 16, true) ∷ (128, 208, true) ∷ (336, 688, false) ∷ [])
-unfolding class need low rounded
-moves = refl
-
--- full-table
-full_table : (from_create 1 (pool 0 64 ∷ malloc_of 8 ∷ malloc_of 64 ∷ realloc_of (Some (0, 2)) 8 ∷ size_of 0 2 ∷ [])).answers ≡ done ∷ refused TableFull ∷ given 0 ∷ moved (Some (0, 2)) ∷ sized 64 ∷ []
-unfolding class need low rounded
-full_table = refl
-
--- double-free-and-realloc-to-zero
-to_zero : (from_create 4 (pool 0 1024 ∷ malloc_of 100 ∷ free_of 0 1 ∷ free_of 0 1 ∷ realloc_of None 0 ∷ malloc_of 100 ∷ realloc_of (Some (0, 5)) 0 ∷ size_of 0 5 ∷ [])).answers
-    ≡ done ∷ given 0 ∷ done ∷ refused BadPointer ∷ refused ZeroSize ∷ given 0 ∷ moved None ∷ refused BadPointer ∷ []
-unfolding class need low rounded
-to_zero = refl
-
--- a move that is refused, and sizes that are the block's or too large
-not_moved : (from_create 4 (pool 0 64 ∷ malloc_of 8 ∷ malloc_of 8 ∷ realloc_of (Some (0, 1)) 128 ∷ realloc_of (Some (0, 1)) 1 ∷ realloc_of (Some (0, 1)) 1073741809 ∷ realloc_of (Some (16, 1)) 1 ∷ [])).answers
-    ≡ done ∷ given 0 ∷ given 16 ∷ refused NoFit ∷ moved (Some (0, 1)) ∷ refused NoFit ∷ refused BadPointer ∷ []
-unfolding class need low rounded
-not_moved = refl
-
 -- a block that gets smaller before a live one leaves a free block
 shrunk_beside : rows (from_create 4 (pool 0 80 ∷ malloc_of 32 ∷ malloc_of 48 ∷ realloc_of (Some (0, 1)) 8 ∷ [])).content ≡ (0, 16, true) ∷ (16, 16, false) ∷ (32, 48, true) ∷ []
 unfolding class need low rounded
 shrunk_beside = refl
 
--- pool-limits, whole
-pool_limits_whole : (from_create 4 (pool 4294967232 64 ∷ remove 8 ∷ malloc_of 8 ∷ remove 4294967232 ∷ free_of 4294967232 2 ∷ remove 4294967232 ∷ remove 4294967232 ∷ malloc_of 8 ∷ [])).answers
-    ≡ done ∷ refused NoPool ∷ given 4294967232 ∷ refused PoolInUse ∷ done ∷ done ∷ refused NoPool ∷ refused NoFit ∷ []
-unfolding class need low rounded
-pool_limits_whole = refl
+-- runs, with what they answer and the rows that they leave
+abbrev told_rows : List (After × (List Answer × List (ℕ × ℕ × Bool)))
+told_rows =
+    (first_split, (done ∷ given 0 ∷ [], (0, 112, true) ∷ (112, 912, false) ∷ []))
+    -- lower-class-not-taken
+    ∷ (from_create 2 (pool 0 1040 ∷ malloc_of 1040 ∷ malloc_of 1024 ∷ []), (done ∷ refused NoFit ∷ given 0 ∷ [], (0, 1024, true) ∷ (1024, 16, false) ∷ []))
+    ∷ (greatest, (done ∷ refused NoFit ∷ given 0 ∷ [], (0, 1056964608, true) ∷ (1056964608, 16777200, false) ∷ []))
+    -- memalign-gap-and-rest
+    ∷ (
+      from_create 4 (pool 16 256 ∷ memalign_of 64 32 ∷ memalign_of 3 0 ∷ memalign_of 1073741824 8 ∷ memalign_of 8 0 ∷ []),
+      (done ∷ given 64 ∷ refused BadAlign ∷ refused BadAlign ∷ refused ZeroSize ∷ [], (16, 48, false) ∷ (64, 32, true) ∷ (96, 176, false) ∷ []),
+    )
+    -- memalign-needs-records: the gap alone takes the one that is vacant
+    ∷ (from_create 2 (pool 16 256 ∷ memalign_of 64 32 ∷ memalign_of 64 200 ∷ []), (done ∷ refused TableFull ∷ given 64 ∷ [], (16, 48, false) ∷ (64, 208, true) ∷ []))
+    -- grow-and-shrink-in-place
+    ∷ (from_create 4 (pool 0 1024 ∷ malloc_of 100 ∷ realloc_of (Some (0, 1)) 200 ∷ []), (done ∷ given 0 ∷ moved (Some (0, 1)) ∷ [], (0, 208, true) ∷ (208, 816, false) ∷ []))
+    ∷ (from_create 4 (pool 0 1024 ∷ malloc_of 100 ∷ realloc_of (Some (0, 1)) 200 ∷ realloc_of (Some (0, 1)) 8 ∷ []), (done ∷ given 0 ∷ moved (Some (0, 1)) ∷ moved (Some (0, 1)) ∷ [], (0, 16, true) ∷ (16, 1008, false) ∷ []))
+    -- realloc-moves
+    ∷ (from_create 4 (pool 0 1024 ∷ malloc_of 100 ∷ malloc_of 1 ∷ realloc_of (Some (0, 1)) 200 ∷ []), (done ∷ given 0 ∷ given 112 ∷ moved (Some (128, 3)) ∷ [], (0, 112, false) ∷ (112, 16, true) ∷ (128, 208, true) ∷ (336, 688, false) ∷ []))
+    -- realloc-grows-over-freed
+    ∷ (from_create 3 (pool 0 64 ∷ malloc_of 8 ∷ malloc_of 8 ∷ free_of 16 2 ∷ realloc_of (Some (0, 1)) 64 ∷ []), (done ∷ given 0 ∷ given 16 ∷ done ∷ moved (Some (0, 1)) ∷ [], (0, 64, true) ∷ []))
+    ∷ []
 
--- realloc-grows-over-freed
-grows_over_freed : told (from_create 3 (pool 0 64 ∷ malloc_of 8 ∷ malloc_of 8 ∷ free_of 16 2 ∷ realloc_of (Some (0, 1)) 64 ∷ [])) ≡ (done ∷ given 0 ∷ given 16 ∷ done ∷ moved (Some (0, 1)) ∷ [], (0, 64, true) ∷ [])
+all_told : map (λ row. told row.0) told_rows ≡ map (λ row. row.1) told_rows
 unfolding class need low rounded
-grows_over_freed = refl
+all_told = refl
+
+-- runs, with what they answer
+abbrev answer_rows : List (After × List Answer)
+answer_rows =
+    -- pool-limits, its add_pool
+    (
+      from_create 4 (pool 4294967232 64 ∷ pool 4294967240 64 ∷ pool 4 64 ∷ pool 0 0 ∷ pool 4294967168 72 ∷ pool 8 64 ∷ pool 4294967248 64 ∷ pool 4294967168 80 ∷ []),
+      done ∷ refused BadPool ∷ refused BadPool ∷ refused BadPool ∷ refused BadPool ∷ refused BadPool ∷ refused BadPool ∷ refused BadPool ∷ [],
+    )
+    ∷ (in_order, done ∷ done ∷ done ∷ refused TableFull ∷ refused BadPool ∷ [])
+    -- reuse-without-split: the slot of a live block is the number of its request
+    ∷ (from_create 4 (pool 0 1024 ∷ malloc_of 100 ∷ malloc_of 1 ∷ free_of 0 1 ∷ malloc_of 100 ∷ []), done ∷ given 0 ∷ given 112 ∷ done ∷ given 0 ∷ [])
+    -- newest-freed-first
+    ∷ (
+      from_create 8 (pool 0 128 ∷ malloc_of 8 ∷ malloc_of 8 ∷ malloc_of 8 ∷ malloc_of 8 ∷ malloc_of 8 ∷ malloc_of 8 ∷ malloc_of 8 ∷ malloc_of 8 ∷ free_of 0 1 ∷ free_of 32 3 ∷ malloc_of 8 ∷ malloc_of 8 ∷ malloc_of 8 ∷ []),
+      done ∷ given 0 ∷ given 16 ∷ given 32 ∷ given 48 ∷ given 64 ∷ given 80 ∷ given 96 ∷ given 112 ∷ done ∷ done ∷ given 32 ∷ given 0 ∷ refused NoFit ∷ [],
+    )
+    -- pools-never-merged
+    ∷ (from_create 4 (pool 0 64 ∷ pool 64 64 ∷ malloc_of 64 ∷ free_of 64 2 ∷ malloc_of 128 ∷ malloc_of 0 ∷ []), done ∷ done ∷ given 64 ∷ done ∷ refused NoFit ∷ refused ZeroSize ∷ [])
+    -- a second free of the block, and one by its place alone
+    ∷ (from_create 4 (pool 0 1024 ∷ malloc_of 100 ∷ free_of 0 9 ∷ free_of 16 1 ∷ free_of 0 1 ∷ free_of 0 1 ∷ []), done ∷ given 0 ∷ refused BadPointer ∷ refused BadPointer ∷ done ∷ refused BadPointer ∷ [])
+    -- full-table
+    ∷ (from_create 1 (pool 0 64 ∷ malloc_of 8 ∷ malloc_of 64 ∷ realloc_of (Some (0, 2)) 8 ∷ size_of 0 2 ∷ []), done ∷ refused TableFull ∷ given 0 ∷ moved (Some (0, 2)) ∷ sized 64 ∷ [])
+    -- double-free-and-realloc-to-zero
+    ∷ (
+      from_create 4 (pool 0 1024 ∷ malloc_of 100 ∷ free_of 0 1 ∷ free_of 0 1 ∷ realloc_of None 0 ∷ malloc_of 100 ∷ realloc_of (Some (0, 5)) 0 ∷ size_of 0 5 ∷ []),
+      done ∷ given 0 ∷ done ∷ refused BadPointer ∷ refused ZeroSize ∷ given 0 ∷ moved None ∷ refused BadPointer ∷ [],
+    )
+    -- a move that is refused, and sizes that are the block's or too large
+    ∷ (
+      from_create 4 (pool 0 64 ∷ malloc_of 8 ∷ malloc_of 8 ∷ realloc_of (Some (0, 1)) 128 ∷ realloc_of (Some (0, 1)) 1 ∷ realloc_of (Some (0, 1)) 1073741809 ∷ realloc_of (Some (16, 1)) 1 ∷ []),
+      done ∷ given 0 ∷ given 16 ∷ refused NoFit ∷ moved (Some (0, 1)) ∷ refused NoFit ∷ refused BadPointer ∷ [],
+    )
+    -- pool-limits, whole
+    ∷ (
+      from_create 4 (pool 4294967232 64 ∷ remove 8 ∷ malloc_of 8 ∷ remove 4294967232 ∷ free_of 4294967232 2 ∷ remove 4294967232 ∷ remove 4294967232 ∷ malloc_of 8 ∷ []),
+      done ∷ refused NoPool ∷ given 4294967232 ∷ refused PoolInUse ∷ done ∷ done ∷ refused NoPool ∷ refused NoFit ∷ [],
+    )
+    ∷ []
+
+all_answered : map (λ row. row.0.answers) answer_rows ≡ map (λ row. row.1) answer_rows
+unfolding class need low rounded
+all_answered = refl

@@ -1,16 +1,26 @@
 -- What steps over a store promise: the cells that they leave, and how often they touch it.
-use Rattle.std.specs.Prelude.{◌≡◌, ℕ, Result, IfOk, IfErr, OnErr}
+use Rattle.std.specs.Prelude.{◌≡◌, ℕ, Some, Result, IfOk, IfErr, OnErr}
+use Rattle.tlsf_store.specs.declared.records.State.TheVariants.{Free}
+use Rattle.tlsf_store.specs.Records.{record_at}
 use Rattle.tlsf_store.specs.Cells.{Cells}
 use Rattle.tlsf_store.specs.CountedCells.{CountedCells}
 use Rattle.tlsf_heap.specs.declared.refusal.Refusal.{Refusal}
 use Rattle.tlsf_heap.specs.Touches.{AtMost}
 use Rattle.tlsf_heap.specs.Content.{Content}
+use Rattle.tlsf_heap.specs.Lists.{pick}
+use Rattle.tlsf_heap.specs.Inner.Spans.{IsOfClass}
 use Rattle.tlsf_heap.specs.Inner.Following.{Stands, content_of}
 
 -- these cells are left, after at most n touches
 pub record Leaves (left : Cells) (n : ℕ) (old new : CountedCells) : Type 0 where
   pub cells : new.cells ≡ left
   pub touches : AtMost n old.touches new.touches
+
+-- the slot's block, of this class, is the one that is picked for the bytes asked
+pub record IsPick (asked class slot : ℕ) (cells : Cells) : Type 0 where
+  pub of_class : IsOfClass class (record_at cells.records slot)
+  pub free : (record_at cells.records slot).state ≡ Free
+  pub found : pick asked (content_of cells).lists ≡ Some (record_at cells.records slot).place
 
 -- a call over a store that stands, by its content: what it gives, or why it is refused. Refused, it leaves the cells as they
 -- were. At most n touches

@@ -1,7 +1,7 @@
 -- A pool that enters a layout: one free node, in order of base.
 use Rattle.std.specs.Prelude.{List, [], ◌∷◌, map}
 use Rattle.tlsf_store.specs.declared.pools.Pool.{Pool as StoredPool}
-use Rattle.tlsf_heap.specs.Inner.Entries.{inserted}
+use Rattle.tlsf_heap.specs.Pools.{inserted}
 use Rattle.tlsf_heap.specs.Inner.Nodes.{Node, Area, Layout, Listed, Loose, turned, entered}
 
 -- the one node of the entry's pool

@@ -1,11 +1,12 @@
 -- The pool entries of a store, and a pool that enters it.
-use Rattle.std.specs.Prelude.{ℕ, ◌+◌, ◌-◌, ◌||◌, nat_le, Bool, List, [], ◌∷◌, ◌++◌, length, map, replicate, slice_index_or, Option, Some, None, if◌then◌else◌, nat_lt}
-use Rattle.std.specs.List.{position_or_len, filter_map}
+use Rattle.std.specs.Prelude.{ℕ, ◌+◌, ◌-◌, ◌||◌, nat_le, Bool, List, ◌++◌, length, map, replicate, slice_index_or, Option, Some, None}
+use Rattle.std.specs.List.{filter_map}
 use Rattle.tlsf_class.specs.Classes.{class}
 use Rattle.tlsf_store.specs.declared.records.State.TheVariants.{Free}
 use Rattle.tlsf_store.specs.declared.records.Record.{Record}
 use Rattle.tlsf_store.specs.declared.pools.Pool.{Pool as StoredPool}
 use Rattle.tlsf_store.specs.Cells.{Cells, with_record, most_pools}
+use Rattle.tlsf_heap.specs.Pools.{inserted}
 use Rattle.tlsf_heap.specs.Inner.Edits.{linked}
 
 -- the entries, and none behind them
@@ -20,10 +21,6 @@ padded_at entries number = slice_index_or (map Some entries) number None
 abbrev pub entries_of : List (Option StoredPool) → List StoredPool
 entries_of pools = filter_map (λ pool. pool) pools
 
--- how many entries stand in front of the first that begins behind the base
-abbrev pub entry_place : ℕ → List StoredPool → ℕ
-entry_place base entries = position_or_len (λ entry. nat_lt base entry.base) entries
-
 -- whether the bytes from base on lie before or behind the entry's pool
 abbrev pub is_entry_apart : ℕ → ℕ → StoredPool → Bool
 is_entry_apart base bytes entry = nat_le (base + bytes) entry.base || nat_le (entry.base + entry.bytes) base
@@ -31,11 +28,6 @@ is_entry_apart base bytes entry = nat_le (base + bytes) entry.base || nat_le (en
 -- where the entry's pool begins, and its bytes
 abbrev pub entry_range : StoredPool → ℕ × ℕ
 entry_range entry = (entry.base, entry.bytes)
-
--- the item stands in front of the first one whose key is greater
-abbrev pub inserted : {A : Type 0} → (A → ℕ) → A → List A → List A
-inserted key item [] = item ∷ []
-inserted key item (other ∷ items) = if nat_lt (key item) (key other) then item ∷ other ∷ items else other ∷ inserted key item items
 
 -- the entries in order of base, with this one among them
 abbrev pub with_entry : StoredPool → List StoredPool → List StoredPool

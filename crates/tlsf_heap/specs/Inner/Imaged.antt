@@ -1,11 +1,10 @@
--- Cells that hold what an image describes, and records that agree on their blocks.
+-- Cells that break no rule of images, and records that agree on their blocks.
 use Rattle.std.specs.Prelude.{◌≡◌, ℕ, ◌%◌, true, List, length, None}
 use Rattle.tlsf_class.specs.Classes.{unit, classes, levels}
 use Rattle.tlsf_store.specs.declared.records.State.TheVariants.{Live}
 use Rattle.tlsf_store.specs.declared.records.Record.{Record}
 use Rattle.tlsf_store.specs.Records.{record_at, is_free_state}
 use Rattle.tlsf_store.specs.Cells.{Cells, most_pools}
-use Rattle.tlsf_heap.specs.Images.Image.{parts_in}
 use Rattle.tlsf_heap.specs.Images.Rules.{is_used, are_pools, first_of, rules_of_parts}
 use Rattle.tlsf_heap.specs.Images.Described.{parts_of}
 use Rattle.tlsf_heap.specs.Images.Bitmaps.{AreBitmapsOf}
@@ -34,11 +33,3 @@ pub record AreAlike (records others : List Record) : Type 0 where
 -- no live record has a neighbour in a list
 abbrev pub LiveAlone : List Record → Type 0
 LiveAlone records = (slot : ℕ) → (record_at records slot).state ≡ Live → list_views records slot ≡ record { prev = None; next = None }
-
--- the cells hold what the bytes of an image describe, with the bitmaps of the heads
-pub record AreLoaded (bytes : List ℕ) (cells : Cells) : Type 0 where
-  pub pools : cells.pools ≡ (parts_in bytes).pools
-  pub heads : cells.heads ≡ (parts_in bytes).heads
-  pub alike : AreAlike (parts_in bytes).records cells.records
-  pub words_count : length cells.step_words ≡ levels
-  pub bitmaps : AreBitmapsOf cells.heads cells.step_words cells.level_word

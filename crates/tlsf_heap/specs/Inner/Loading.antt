@@ -7,6 +7,7 @@ use Rattle.tlsf_store.specs.Records.{blank, IsBelow, IsKept}
 use Rattle.tlsf_store.specs.Cells.{Cells, head_at}
 use Rattle.tlsf_heap.specs.Images.Image.{Parts}
 use Rattle.tlsf_heap.specs.Images.Rules.{at, is_used}
+use Rattle.tlsf_heap.specs.Images.Described.{parts_of}
 use Rattle.tlsf_heap.specs.Images.Bitmaps.{AreBitmapsOf}
 
 -- the cells with these records, and with these pools
@@ -22,10 +23,9 @@ pub record CanBeStored (parts : Parts) : Type 0 where
   pub vacant : (slot : ℕ) → slot < length parts.records → is_used (at parts slot).state ≡ false → at parts slot ≡ blank
   pub heads : (class : ℕ) → class < classes → IsBelow (length parts.records) (head_at parts.heads class)
 
--- no class has a block, and the bitmaps tell so
-pub record HasNoHeads (cells : Cells) : Type 0 where
-  pub none : (class : ℕ) → class < classes → head_at cells.heads class ≡ None
-  pub heads_count : length cells.heads ≡ classes
+-- the cells hold the parts, and the bitmaps are those of the heads
+pub record HoldsParts (parts : Parts) (cells : Cells) : Type 0 where
+  pub held : parts_of cells ≡ parts
   pub words_count : length cells.step_words ≡ levels
   pub bitmaps : AreBitmapsOf cells.heads cells.step_words cells.level_word
 

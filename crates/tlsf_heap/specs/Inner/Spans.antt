@@ -1,5 +1,5 @@
 -- What is known of a block on its way, by its record and by its node. The edits of a store's cells by what is known.
-use Rattle.std.specs.Prelude.{◌≡◌, ℕ, ◌+◌, ◌-◌, ◌%◌, ◌<◌, ◌≤◌, List, Option, Some, None}
+use Rattle.std.specs.Prelude.{◌≡◌, ℕ, ◌+◌, ◌-◌, ◌%◌, ◌<◌, ◌≤◌, List, length, Option, Some, None}
 use Rattle.tlsf_class.specs.Classes.{unit, class, greatest_size}
 use Rattle.tlsf_store.specs.declared.records.State.{State}
 use Rattle.tlsf_store.specs.declared.records.Record.{Record}
@@ -28,6 +28,12 @@ pub record IsRecordOf (block : Record) (pointer : Pointer) (records : List Recor
   pub read : block ≡ record_at records pointer.slot
   pub place : block.place ≡ pointer.place
   pub in_units : block.place % unit ≡ 0
+
+-- the slot of the block that is left behind a gap of some bytes: its own where there are none, else a vacant one
+pub record IsLeft (bytes own left : ℕ) (records : List Record) : Type 0 where
+  pub same : bytes ≡ 0 → left ≡ own
+  pub vacant : 0 < bytes → record_at records left ≡ blank
+  pub below : left < length records
 
 -- the class is that of the record's block
 abbrev pub IsOfClass : ℕ → Record → Type 0

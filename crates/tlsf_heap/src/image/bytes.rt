@@ -29,10 +29,5 @@ pub(crate) fn are_zero(bytes: &[u8], offset: usize, count: usize) -> bool
     requires { offset + count ≤ length bytes.now }
     ensures { result ≡ are_zero offset count bytes.now }
 {
-    for index in offset..offset + count {
-        if bytes[index] != 0 {
-            return false;
-        }
-    }
-    true
+    (offset..offset + count).all(|index| bytes[index] == 0)
 }

@@ -120,10 +120,5 @@ pub(crate) fn has_states(bytes: &[u8]) -> bool
     requires { record_start (two_at count_at bytes.now) ≡ length bytes.now }
     ensures { result ≡ has_states bytes.now }
 {
-    for slot in 0..usize::from(two_at(bytes, COUNT_AT)) {
-        if !has_state(bytes, slot) {
-            return false;
-        }
-    }
-    true
+    (0..usize::from(two_at(bytes, COUNT_AT))).all(|slot| has_state(bytes, slot))
 }

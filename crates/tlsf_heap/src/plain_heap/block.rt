@@ -11,8 +11,7 @@ pub struct Block {
 
 impl Model for Block {
     ghost use Rattle.std.specs.Prelude.{ℕ};
-    ghost use Rattle.tlsf_heap.specs.Content.{Block};
-    ghost use Rattle.tlsf_heap.specs.PlainHeap.{IsSize};
+    ghost use Rattle.tlsf_heap.specs.Content.{Block, IsSize};
 
     ghost Value = { Block ℕ };
 
@@ -26,7 +25,8 @@ impl Model for Block {
 impl Block {
     ghost use Rattle.std.specs.Prelude.{◌≡◌, ◌<◌, ◌^◌};
     ghost use Rattle.tlsf_heap.specs.Free.{free_block, start_of, size_of};
-    ghost use Rattle.tlsf_heap.specs.PlainHeap.{IsSize, gap_block};
+    ghost use Rattle.tlsf_heap.specs.Content.{IsSize};
+    ghost use Rattle.tlsf_heap.specs.PlainHeap.{gap_block};
     ghost use Rattle.tlsf_heap.specs.Rows.{row_of};
 
     /// A free block of `size` bytes at a place.

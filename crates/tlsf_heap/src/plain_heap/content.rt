@@ -29,13 +29,13 @@ impl Content {
     ghost use Rattle.std.specs.Prelude.{◌≡◌, ◌<◌, ◌≤◌, ◌+◌, ◌^◌, ◌%◌, ◌==◌, not, length, map, filter, find, count_by, option_map, nat_le, nat_lt, position, IfOk, IfSome, OnOk};
     ghost use Rattle.std.specs.List.{list_any, list_all};
     ghost use Rattle.tlsf_class.specs.Classes.{unit};
-    ghost use Rattle.tlsf_heap.specs.Content.{blocks_of, is_free, is_at, size_at, used_records};
+    ghost use Rattle.tlsf_heap.specs.Content.{blocks_of, is_free, is_at, size_at, used_records, IsSize};
     ghost use Rattle.tlsf_heap.specs.Lists.{link, unlink, pick};
     ghost use Rattle.tlsf_heap.specs.Malloc.{replaced_in};
     ghost use Rattle.tlsf_heap.specs.Free.{is_live, free_previous, free_next, unlink_block, without_block};
     ghost use Rattle.tlsf_heap.specs.Pools.{created, with_pool, is_apart, end_of_places, is_based, is_unused};
     ghost use Rattle.tlsf_heap.specs.GoodSlots.{is_slot, slot_times};
-    ghost use Rattle.tlsf_heap.specs.PlainHeap.{IsSize, link_block, blocks_among, blocks_from, first_of};
+    ghost use Rattle.tlsf_heap.specs.PlainHeap.{link_block, blocks_among, blocks_from, first_of};
 
     /// The content of this many records, with no pool.
     pub fn create(alloc: Global, records: u16) -> Result<Self, AllocError>
@@ -258,28 +258,17 @@ impl Content {
     pub fn pool_at(&self, base: u64) -> Option<(u32, bool)>
         ensures { result ≡ option_map (λ pool. (pool.bytes, is_unused pool)) (find (is_based base) self.now.pools) }
     {
-        for pool in &self.pools {
-            if pool.is_based(base) {
-                return Some((pool.bytes, pool.is_unused()));
-            }
-        }
-        None
+        let pool = self.pools.iter().find(|pool| pool.is_based(base))?;
+        Some((pool.bytes, pool.is_unused()))
     }
 
     /// The pools that begin at the place `base` are gone, and the block of `bytes` bytes there from its list.
-    pub fn remove_pool(&mut self, base: u32, bytes: u32) -> Result<(), AllocError>
+    pub fn remove_pool(&mut self, base: u32, bytes: u32)
         requires { IsSize bytes }
-        ensures { OnOk result (self.new ≡ record self.old { pools = filter (λ pool. not (is_based base pool)) self.old.pools; lists = unlink base bytes self.old.lists }) }
+        ensures { self.new ≡ record self.old { pools = filter (λ pool. not (is_based base pool)) self.old.pools; lists = unlink base bytes self.old.lists } }
     {
         self.unlink(base, bytes);
-        let mut pools = Vec::new(*self.pools.allocator());
-        for pool in &self.pools {
-            if !pool.is_based(u64::from(base)) {
-                pools.push(pool.clone()?)?;
-            }
-        }
-        self.pools = pools;
-        Ok(())
+        self.pools.retain(|pool| !pool.is_based(u64::from(base)));
     }
 
     /// The blocks of a pool from one on, which has this many in front of it, in all pools.

@@ -33,9 +33,9 @@ impl Model for PlainHeap {
 }
 
 impl PlainHeap {
-    ghost use Rattle.std.specs.Prelude.{◌≡◌, ◌≢◌, ℕ, Some, Err, IfOk, IfErr, OnErr};
+    ghost use Rattle.std.specs.Prelude.{◌≡◌, ℕ, ⊤, Some, Err, IfOk};
     ghost use Rattle.tlsf_heap.specs.Pointer.{realloc_ptr};
-    ghost use Rattle.tlsf_heap.specs.Served.{IsMoved};
+    ghost use Rattle.tlsf_heap.specs.Served.{IsMoved, RefusesOrLacks};
 
     /// The block with another size; none where no byte is asked for, for then it is freed.
     ///
@@ -44,8 +44,7 @@ impl PlainHeap {
     /// As `Heaped::realloc`.
     fn reallocate(&mut self, ptr: Ptr, n: u64) -> Result<Option<Ptr>, Refusal>
         ensures ok { IfOk result (λ given. IsMoved (realloc_ptr (Some ptr) n) (Some ptr) given self.old self.new) }
-        ensures refused { IfErr result (λ refusal. refusal ≢ Refusal.OutOfMemory → (slot : ℕ) → realloc_ptr (Some ptr) n slot self.old ≡ Err refusal) }
-        ensures unchanged { OnErr result (self.new ≡ self.old) }
+        ensures refused { RefusesOrLacks result (λ refusal. (slot : ℕ) → realloc_ptr (Some ptr) n slot self.old ≡ Err refusal) ⊤ (self.new ≡ self.old) }
     {
         if !self.content.is_live(ptr.place(), ptr.slot()) {
             return Err(Refusal::BadPointer);
@@ -55,13 +54,9 @@ impl PlainHeap {
             return Ok(None);
         }
         let asked = round(n).ok_or(Refusal::NoFit)?;
-        match resize(&self.content, ptr, asked) {
-            Ok((next, new)) => {
-                self.content = next;
-                Ok(Some(new))
-            }
-            Err(refusal) => Err(refusal),
-        }
+        let (next, new) = resize(&self.content, ptr, asked)?;
+        self.content = next;
+        Ok(Some(new))
     }
 }
 
@@ -115,7 +110,7 @@ impl Heaped for PlainHeap {
             return Err(Refusal::PoolInUse);
         }
         let mut next = self.content.copy()?;
-        next.remove_pool(base as u32, bytes)?;
+        next.remove_pool(base as u32, bytes);
         self.content = next;
         Ok(())
     }
@@ -154,10 +149,7 @@ impl Heaped for PlainHeap {
     fn realloc(&mut self, ptr: Option<Ptr>, n: u64) -> Result<Option<Ptr>, Refusal> {
         match ptr {
             Some(ptr) => self.reallocate(ptr, n),
-            None => match self.malloc(n) {
-                Ok(new) => Ok(Some(new)),
-                Err(refusal) => Err(refusal),
-            },
+            None => Ok(Some(self.malloc(n)?)),
         }
     }
 

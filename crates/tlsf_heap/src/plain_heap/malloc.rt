@@ -1,10 +1,10 @@
 //! malloc on plain lists.
 
-ghost use Rattle.std.specs.Prelude.{◌≡◌, ◌≢◌, ℕ, ◌%◌, ◌<◌, Some, Err, IfOk, IfErr};
-ghost use Rattle.tlsf_class.specs.Classes.{unit};
+ghost use Rattle.std.specs.Prelude.{Some};
+ghost use Rattle.tlsf_heap.specs.Content.{IsSize};
 ghost use Rattle.tlsf_heap.specs.Malloc.{malloc_rounded};
 ghost use Rattle.tlsf_heap.specs.Served.{IsServed};
-ghost use Rattle.tlsf_heap.specs.PlainHeap.{IsPlain};
+ghost use Rattle.tlsf_heap.specs.PlainHeap.{IsPlain, AnswersPlain};
 
 use super::block::Block;
 use super::content::Content;
@@ -18,11 +18,8 @@ use crate::{Ptr, Refusal};
 /// `OutOfMemory` where memory is refused.
 pub fn allocate(content: &Content, asked: u32) -> Result<(Content, Ptr), Refusal>
     requires plain { IsPlain content.now }
-    requires whole { asked % unit ≡ 0 }
-    requires some { 0 < asked }
-    ensures plain { IfOk result (λ given. IsPlain given.0) }
-    ensures ok { IfOk result (λ given. IsServed (λ slot. malloc_rounded slot (Some asked)) given.1 content.now given.0) }
-    ensures refused { IfErr result (λ refusal. refusal ≢ Refusal.OutOfMemory → (slot : ℕ) → malloc_rounded slot (Some asked) content.now ≡ Err refusal) }
+    requires size { IsSize asked }
+    ensures { AnswersPlain result (IsServed (λ slot. malloc_rounded slot (Some asked))) (λ slot. malloc_rounded slot (Some asked)) content.now }
 {
     let place = content.pick(asked).ok_or(Refusal::NoFit)?;
     let size = content.size_at(place);

@@ -1,10 +1,10 @@
 //! memalign on plain lists.
 
-ghost use Rattle.std.specs.Prelude.{◌≡◌, ◌≢◌, ℕ, true, ◌%◌, ◌<◌, ◌≤◌, Some, Err, IfOk, IfErr};
-ghost use Rattle.tlsf_class.specs.Classes.{unit, greatest_size};
+ghost use Rattle.std.specs.Prelude.{◌≡◌, true, Some};
+ghost use Rattle.tlsf_heap.specs.Content.{IsSize};
 ghost use Rattle.tlsf_heap.specs.Memalign.{is_alignment, memalign_rounded};
 ghost use Rattle.tlsf_heap.specs.Served.{IsServed};
-ghost use Rattle.tlsf_heap.specs.PlainHeap.{IsPlain};
+ghost use Rattle.tlsf_heap.specs.PlainHeap.{IsPlain, AnswersPlain};
 
 use super::block::Block;
 use super::content::Content;
@@ -21,12 +21,8 @@ use crate::{Ptr, Refusal};
 pub fn split_aligned(content: &Content, align: u32, asked: u32) -> Result<(Content, Ptr), Refusal>
     requires plain { IsPlain content.now }
     requires is { is_alignment align ≡ true }
-    requires whole { asked % unit ≡ 0 }
-    requires some { 0 < asked }
-    requires most { asked ≤ greatest_size }
-    ensures plain { IfOk result (λ given. IsPlain given.0) }
-    ensures ok { IfOk result (λ given. IsServed (λ slot. memalign_rounded slot align (Some asked)) given.1 content.now given.0) }
-    ensures refused { IfErr result (λ refusal. refusal ≢ Refusal.OutOfMemory → (slot : ℕ) → memalign_rounded slot align (Some asked) content.now ≡ Err refusal) }
+    requires size { IsSize asked }
+    ensures { AnswersPlain result (IsServed (λ slot. memalign_rounded slot align (Some asked))) (λ slot. memalign_rounded slot align (Some asked)) content.now }
 {
     let place = content
         .pick(size_asked(align, asked))

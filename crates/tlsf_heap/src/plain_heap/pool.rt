@@ -37,12 +37,11 @@ impl Clone for Pool {
 impl Pool {
     ghost use Rattle.std.specs.Prelude.{◌≡◌, IfOk};
     ghost use Rattle.std.specs.List.{list_any, list_all};
-    ghost use Rattle.tlsf_heap.specs.Content.{is_free};
+    ghost use Rattle.tlsf_heap.specs.Content.{is_free, IsSize};
     ghost use Rattle.tlsf_heap.specs.GoodSlots.{is_slot};
     ghost use Rattle.tlsf_heap.specs.Free.{previous_of, next_of};
     ghost use Rattle.tlsf_heap.specs.Malloc.{gap, replaced_in};
     ghost use Rattle.tlsf_heap.specs.Pools.{is_based, is_unused};
-    ghost use Rattle.tlsf_heap.specs.PlainHeap.{IsSize};
 
     /// A pool that is one free block.
     pub fn new(alloc: Global, base: u32, bytes: u32) -> Result<Self, AllocError>

@@ -1,13 +1,12 @@
 //! realloc on plain lists.
 
-ghost use Rattle.std.specs.Prelude.{◌≡◌, ◌≢◌, ℕ, ◌==◌, ◌%◌, ◌<◌, true, Some, Err, IfOk, IfErr};
-ghost use Rattle.tlsf_class.specs.Classes.{unit};
-ghost use Rattle.tlsf_heap.specs.Content.{blocks_of, size_at};
+ghost use Rattle.std.specs.Prelude.{◌≡◌, ◌≢◌, ◌==◌, true, Some, IfOk};
+ghost use Rattle.tlsf_heap.specs.Content.{IsSize, blocks_of, size_at};
 ghost use Rattle.tlsf_heap.specs.Free.{is_live};
 ghost use Rattle.tlsf_heap.specs.Realloc.{fits_in_place, resized, moved, realloc_sized};
 ghost use Rattle.tlsf_heap.specs.Malloc.{malloc_rounded};
 ghost use Rattle.tlsf_heap.specs.Served.{IsMoved};
-ghost use Rattle.tlsf_heap.specs.PlainHeap.{IsPlain};
+ghost use Rattle.tlsf_heap.specs.PlainHeap.{IsPlain, AnswersPlain};
 
 use super::block::Block;
 use super::content::Content;
@@ -37,8 +36,7 @@ pub fn resized(content: &Content, ptr: Ptr, asked: u32) -> Result<Content, Alloc
     requires live { is_live (λ slot. slot == ptr.slot) ptr.place (blocks_of content.now.pools) ≡ true }
     requires fits { fits_in_place ptr.place asked content.now ≡ true }
     requires other { asked ≢ size_at ptr.place (blocks_of content.now.pools) }
-    requires whole { asked % unit ≡ 0 }
-    requires some { 0 < asked }
+    requires size { IsSize asked }
     ensures plain { IfOk result (λ after. IsPlain after) }
     ensures value { IfOk result (λ after. after ≡ resized ptr.slot ptr.place asked content.now) }
 {
@@ -67,11 +65,8 @@ pub fn resized(content: &Content, ptr: Ptr, asked: u32) -> Result<Content, Alloc
 pub fn resize(content: &Content, ptr: Ptr, asked: u32) -> Result<(Content, Ptr), Refusal>
     requires plain { IsPlain content.now }
     requires live { is_live (λ slot. slot == ptr.slot) ptr.place (blocks_of content.now.pools) ≡ true }
-    requires whole { asked % unit ≡ 0 }
-    requires some { 0 < asked }
-    ensures plain { IfOk result (λ given. IsPlain given.0) }
-    ensures ok { IfOk result (λ given. IsMoved (λ slot. realloc_sized slot ptr.place ptr.slot asked) (Some ptr) (Some given.1) content.now given.0) }
-    ensures refused { IfErr result (λ refusal. refusal ≢ Refusal.OutOfMemory → (slot : ℕ) → realloc_sized slot ptr.place ptr.slot asked content.now ≡ Err refusal) }
+    requires size { IsSize asked }
+    ensures { AnswersPlain result (λ given. IsMoved (λ slot. realloc_sized slot ptr.place ptr.slot asked) (Some ptr) (Some given)) (λ slot. realloc_sized slot ptr.place ptr.slot asked) content.now }
 {
     let size = content.size_at(ptr.place());
     if asked == size {
@@ -94,11 +89,8 @@ pub fn resize(content: &Content, ptr: Ptr, asked: u32) -> Result<(Content, Ptr),
 fn relocate(content: &Content, ptr: Ptr, asked: u32) -> Result<(Content, Ptr), Refusal>
     requires plain { IsPlain content.now }
     requires live { is_live (λ slot. slot == ptr.slot) ptr.place (blocks_of content.now.pools) ≡ true }
-    requires whole { asked % unit ≡ 0 }
-    requires some { 0 < asked }
-    ensures plain { IfOk result (λ given. IsPlain given.0) }
-    ensures ok { IfOk result (λ given. IsMoved (λ slot old. moved slot ptr.place (malloc_rounded slot (Some asked) old)) (Some ptr) (Some given.1) content.now given.0) }
-    ensures refused { IfErr result (λ refusal. refusal ≢ Refusal.OutOfMemory → (slot : ℕ) → moved slot ptr.place (malloc_rounded slot (Some asked) content.now) ≡ Err refusal) }
+    requires size { IsSize asked }
+    ensures { AnswersPlain result (λ given. IsMoved (λ slot old. moved slot ptr.place (malloc_rounded slot (Some asked) old)) (Some ptr) (Some given)) (λ slot old. moved slot ptr.place (malloc_rounded slot (Some asked) old)) content.now }
 {
     let (next, new) = allocate(content, asked)?;
     let after = freed(&next, ptr)?;

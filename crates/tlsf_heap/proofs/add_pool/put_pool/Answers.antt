@@ -2,19 +2,18 @@ use Rattle.std.proofs.Common.{◌≡◌, ◌<◌, ℕ, List, ◌∷◌, length, 
 use Rattle.std.proofs.lemmas.List.{length-set}
 use Rattle.std.proofs.lemmas.List.Elements.{All-append, All-take, All-cons, All-drop}
 use Rattle.tlsf_store.specs.declared.pools.Pool.{Pool as StoredPool}
-use Rattle.tlsf_heap.specs.Inner.Entries.{entries_of}
-use Rattle.tlsf_heap.specs.Inner.Entries.{with_entry}
+use Rattle.tlsf_heap.specs.Inner.Entries.{entries_of, with_entry}
 use Rattle.tlsf_heap.specs.Inner.CellEdits.{pool_put}
-use Rattle.tlsf_heap.proofs.Inner.EntryLists.{insert_is}
+use Rattle.tlsf_heap.proofs.Inserted.{insert_is}
 use Rattle.tlsf_heap.proofs.Inner.Entered.{Enters, pool_is_laid}
 use Rattle.tlsf_heap.proofs.add_pool.put_pool.Goals as goal
 
 -- the cells once the pool is there
 put : (c : goal.After-class_of) → c.set_entries.new.store.cells ≡ pool_put c.args.entry (with_entry c.args.entry (entries_of c.args.store.now.cells.pools)) c.args.store.now.cells
 put c =
-    let items : List StoredPool = c.args.entries.now in
-    let all : c.as_slice.result.now ≡ with_entry c.args.entry (entries_of c.args.store.now.cells.pools) =
-    rw (c.as_slice.ensures.value, c.entries_with-all.ensures, c.place_for.ensures.place, insert_is c.args.entry items, c.requires.entries) in
+    let items : List StoredPool = c.args.entries.now.items in
+    let all : c.as_slice-2.result.now ≡ with_entry c.args.entry (entries_of c.args.store.now.cells.pools) =
+    rw (c.as_slice-2.ensures.value, c.insert.ensures.items, c.unwrap_or-place.ensures, c.first_behind.ensures.number, c.len.ensures.value, c.as_slice.ensures.value, insert_is (λ (e : StoredPool). e.base) c.args.entry items, c.requires.entries) in
     rw (c.set_entries.ensures.cells, c.write.ensures.left.cells, c.free_block.ensures, all)
 
 enters : (c : goal.After-class_of) → Enters c.args.entry c.requires.taken.0 c.args.store.now.cells
@@ -28,8 +27,8 @@ returns-clause-leads c layout was = rw (c.link.ensures.cells, c.class_of.ensures
 
 pub set_entries-requires-clause-below : goal.set_entries-requires-clause-below
 set_entries-requires-clause-below c =
-    let n : ℕ = c.place_for.result in
-    let items : List StoredPool = c.args.entries.now in
+    let n : ℕ = c.unwrap_or-place.result in
+    let items : List StoredPool = c.args.entries.now.items in
     let P : StoredPool → Type 0 = λ e. e.first < length c.args.store.now.cells.records in
-    rw (c.write.ensures.left.cells, length-set c.args.store.now.cells.records c.args.entry.first c.free_block.result, c.as_slice.ensures.value, c.entries_with-all.ensures)
+    rw (c.write.ensures.left.cells, length-set c.args.store.now.cells.records c.args.entry.first c.free_block.result, c.as_slice-2.ensures.value, c.insert.ensures.items)
     (All-append P (take n items) (c.args.entry ∷ drop n items) (All-take P n items c.requires.below) (All-cons P c.args.entry (drop n items) c.requires.slot_used.0 (All-drop P n items c.requires.below)))

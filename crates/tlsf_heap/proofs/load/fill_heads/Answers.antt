@@ -5,7 +5,7 @@ use Rattle.tlsf_store.specs.Cells.{Cells, head_at, with_head}
 use Rattle.tlsf_heap.specs.Images.Image.{Parts}
 use Rattle.tlsf_heap.specs.Inner.Edits.{with_class_bit}
 use Rattle.tlsf_heap.specs.Inner.Loading.{HasHeadsBelow}
-use Rattle.tlsf_heap.proofs.Images.FilledHeads.{heads_none, heads_on, heads_off, heads_all}
+use Rattle.tlsf_heap.proofs.Images.FilledHeads.{heads_on, heads_off, heads_all}
 use Rattle.tlsf_heap.proofs.load.fill_heads.Goals as goal
 use Rattle.tlsf_heap.proofs.load.fill_heads.Goals.{in-Some, in_default}
 
@@ -13,7 +13,7 @@ pub loop-number-init : goal.loop-number-init
 loop-number-init g c = record {
   same = λ i. g.T.HasParts.parts c.args.table.now;
   whole = λ some. absurd (omega (arith, some));
-  so_far = heads_none (g.T.HasParts.parts c.args.table.now).heads c.args.store.now.cells c.requires.empty;
+  so_far = c.requires.empty;
   touches = omega arith;
 }
 
@@ -51,3 +51,8 @@ returns-clause-heads g c =
     let all = c.loop-number.invariant in
     let last = c.loop-number-test.false in
     heads_all parts.heads c.args.store.now.cells c.loop-number.number c.loop-number.store.cells (omega (arith, last)) (all.whole (omega (arith, last))) all.so_far
+
+pub returns-clause-filled : goal.returns-clause-filled
+returns-clause-filled g c =
+    let all : c.loop-number.number ≡ classes = omega (arith, c.loop-number-test.false, c.loop-number.auto) in
+    subst (λ n. HasHeadsBelow (g.T.HasParts.parts c.args.table.now).heads c.args.store.now.cells n c.loop-number.store.cells) all c.loop-number.invariant.so_far

@@ -1,9 +1,6 @@
-use Rattle.std.proofs.Common.{sym, ◌∙◌, arith}
-use Rattle.tlsf_class.proofs.RoundingLaws.{round-Some}
+use Rattle.std.proofs.Common.{sym, ◌∙◌}
+use Rattle.tlsf_heap.proofs.Content.Alignments.{round_size}
 use Rattle.tlsf_heap.proofs.malloc.malloc.Goals as goal
 
-pub allocate-requires-clause-whole : goal.allocate-requires-clause-whole
-allocate-requires-clause-whole c = (round-Some c.args.n c.in-Some.asked (sym c.round.ensures ∙ c.in-Some.is)).whole
-
-pub allocate-requires-clause-some : goal.allocate-requires-clause-some
-allocate-requires-clause-some c = let r = round-Some c.args.n c.in-Some.asked (sym c.round.ensures ∙ c.in-Some.is) in omega (arith, r.some, r.least)
+pub allocate-requires-clause-size : goal.allocate-requires-clause-size
+allocate-requires-clause-size c = round_size c.args.n c.in-Some.asked (sym c.round.ensures ∙ c.in-Some.is)

@@ -6,14 +6,5 @@ use Rattle.tlsf_heap.proofs.malloc.pick.Goals as goal
 pub search-requires-clause-count : goal.search-requires-clause-count
 search-requires-clause-count c = heads_count c.args.store.now.cells c.requires.stands
 
-pub returns-clause-of_class : goal.returns-clause-of_class
-returns-clause-of_class c = (search_finds c.args.store.now.cells c.requires.stands c.args.asked c.in-Some.class (sym c.class_for.ensures ∙ c.in-Some.is) c.search.result c.search.ensures.value c.search.ensures.head).of_class
-
-pub returns-clause-free : goal.returns-clause-free
-returns-clause-free c = (search_finds c.args.store.now.cells c.requires.stands c.args.asked c.in-Some.class (sym c.class_for.ensures ∙ c.in-Some.is) c.search.result c.search.ensures.value c.search.ensures.head).free
-
 pub returns-clause-found : goal.returns-clause-found
-returns-clause-found c = (search_finds c.args.store.now.cells c.requires.stands c.args.asked c.in-Some.class (sym c.class_for.ensures ∙ c.in-Some.is) c.search.result c.search.ensures.value c.search.ensures.head).found
-
-pub returns-clause-none : goal.returns-clause-none
-returns-clause-none c = (search_finds c.args.store.now.cells c.requires.stands c.args.asked c.in-Some.class (sym c.class_for.ensures ∙ c.in-Some.is) c.search.result c.search.ensures.value c.search.ensures.head).none
+returns-clause-found c = search_finds c.args.store.now.cells c.requires.stands c.args.asked c.in-Some.class (sym c.class_for.ensures ∙ c.in-Some.is) c.search.result c.search.ensures.value c.search.ensures.head

@@ -37,15 +37,15 @@ kept old before new result slot rest block free same is taken vacant read =
 
 pub read_used-block-requires-clause-within : goal.read_used-block-requires-clause-within
 read_used-block-requires-clause-within c =
-    let by = free_at c.args.store.now.cells c.requires.stands c.args.slot c.requires.free in (slot_used c.args.store.now.cells c.args.slot Listed by.at by.stands).0
+    let by = free_at c.args.store.now.cells c.requires.stands c.args.slot c.requires.picked.free in (slot_used c.args.store.now.cells c.args.slot Listed by.at by.stands).0
 
 pub read_used-block-requires-clause-used : goal.read_used-block-requires-clause-used
 read_used-block-requires-clause-used c =
-    let by = free_at c.args.store.now.cells c.requires.stands c.args.slot c.requires.free in (slot_used c.args.store.now.cells c.args.slot Listed by.at by.stands).1
+    let by = free_at c.args.store.now.cells c.requires.stands c.args.slot c.requires.picked.free in (slot_used c.args.store.now.cells c.args.slot Listed by.at by.stands).1
 
 pub take_whole-requires-clause-stands : goal.take_whole-requires-clause-stands
 take_whole-requires-clause-stands c =
-    let by = free_at c.args.store.now.cells c.requires.stands c.args.slot c.requires.free in (by.at, rw c.read_used-block.ensures.left.cells by.stands)
+    let by = free_at c.args.store.now.cells c.requires.stands c.args.slot c.requires.picked.free in (by.at, rw c.read_used-block.ensures.left.cells by.stands)
 
 -- malloc of the bytes asked is malloc of the block picked for them
 picked : (owner asked place : ℕ) (content : Content ℕ) → pick asked content.lists ≡ Some place → (answer : Result (ℕ × Content ℕ) Refusal) → malloc_picked owner asked (Some place) content ≡ answer → malloc_rounded owner (Some asked) content ≡ answer
@@ -55,18 +55,18 @@ picked owner asked place content found answer is = ap (λ at. malloc_picked owne
 whole : (c : goal.After-new) → Stands c.take_whole.new.store.cells × (malloc_picked c.args.slot c.args.asked (Some (record_at c.args.store.now.cells.records c.args.slot).place) (content_of c.args.store.now.cells) ≡ Ok ((record_at c.args.store.now.cells.records c.args.slot).place, content_of c.take_whole.new.store.cells))
 whole c =
     let old : Cells = c.args.store.now.cells in
-    let by = free_at old c.requires.stands c.args.slot c.requires.free in
+    let by = free_at old c.requires.stands c.args.slot c.requires.picked.free in
     let size = sym c.if-block-asked.true ∙ size_is old c.args.slot by.at c.read_used-block.result by.stands c.read_used-block.ensures.value in
-    whole_stands old c.requires.stands (record_at old.records c.args.slot).place c.args.slot c.args.asked by c.requires.some c.requires.whole c.requires.found c.take_whole.new.store.cells
+    whole_stands old c.requires.stands (record_at old.records c.args.slot).place c.args.slot c.args.asked by c.requires.size.positive c.requires.size.in_units c.requires.picked.found c.take_whole.new.store.cells
     (c.take_whole.ensures.leads by.at (rw c.read_used-block.ensures.left.cells by.stands)) size
 
 pub returns-then-block-asked : goal.returns-then-block-asked
 returns-then-block-asked c = record {
   stands = (whole c).0;
   ok = record {
-    ok = rw (c.new.ensures, c.read_used-block.ensures.value, c.slot.view_is) (picked c.args.slot c.args.asked (record_at c.args.store.now.cells.records c.args.slot).place (content_of c.args.store.now.cells) c.requires.found _ (whole c).1);
-    slot_below = rw (c.new.ensures, c.slot.view_is) (slot_below c.args.store.now.cells c.requires.stands (record_at c.args.store.now.cells.records c.args.slot).place c.args.slot (free_at c.args.store.now.cells c.requires.stands c.args.slot c.requires.free));
-    slot_new = rw (c.new.ensures, c.slot.view_is) (slot_new c.args.store.now.cells c.requires.stands (record_at c.args.store.now.cells.records c.args.slot).place c.args.slot (free_at c.args.store.now.cells c.requires.stands c.args.slot c.requires.free));
+    ok = rw (c.new.ensures, c.read_used-block.ensures.value, c.slot.view_is) (picked c.args.slot c.args.asked (record_at c.args.store.now.cells.records c.args.slot).place (content_of c.args.store.now.cells) c.requires.picked.found _ (whole c).1);
+    slot_below = rw (c.new.ensures, c.slot.view_is) (slot_below c.args.store.now.cells c.requires.stands (record_at c.args.store.now.cells.records c.args.slot).place c.args.slot (free_at c.args.store.now.cells c.requires.stands c.args.slot c.requires.picked.free));
+    slot_new = rw (c.new.ensures, c.slot.view_is) (slot_new c.args.store.now.cells c.requires.stands (record_at c.args.store.now.cells.records c.args.slot).place c.args.slot (free_at c.args.store.now.cells c.requires.stands c.args.slot c.requires.picked.free));
   };
   refused = search rules;
   cells = search rules;
@@ -79,12 +79,12 @@ returns-in_default c = record {
   ok = search rules;
   refused = λ owner.
       let old : Cells = c.args.store.now.cells in
-      let by = free_at old c.requires.stands c.args.slot c.requires.free in
+      let by = free_at old c.requires.stands c.args.slot c.requires.picked.free in
       let place : ℕ = (record_at old.records c.args.slot).place in
       let none = rw c.read_used-block.ensures.left.cells at c.in_default.ensures.none in
       let size = size_is old c.args.slot by.at c.read_used-block.result by.stands c.read_used-block.ensures.value in
-      let least = holds old c.requires.stands place c.args.slot c.args.asked by c.requires.some c.requires.whole c.requires.found in
-      picked owner c.args.asked place (content_of old) c.requires.found _ (full_refused old c.requires.stands place c.args.slot c.args.asked by c.requires.some c.requires.whole c.requires.found none (omega (arith, least, size, c.if-block-asked.false)) owner);
+      let least = holds old c.requires.stands place c.args.slot c.args.asked by c.requires.size.positive c.requires.size.in_units c.requires.picked.found in
+      picked owner c.args.asked place (content_of old) c.requires.picked.found _ (full_refused old c.requires.stands place c.args.slot c.args.asked by c.requires.size.positive c.requires.size.in_units c.requires.picked.found none (omega (arith, least, size, c.if-block-asked.false)) owner);
   cells = search rules;
   touches = search rules;
 }
@@ -92,43 +92,43 @@ returns-in_default c = record {
 pub take_split-requires-clause-stands : goal.take_split-requires-clause-stands
 take_split-requires-clause-stands c =
     let old : Cells = c.args.store.now.cells in
-    let by = free_at old c.requires.stands c.args.slot c.requires.free in (
+    let by = free_at old c.requires.stands c.args.slot c.requires.picked.free in (
       by.at,
       spared old c.read_used-block.new.self.cells c.take_vacant.new.self.cells c.take_vacant.result c.args.slot c.in-Some.rest by.at by.stands c.read_used-block.ensures.left.cells c.in-Some.is c.take_vacant.ensures.left.cells c.in-Some.ensures.within c.in-Some.ensures.vacant,
     )
 
 pub take_split-requires-clause-read : goal.take_split-requires-clause-read
 take_split-requires-clause-read c =
-    kept c.args.store.now.cells c.read_used-block.new.self.cells c.take_vacant.new.self.cells c.take_vacant.result c.args.slot c.in-Some.rest c.read_used-block.result c.requires.free c.read_used-block.ensures.left.cells c.in-Some.is c.take_vacant.ensures.left.cells c.in-Some.ensures.vacant c.read_used-block.ensures.value
+    kept c.args.store.now.cells c.read_used-block.new.self.cells c.take_vacant.new.self.cells c.take_vacant.result c.args.slot c.in-Some.rest c.read_used-block.result c.requires.picked.free c.read_used-block.ensures.left.cells c.in-Some.is c.take_vacant.ensures.left.cells c.in-Some.ensures.vacant c.read_used-block.ensures.value
 
 pub take_split-requires-clause-less : goal.take_split-requires-clause-less
 take_split-requires-clause-less c =
     let old : Cells = c.args.store.now.cells in
-    let by = free_at old c.requires.stands c.args.slot c.requires.free in
+    let by = free_at old c.requires.stands c.args.slot c.requires.picked.free in
     let size = size_is old c.args.slot by.at c.read_used-block.result by.stands c.read_used-block.ensures.value in
-    let least = holds old c.requires.stands (record_at old.records c.args.slot).place c.args.slot c.args.asked by c.requires.some c.requires.whole c.requires.found in
+    let least = holds old c.requires.stands (record_at old.records c.args.slot).place c.args.slot c.args.asked by c.requires.size.positive c.requires.size.in_units c.requires.picked.found in
     omega (arith, least, size, c.if-block-asked.false)
 
 -- what a part leaves
 part : (c : goal.After-new-2) → Stands c.take_split.new.store.cells × (malloc_picked c.args.slot c.args.asked (Some (record_at c.args.store.now.cells.records c.args.slot).place) (content_of c.args.store.now.cells) ≡ Ok ((record_at c.args.store.now.cells.records c.args.slot).place, content_of c.take_split.new.store.cells))
 part c =
     let old : Cells = c.args.store.now.cells in
-    let by = free_at old c.requires.stands c.args.slot c.requires.free in
+    let by = free_at old c.requires.stands c.args.slot c.requires.picked.free in
     let place : ℕ = (record_at old.records c.args.slot).place in
     let size = size_is old c.args.slot by.at c.read_used-block.result by.stands c.read_used-block.ensures.value in
-    let least = holds old c.requires.stands place c.args.slot c.args.asked by c.requires.some c.requires.whole c.requires.found in
+    let least = holds old c.requires.stands place c.args.slot c.args.asked by c.requires.size.positive c.requires.size.in_units c.requires.picked.found in
     let stands = spared old c.read_used-block.new.self.cells c.take_vacant.new.self.cells c.take_vacant.result c.args.slot c.in-Some.rest by.at by.stands c.read_used-block.ensures.left.cells c.in-Some.is c.take_vacant.ensures.left.cells c.in-Some.ensures.within c.in-Some.ensures.vacant in
     let room = room_left old c.requires.stands c.in-Some.rest (rw c.read_used-block.ensures.left.cells at c.in-Some.ensures.within) (rw c.read_used-block.ensures.left.cells at c.in-Some.ensures.vacant) in
-    part_stands old c.requires.stands place c.args.slot c.args.asked by c.requires.some c.requires.whole c.requires.found c.take_split.new.store.cells c.in-Some.rest
+    part_stands old c.requires.stands place c.args.slot c.args.asked by c.requires.size.positive c.requires.size.in_units c.requires.picked.found c.take_split.new.store.cells c.in-Some.rest
     (c.take_split.ensures.leads by.at stands) (omega (arith, least, size, c.if-block-asked.false)) room
 
 pub returns : goal.returns
 returns c = record {
   stands = (part c).0;
   ok = record {
-    ok = rw (c.new-2.ensures, c.read_used-block.ensures.value, c.slot-2.view_is) (picked c.args.slot c.args.asked (record_at c.args.store.now.cells.records c.args.slot).place (content_of c.args.store.now.cells) c.requires.found _ (part c).1);
-    slot_below = rw (c.new-2.ensures, c.slot-2.view_is) (slot_below c.args.store.now.cells c.requires.stands (record_at c.args.store.now.cells.records c.args.slot).place c.args.slot (free_at c.args.store.now.cells c.requires.stands c.args.slot c.requires.free));
-    slot_new = rw (c.new-2.ensures, c.slot-2.view_is) (slot_new c.args.store.now.cells c.requires.stands (record_at c.args.store.now.cells.records c.args.slot).place c.args.slot (free_at c.args.store.now.cells c.requires.stands c.args.slot c.requires.free));
+    ok = rw (c.new-2.ensures, c.read_used-block.ensures.value, c.slot-2.view_is) (picked c.args.slot c.args.asked (record_at c.args.store.now.cells.records c.args.slot).place (content_of c.args.store.now.cells) c.requires.picked.found _ (part c).1);
+    slot_below = rw (c.new-2.ensures, c.slot-2.view_is) (slot_below c.args.store.now.cells c.requires.stands (record_at c.args.store.now.cells.records c.args.slot).place c.args.slot (free_at c.args.store.now.cells c.requires.stands c.args.slot c.requires.picked.free));
+    slot_new = rw (c.new-2.ensures, c.slot-2.view_is) (slot_new c.args.store.now.cells c.requires.stands (record_at c.args.store.now.cells.records c.args.slot).place c.args.slot (free_at c.args.store.now.cells c.requires.stands c.args.slot c.requires.picked.free));
   };
   refused = search rules;
   cells = search rules;

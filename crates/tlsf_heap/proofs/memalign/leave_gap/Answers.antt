@@ -1,4 +1,4 @@
-use Rattle.std.proofs.Common.{◌≡◌, refl, ℕ, ◌%◌, ◌<◌, length, sym, ap, ◌∙◌, subst, arith, Option, Some}
+use Rattle.std.proofs.Common.{rules, ◌≡◌, refl, ℕ, ◌%◌, ◌<◌, length, sym, ap, ◌∙◌, subst, arith, Option, Some}
 use Rattle.tlsf_store.specs.Records.{blank, record_at}
 use Rattle.tlsf_store.specs.declared.records.State.TheVariants.{Free, Live}
 use Rattle.tlsf_store.specs.Cells.{Cells, with_taken}
@@ -70,5 +70,9 @@ returns-clause-leads c at stands =
     (c.enter.ensures.leads (at_front c.in-Some.live c.args.bytes (at_turned Loose at))
     (fronted c.args.store.now.cells c.take_vacant.new.self.cells c.split.new.store.cells c.args.block.now c.take_vacant.result c.in-Some.live c.args.bytes at stands c.requires.read c.in-Some.is c.take_vacant.ensures.left.cells c.in-Some.ensures.within c.in-Some.ensures.vacant some c.requires.less c.requires.whole c.split.ensures.cells))
 
-pub returns-then-bytes-eq0-clause-below : goal.returns-then-bytes-eq0-clause-below
-returns-then-bytes-eq0-clause-below c = (slot_used c.args.store.now.cells c.args.block.now.slot InUse c.requires.stands.0 c.requires.stands.1).0
+pub returns-then-bytes-eq0-clause-slot : goal.returns-then-bytes-eq0-clause-slot
+returns-then-bytes-eq0-clause-slot c = record {
+  same = search rules;
+  vacant = λ some. absurd (omega (arith, some, c.if-bytes-eq0.true));
+  below = (slot_used c.args.store.now.cells c.args.block.now.slot InUse c.requires.stands.0 c.requires.stands.1).0;
+}

@@ -15,8 +15,8 @@ returns-in-Some-clause-value c =
     let old : Cells = c.args.store.now.cells in
     let class : ℕ = c.in-Some.class in
     largest_is old c.requires c.low.result (record {
-      found = λ some. (class, c.in-Some.ensures.within, sym c.low.ensures, c.in-Some.ensures.found);
-      none = λ other within above. c.in-Some.ensures.last other (higher other (rw c.low.ensures at above)) within;
+      found = λ some. (class, c.in-Some.ensures.last.within, sym c.low.ensures, c.in-Some.ensures.last.found);
+      none = λ other within above. c.in-Some.ensures.last.last other (higher other (rw c.low.ensures at above)) within;
     })
   where
     higher : (other : ℕ) → low c.in-Some.class < low other → c.in-Some.class < other

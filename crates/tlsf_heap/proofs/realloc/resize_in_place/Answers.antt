@@ -46,7 +46,7 @@ left c =
     let old : Cells = c.args.store.now.cells in
     let by = live_at old c.requires.stands c.args.block.place c.args.block.slot c.requires.live in
     let end = c.split_rest.ensures.leads (next_merged by.at) (rw c.merge_next-grown.ensures.slot (c.merge_next-grown.ensures.leads InUse by.at refl by.stands)) in
-    resized_stands old c.requires.stands c.args.block.place c.args.block.slot by c.split_rest.new.store.cells c.args.asked end.0 c.requires.live c.requires.fits c.requires.other c.requires.some c.requires.whole (rw c.merge_next-grown.ensures.slot at end.1)
+    resized_stands old c.requires.stands c.args.block.place c.args.block.slot by c.split_rest.new.store.cells c.args.asked end.0 c.requires.live c.requires.fits c.requires.other c.requires.size.positive c.requires.size.in_units (rw c.merge_next-grown.ensures.slot at end.1)
 
 pub returns-clause-stands : goal.returns-clause-stands
 returns-clause-stands c = (left c).0

@@ -1,12 +1,12 @@
 use Rattle.std.proofs.Common.{rules, ◌≡◌, ℕ, ◌%◌, Err}
-use Rattle.std.proofs.lemmas.Result.{IfErr-at_err}
+use Rattle.std.proofs.lemmas.Result.{IfErr-at_err, IfOk-weaker}
 use Rattle.tlsf_heap.specs.declared.refusal.Refusal.{Refusal}
 use Rattle.tlsf_heap.specs.declared.refusal.Refusal.TheVariants.{NoFit, TableFull, BadAlign, OutOfMemory}
 use Rattle.tlsf_heap.specs.Served.{IsServed}
 use Rattle.tlsf_heap.specs.Memalign.{memalign}
 use Rattle.tlsf_heap.specs.Inner.Following.{content_of}
 use Rattle.tlsf_heap.proofs.Inner.Standing.{content_is_good}
-use Rattle.tlsf_heap.proofs.Content.Results.{if_ok, each_err}
+use Rattle.tlsf_heap.proofs.Content.Results.{each_err}
 use Rattle.tlsf_heap.proofs.Good.AlignedImplied.{aligned_no_fit, aligned_full, aligned_lacks_none}
 use Rattle.tlsf_heap.proofs.Good.Room.{aligned_room_serves}
 use Rattle.tlsf_heap.proofs.Meaning.AlignedIsGood.{memalign_multiple}
@@ -18,7 +18,7 @@ refused c refusal is = IfErr-at_err (λ why. (slot : ℕ) → memalign slot c.ar
 
 pub returns-clause-multiple : goal.returns-clause-multiple
 returns-clause-multiple c =
-    if_ok c.memalign.result
+    IfOk-weaker c.memalign.result
     (λ ptr. IsServed (λ slot. memalign slot c.args.align c.args.n) ptr (content_of c.self.inside.store.cells) (content_of c.memalign.new.store.cells))
     (λ ptr. ptr.place % c.args.align ≡ 0)
     (λ ptr e. memalign_multiple ptr.slot c.args.align c.args.n (content_of c.self.inside.store.cells) (ptr.place, content_of c.memalign.new.store.cells) (content_is_good c.self.inside.store.cells c.self.invariant) e.ok)

@@ -7,7 +7,7 @@ use Rattle.tlsf_heap.specs.Lists.{link}
 use Rattle.tlsf_heap.specs.Malloc.{gap}
 use Rattle.tlsf_heap.specs.Pools.{with_pool, in_order_of_base}
 use Rattle.tlsf_heap.specs.PlainHeap.{lists_of}
-use Rattle.tlsf_heap.proofs.Plain.Pools.{insert_is}
+use Rattle.tlsf_heap.proofs.Inserted.{insert_is}
 use Rattle.tlsf_heap.proofs.plain_heap.content.Content.add_pool.Goals as goal
 
 pub returns : goal.returns
@@ -20,7 +20,7 @@ returns c =
     ∙ ap (insert pools c.unwrap_or-place.result) c.in_ok-pool.ensures
     ∙ ap (λ n. insert pools n pool) (c.unwrap_or-place.ensures ∙ ap (unwrap_or c.first_behind.result) len ∙ ap (λ o. unwrap_or o (length pools)) c.first_behind.ensures.number)
     ∙ ap (λ content. insert pools (unwrap_or (position (λ other. nat_lt c.args.base other.base) content.pools) (length pools)) pool) (sym c.self.view_is)
-    ∙ insert_is pool pools in
+    ∙ insert_is (λ other. other.base) pool pools in
     on_ok_weaker c.link.result (λ is.
     is
     ∙ ap (λ (ps : List (Pool ℕ)). record { records = c.self.inside.records; pools = ps; lists = link c.args.base c.args.bytes (lists_of c.self.inside.lists.items) }) stands

@@ -14,9 +14,9 @@ pub invariant_of-self : goal.invariant_of-self
 invariant_of-self c =
     let found = is_found c.self.invariant c.pool_at.ensures (c.in-Some.is ∙ ap (λ b. Some (c.in-Some.bytes, b)) c.if-not-is_unused.false) in
     let P : Content ℕ → Type 0 = λ x. IsPlain x in
-    subst P (sym (left_is found c.in_ok-next.next c.remove_pool.new.self c.in_ok-next.ensures c.in_ok-remove_pool.ensures)) (left_is_plain found c.self.invariant)
+    subst P (sym (left_is found c.in_ok-next.next c.remove_pool.new.self c.in_ok-next.ensures c.remove_pool.ensures)) (left_is_plain found c.self.invariant)
 
 pub returns-clause-ok : goal.returns-clause-ok
 returns-clause-ok c =
     let found = is_found c.self.invariant c.pool_at.ensures (c.in-Some.is ∙ ap (λ b. Some (c.in-Some.bytes, b)) c.if-not-is_unused.false) in
-    rw (← c.self.view_is) (removed_is found ∙ ap (λ x. Ok x) (sym (left_is found c.in_ok-next.next c.remove_pool.new.self c.in_ok-next.ensures c.in_ok-remove_pool.ensures)))
+    rw (← c.self.view_is) (removed_is found ∙ ap (λ x. Ok x) (sym (left_is found c.in_ok-next.next c.remove_pool.new.self c.in_ok-next.ensures c.remove_pool.ensures)))

@@ -1,6 +1,0 @@
-use Rattle.std.proofs.Common.{◌≤◌, ◌<◌, ℕ, get_or}
-use Rattle.tlsf_heap.proofs.entries.place_for.Given as goal
-
--- the pools so far begin at or below the base
-abbrev pub invariant-loop-number : goal.invariant-loop-number
-invariant-loop-number l = (k : ℕ) (d : _) → k < l.number → (get_or l.entries k d).base ≤ l.base
