@@ -3,7 +3,7 @@ use Rattle.std.proofs.Common.{◌≡◌, ◌≢◌, ℕ, suc, ◌+◌, ◌*◌, 
 use Rattle.std.specs.Int.{bit_at}
 use Rattle.std.proofs.lemmas.Bool.{cases_eq}
 use Rattle.std.proofs.lemmas.Nat.{le-div, div_below}
-use Rattle.std.proofs.lemmas.Nat.Bits.{bit_at_above, bit_at-zero}
+use Rattle.std.proofs.lemmas.Nat.Bits.{bit_at_above}
 use Rattle.std.proofs.Math.Nat.{pow-suc}
 use Rattle.tlsf_class.specs.Classes.{steps, levels, classes}
 use Rattle.tlsf_store.specs.Cells.{head_at}
@@ -55,9 +55,3 @@ module _ (heads : List (Option ℕ)) (words : List ℕ) (level_word : ℕ) (bitm
   -- the word of a level whose bit is set isn't 0
   pub word_not_zero : (level : ℕ) → level < levels → bit_at level_word level ≡ 1 → get_or words level 0 ≢ 0
   word_not_zero level within set none = omega (arith, set, bitmaps.by_level level within, ap word_bit none)
-
-  -- where no level has a bit, no class has a head
-  pub none_at_all : level_word ≡ 0 → (class : ℕ) → class < classes → head_at heads class ≡ None
-  none_at_all none class within =
-      let level_within : class / steps < levels = omega (arith, within) in
-      no_head_of_level heads words level_word bitmaps count (class / steps) class within refl (no_level_no_word heads words level_word bitmaps count (class / steps) level_within (ap (λ w. bit_at w (class / steps)) none ∙ bit_at-zero (class / steps)))

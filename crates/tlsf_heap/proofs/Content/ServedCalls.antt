@@ -13,8 +13,5 @@ served_as call other old new same pointer is = record { ok = same pointer.slot �
 pub moved_as : (call other : ℕ → Content ℕ → Result (Option (ℕ × ℕ) × Content ℕ) Refusal) (old new : Content ℕ) → ((slot : ℕ) → call slot old ≡ other slot old) → (pointer given : Option Pointer) → IsMoved other pointer given old new → IsMoved call pointer given old new
 moved_as call other old new same pointer given is = record { ok = same (slot_of given) ∙ is.ok; slot_below = is.slot_below; slot_new = is.slot_new }
 
-pub if_served_as : (result : Result Pointer Refusal) (call other : ℕ → Content ℕ → Result (ℕ × Content ℕ) Refusal) (old new : Content ℕ) → ((slot : ℕ) → call slot old ≡ other slot old) → IfOk result (λ pointer. IsServed other pointer old new) → IfOk result (λ pointer. IsServed call pointer old new)
-if_served_as result call other old new same all = IfOk-weaker result (λ pointer. IsServed other pointer old new) (λ pointer. IsServed call pointer old new) (served_as call other old new same) all
-
 pub if_moved_as : (result : Result Pointer Refusal) (call other : ℕ → Content ℕ → Result (Option (ℕ × ℕ) × Content ℕ) Refusal) (old new : Content ℕ) → ((slot : ℕ) → call slot old ≡ other slot old) → (pointer : Option Pointer) → IfOk result (λ given. IsMoved other pointer (Some given) old new) → IfOk result (λ given. IsMoved call pointer (Some given) old new)
 if_moved_as result call other old new same pointer all = IfOk-weaker result (λ given. IsMoved other pointer (Some given) old new) (λ given. IsMoved call pointer (Some given) old new) (λ given. moved_as call other old new same pointer (Some given)) all

@@ -47,10 +47,3 @@ module _ {A : Type 0} where
       let P : ℕ × Content A → Type 0 = λ x. IsGood x.1 in
       subst P given.1
       (aligned_is_good owner (next_multiple_of p.place align) p.asked p.place content good split_so.picked.once split_so.start.begins split_so.fits positive holds.whole split_so.start.gap_whole given.2)
-
-  -- the place given is a multiple of the alignment
-  pub memalign_multiple : (owner : A) (align n : ℕ) (content : Content A) (new : ℕ × Content A) → IsGood content → memalign owner align n content ≡ Ok new → new.0 % align ≡ 0
-  memalign_multiple owner align n content new good e =
-      let given = memalign_given owner align n content new e in
-      let p : IsPicked owner align n content = given.0 in
-      ap (λ (x : ℕ × Content A). x.0 % align) (sym given.1) ∙ (can_split_aligned align p.asked p.place content good p.is p.found).start.multiple

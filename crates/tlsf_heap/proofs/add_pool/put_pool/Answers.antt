@@ -1,6 +1,4 @@
-use Rattle.std.proofs.Common.{◌≡◌, ◌<◌, ℕ, List, ◌∷◌, length, take, drop}
-use Rattle.std.proofs.lemmas.List.{length-set}
-use Rattle.std.proofs.lemmas.List.Elements.{All-append, All-take, All-cons, All-drop}
+use Rattle.std.proofs.Common.{◌≡◌, List}
 use Rattle.tlsf_store.specs.declared.pools.Pool.{Pool as StoredPool}
 use Rattle.tlsf_heap.specs.Inner.Entries.{entries_of, with_entry}
 use Rattle.tlsf_heap.specs.Inner.CellEdits.{pool_put}
@@ -24,11 +22,3 @@ link-requires-clause-first_used c = rw (put c, c.class_of.ensures) (enters c).fi
 
 pub returns-clause-leads : goal.returns-clause-leads
 returns-clause-leads c layout was = rw (c.link.ensures.cells, c.class_of.ensures, put c.before) (pool_is_laid c.args.store.now.cells c.args.entry layout was).laid
-
-pub set_entries-requires-clause-below : goal.set_entries-requires-clause-below
-set_entries-requires-clause-below c =
-    let n : ℕ = c.unwrap_or-place.result in
-    let items : List StoredPool = c.args.entries.now.items in
-    let P : StoredPool → Type 0 = λ e. e.first < length c.args.store.now.cells.records in
-    rw (c.write.ensures.left.cells, length-set c.args.store.now.cells.records c.args.entry.first c.free_block.result, c.as_slice-2.ensures.value, c.insert.ensures.items)
-    (All-append P (take n items) (c.args.entry ∷ drop n items) (All-take P n items c.requires.below) (All-cons P c.args.entry (drop n items) c.requires.slot_used.0 (All-drop P n items c.requires.below)))

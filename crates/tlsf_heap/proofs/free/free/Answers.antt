@@ -11,9 +11,6 @@ release-requires-clause-stands c =
     let node = live_at c.args.store.now.cells c.requires c.args.ptr.place c.args.ptr.slot (sym c.in-Some.ensures.value) in
     (node.at, rw (c.live.ensures.left.cells, c.slot.ensures) node.stands)
 
-pub release-requires-clause-read : goal.release-requires-clause-read
-release-requires-clause-read c = rw (c.live.ensures.left.cells, c.slot.ensures) c.in-Some.ensures.read.read
-
 freed : (c : goal.After-release) → Stands c.release.new.store.cells × (content_of c.release.new.store.cells ≡ after_free c.args.ptr.place (content_of c.args.store.now.cells))
 freed c =
     let old : Cells = c.args.store.now.cells in

@@ -1,4 +1,4 @@
-use Rattle.std.proofs.Common.{rules, ◌≡◌, ◌≢◌, ◌&&◌, ℕ, true, false, nat_eq, refl, sym, ap, ◌∙◌, arith}
+use Rattle.std.proofs.Common.{◌≡◌, ◌≢◌, ◌&&◌, ℕ, true, false, nat_eq, refl, sym, ap, ◌∙◌, arith}
 use Rattle.std.proofs.lemmas.Bool.{eqb-true, eq-eqb, and_parts, false≢true}
 use Rattle.std.proofs.lemmas.List.{get_or_past}
 use Rattle.tlsf_store.specs.declared.records.Record.{Record}
@@ -46,10 +46,3 @@ returns-clause-value c =
     let block : c.read-block.result ≡ record_at old.records c.args.ptr.slot = rw c.slot-2.ensures at c.read-block.ensures.value in
     let is = is_live_record c.read-block.result c.place.result (sym c.is_live_at.ensures ∙ c.if-not-is_live_at.false) in
     sym (has_live old c.requires c.args.ptr.place c.args.ptr.slot (sym (ap (λ (r : Record). r.state) block) ∙ is.0) (sym (ap (λ (r : Record). r.place) block) ∙ is.1 ∙ c.place.ensures))
-
-pub returns-clause-read : goal.returns-clause-read
-returns-clause-read c = record {
-  read = rw c.slot-2.ensures at c.read-block.ensures.value;
-  place = (is_live_record c.read-block.result c.place.result (sym c.is_live_at.ensures ∙ c.if-not-is_live_at.false)).1 ∙ c.place.ensures;
-  in_units = search rules;
-}

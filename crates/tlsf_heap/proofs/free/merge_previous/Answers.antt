@@ -56,7 +56,3 @@ returns-clause-read c =
     let merges = previous_merges c.args.store.now.cells c.requires.stands.0 c.args.block c.requires.stands.1 c.in-Some.previous_slot c.read_used-front.result c.requires.read (sym c.requires.previous ∙ c.in-Some.is) c.read_used-front.ensures.value (sym c.is_free.ensures ∙ c.if-not-is_free.false) in
     rw (c.merge.ensures.cells, c.read_used-front.ensures.left.cells)
     (is_read (merged_by merged front.state c.args.block.slot front old) Loose (previous_merged c.requires.stands.0) merged merges.leads merges.is c.read_used-front.ensures.kept.place)
-
-pub merge-requires-clause-new_used : goal.merge-requires-clause-new_used
-merge-requires-clause-new_used c e =
-    (in_use c.args.store.now.cells c.args.block.slot c.in-Some.previous_slot c.requires.stands.0 c.args.previous c.requires.stands.1 c.requires.previous c.in-Some.is).1 (sym (ap (λ (r : Record). r.state) c.read_used-front.ensures.value) ∙ e)

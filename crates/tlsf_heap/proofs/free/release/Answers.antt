@@ -8,18 +8,12 @@ use Rattle.tlsf_heap.specs.Inner.Edits.{with_state}
 use Rattle.tlsf_heap.specs.Inner.Nodes.{InUse, Loose}
 use Rattle.tlsf_heap.specs.Inner.At.{At, StandsAt, at_turned, previous_merged, next_merged}
 use Rattle.tlsf_heap.specs.Inner.Spans.{span_of}
-use Rattle.tlsf_heap.proofs.Inner.Steps.{slot_used, size_read, prev_is, state_read, whole_at, turned_stands}
-use Rattle.tlsf_heap.proofs.Inner.Spans.{read_of, read_stays, back_used}
+use Rattle.tlsf_heap.proofs.Inner.Steps.{size_read, state_read, whole_at, turned_stands}
+use Rattle.tlsf_heap.proofs.Inner.Spans.{back_used}
 use Rattle.tlsf_heap.proofs.free.release.Goals as goal
-
-pub turn-requires-clause-used : goal.turn-requires-clause-used
-turn-requires-clause-used c = rw c.of-whole.ensures (slot_used c.args.store.now.cells c.args.slot InUse c.requires.stands.0 c.requires.stands.1)
 
 pub turn-requires-clause-next_used : goal.turn-requires-clause-next_used
 turn-requires-clause-next_used c = rw (c.of-whole.ensures, c.requires.read) (back_used c.args.store.now.cells c.args.slot InUse c.requires.stands.0 c.requires.stands.1)
-
-pub turn-requires-clause-read : goal.turn-requires-clause-read
-turn-requires-clause-read c = rw c.of-whole.ensures (read_of c.args.store.now.cells.records c.args.slot c.args.block.now c.requires.read c.requires.in_units)
 
 pub turn-requires-clause-in_units : goal.turn-requires-clause-in_units
 turn-requires-clause-in_units c =
@@ -37,22 +31,6 @@ loose old new slot at stands is = rw is (turned_stands old slot InUse at stands 
 pub merge_previous-merged-requires-clause-stands : goal.merge_previous-merged-requires-clause-stands
 merge_previous-merged-requires-clause-stands c =
     rw c.of-whole.ensures (at_turned Loose c.requires.stands.0, loose c.args.store.now.cells c.turn.new.store.cells c.args.slot c.requires.stands.0 c.requires.stands.1 (turned c.args.store.now.cells c.turn.new.store.cells c.of-whole.result c.args.slot c.args.block.now c.of-whole.ensures c.turn.ensures.cells))
-
-pub merge_previous-merged-requires-clause-read : goal.merge_previous-merged-requires-clause-read
-merge_previous-merged-requires-clause-read c =
-    let at : At = c.requires.stands.0 in
-    rw c.of-whole.ensures (read_stays c.args.store.now.cells c.turn.new.store.cells (span_of c.args.slot c.args.block.now) InUse Loose at (at_turned Loose at) c.requires.stands.1 (loose c.args.store.now.cells c.turn.new.store.cells c.args.slot at c.requires.stands.1 (turned c.args.store.now.cells c.turn.new.store.cells c.of-whole.result c.args.slot c.args.block.now c.of-whole.ensures c.turn.ensures.cells))
-    refl (read_of c.args.store.now.cells.records c.args.slot c.args.block.now c.requires.read c.requires.in_units))
-
-pub merge_previous-merged-requires-clause-previous : goal.merge_previous-merged-requires-clause-previous
-merge_previous-merged-requires-clause-previous c =
-    let at : At = c.requires.stands.0 in
-    let mid : Cells = c.turn.new.store.cells in
-    rw c.of-whole.ensures (
-    ap (λ (r : Record). r.prev) c.requires.read
-    ∙ prev_is c.args.store.now.cells c.args.slot InUse at c.requires.stands.1
-    ∙ sym (prev_is mid c.args.slot Loose (at_turned Loose at) (loose c.args.store.now.cells mid c.args.slot at c.requires.stands.1 (turned c.args.store.now.cells c.turn.new.store.cells c.of-whole.result c.args.slot c.args.block.now c.of-whole.ensures c.turn.ensures.cells)))
-    )
 
 pub merge_next-all-requires-clause-stands : goal.merge_next-all-requires-clause-stands
 merge_next-all-requires-clause-stands c =

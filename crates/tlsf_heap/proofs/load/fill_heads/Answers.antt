@@ -9,14 +9,6 @@ use Rattle.tlsf_heap.proofs.Images.FilledHeads.{heads_on, heads_off, heads_all}
 use Rattle.tlsf_heap.proofs.load.fill_heads.Goals as goal
 use Rattle.tlsf_heap.proofs.load.fill_heads.Goals.{in-Some, in_default}
 
-pub loop-number-init : goal.loop-number-init
-loop-number-init g c = record {
-  same = λ i. g.T.HasParts.parts c.args.table.now;
-  whole = λ some. absurd (omega (arith, some));
-  so_far = c.requires.empty;
-  touches = omega arith;
-}
-
 pub loop-number-preserved : goal.loop-number-preserved
 loop-number-preserved g c =
     let parts : Parts = g.T.HasParts.parts c.args.table.now in
@@ -51,8 +43,3 @@ returns-clause-heads g c =
     let all = c.loop-number.invariant in
     let last = c.loop-number-test.false in
     heads_all parts.heads c.args.store.now.cells c.loop-number.number c.loop-number.store.cells (omega (arith, last)) (all.whole (omega (arith, last))) all.so_far
-
-pub returns-clause-filled : goal.returns-clause-filled
-returns-clause-filled g c =
-    let all : c.loop-number.number ≡ classes = omega (arith, c.loop-number-test.false, c.loop-number.auto) in
-    subst (λ n. HasHeadsBelow (g.T.HasParts.parts c.args.table.now).heads c.args.store.now.cells n c.loop-number.store.cells) all c.loop-number.invariant.so_far

@@ -1,4 +1,4 @@
-use Rattle.std.proofs.Common.{rules, ◌∙◌, sym, ap, subst}
+use Rattle.std.proofs.Common.{◌∙◌, sym, ap, subst}
 use Rattle.tlsf_heap.specs.Inner.Loading.{HasHeadsBelow, with_records}
 use Rattle.tlsf_heap.proofs.Images.FilledHeads.{none_at_first}
 use Rattle.tlsf_heap.proofs.load.stored.Goals as goal
@@ -9,10 +9,3 @@ fill_heads-requires-clause-empty g c =
     let others = c.take_all.new.store.cells.records in
     let heads = (g.T.HasParts.parts c.fill_records.new.table).heads in
     subst (λ cells. HasHeadsBelow heads cells 0 cells) (sym (c.fill_records.ensures.cells ∙ ap (with_records records) (c.take_all.ensures.others ∙ ap (with_records others) c.in_ok-store.ensures.made))) (none_at_first c.count.result records others heads)
-
-pub returns-clause-held : goal.returns-clause-held
-returns-clause-held g c = record {
-  held = search rules;
-  words_count = search rules;
-  bitmaps = search rules;
-}

@@ -1,10 +1,6 @@
 use Rattle.std.proofs.Common.{sym, ◌∙◌}
 use Rattle.tlsf_heap.proofs.Inner.Picked.{search_finds}
-use Rattle.tlsf_heap.proofs.Inner.Followed.{heads_count}
 use Rattle.tlsf_heap.proofs.malloc.pick.Goals as goal
-
-pub search-requires-clause-count : goal.search-requires-clause-count
-search-requires-clause-count c = heads_count c.args.store.now.cells c.requires.stands
 
 pub returns-clause-found : goal.returns-clause-found
 returns-clause-found c = search_finds c.args.store.now.cells c.requires.stands c.args.asked c.in-Some.class (sym c.class_for.ensures ∙ c.in-Some.is) c.search.result c.search.ensures.value c.search.ensures.head

@@ -11,9 +11,6 @@ use Rattle.tlsf_heap.proofs.Inner.Allotted.{rest_used, span_splits}
 use Rattle.tlsf_heap.proofs.malloc.split_off.Goals as goal
 use Rattle.tlsf_heap.proofs.Inner.Spans.{back_used}
 
-pub split-requires-clause-slot_used : goal.split-requires-clause-slot_used
-split-requires-clause-slot_used c = slot_used c.args.store.now.cells c.args.block.now.slot c.requires.stands.0 (with_slot c.args.rest c.requires.stands.1) c.requires.stands.3
-
 pub split-requires-clause-rest_used : goal.split-requires-clause-rest_used
 split-requires-clause-rest_used c = rest_used c.args.store.now.cells c.args.block.now.slot c.args.rest c.requires.stands.0 c.requires.stands.1 c.requires.stands.3
 

@@ -2,11 +2,10 @@ use Rattle.std.proofs.Common.{◌≡◌, ℕ, refl, sym, ap, ◌∙◌, subst, a
 use Rattle.tlsf_store.specs.Cells.{Cells}
 use Rattle.tlsf_heap.specs.declared.span.Span.{Span}
 use Rattle.tlsf_heap.specs.Inner.Nodes.{InUse, Listed}
-use Rattle.tlsf_heap.specs.Inner.At.{At, StandsAt, with_slot, at_turned, at_split_off}
+use Rattle.tlsf_heap.specs.Inner.At.{At, StandsAt, at_turned, at_split_off}
 use Rattle.tlsf_heap.specs.Inner.Spans.{IsRead}
 use Rattle.tlsf_heap.proofs.Inner.Steps.{size_read}
 use Rattle.tlsf_heap.proofs.Inner.Allotted.{slot_stands, rest_split_none, rest_split_stands}
-use Rattle.tlsf_heap.proofs.Inner.Spans.{read_stays}
 use Rattle.tlsf_heap.proofs.malloc.split_rest.Goals as goal
 
 -- the size that was read is the node's
@@ -18,22 +17,10 @@ returns-then-block-bytes-clause-leads c at stands =
     let old : Cells = c.args.store.now.cells in
     (0, rest_split_none old c.args.block.now.slot 0 c.args.bytes at stands (sym c.if-block-bytes.true ∙ size_is old c.args.block.now at stands c.requires.read))
 
-pub unreachable-requires : goal.unreachable-requires
-unreachable-requires c =
-    let none = c.in_default.ensures.none in
-    omega (arith, none, c.requires.room (omega (arith, c.requires.most, c.if-block-bytes.false)))
-
 pub split_off-requires-clause-stands : goal.split_off-requires-clause-stands
 split_off-requires-clause-stands c =
     let at : At = c.requires.stands.0 in
     (InUse, at, refl, slot_stands c.args.store.now.cells c.take_vacant.new.self.cells c.take_vacant.result c.args.block.now.slot c.in-Some.rest InUse at c.requires.stands.1 c.in-Some.is c.take_vacant.ensures.left.cells c.in-Some.ensures.within c.in-Some.ensures.vacant)
-
-pub split_off-requires-clause-read : goal.split_off-requires-clause-read
-split_off-requires-clause-read c =
-    let at : At = c.requires.stands.0 in
-    read_stays c.args.store.now.cells c.take_vacant.new.self.cells c.args.block.now InUse InUse at (with_slot c.in-Some.rest at) c.requires.stands.1
-    (slot_stands c.args.store.now.cells c.take_vacant.new.self.cells c.take_vacant.result c.args.block.now.slot c.in-Some.rest InUse at c.requires.stands.1 c.in-Some.is c.take_vacant.ensures.left.cells c.in-Some.ensures.within c.in-Some.ensures.vacant)
-    refl c.requires.read
 
 pub returns-clause-leads : goal.returns-clause-leads
 returns-clause-leads c at stands =

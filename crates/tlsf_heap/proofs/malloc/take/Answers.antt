@@ -11,7 +11,7 @@ use Rattle.tlsf_heap.specs.Malloc.{malloc_picked, malloc_rounded}
 use Rattle.tlsf_heap.specs.Inner.Nodes.{Listed}
 use Rattle.tlsf_heap.specs.Inner.Following.{Stands, content_of}
 use Rattle.tlsf_heap.specs.Inner.At.{At, StandsAt, with_slot}
-use Rattle.tlsf_heap.proofs.Inner.Steps.{slot_used, size_read}
+use Rattle.tlsf_heap.proofs.Inner.Steps.{size_read}
 use Rattle.tlsf_heap.proofs.Inner.Allotted.{slot_stands}
 use Rattle.tlsf_heap.proofs.Inner.Live.{free_at}
 use Rattle.tlsf_heap.proofs.Inner.TakenBlock.{room_left, holds, whole_stands, part_stands, full_refused, slot_below, slot_new}
@@ -34,14 +34,6 @@ kept old before new result slot rest block free same is taken vacant read =
     let blank_there : record_at old.records rest ≡ blank = rw same at vacant in
     let apart : slot ≢ rest = λ e. let both : Free ≡ blank.state = sym free ∙ ap (λ q. (record_at old.records q).state) e ∙ ap (λ (r : Record). r.state) blank_there in absurd (cc both) in
     read ∙ sym (ap (λ (c : Cells). record_at c.records slot) (taken ∙ ap (with_taken before) is ∙ ap (λ c. with_taken c (Some rest)) same) ∙ record_at-set_other old.records rest slot _ apart)
-
-pub read_used-block-requires-clause-within : goal.read_used-block-requires-clause-within
-read_used-block-requires-clause-within c =
-    let by = free_at c.args.store.now.cells c.requires.stands c.args.slot c.requires.picked.free in (slot_used c.args.store.now.cells c.args.slot Listed by.at by.stands).0
-
-pub read_used-block-requires-clause-used : goal.read_used-block-requires-clause-used
-read_used-block-requires-clause-used c =
-    let by = free_at c.args.store.now.cells c.requires.stands c.args.slot c.requires.picked.free in (slot_used c.args.store.now.cells c.args.slot Listed by.at by.stands).1
 
 pub take_whole-requires-clause-stands : goal.take_whole-requires-clause-stands
 take_whole-requires-clause-stands c =
@@ -96,10 +88,6 @@ take_split-requires-clause-stands c =
       by.at,
       spared old c.read_used-block.new.self.cells c.take_vacant.new.self.cells c.take_vacant.result c.args.slot c.in-Some.rest by.at by.stands c.read_used-block.ensures.left.cells c.in-Some.is c.take_vacant.ensures.left.cells c.in-Some.ensures.within c.in-Some.ensures.vacant,
     )
-
-pub take_split-requires-clause-read : goal.take_split-requires-clause-read
-take_split-requires-clause-read c =
-    kept c.args.store.now.cells c.read_used-block.new.self.cells c.take_vacant.new.self.cells c.take_vacant.result c.args.slot c.in-Some.rest c.read_used-block.result c.requires.picked.free c.read_used-block.ensures.left.cells c.in-Some.is c.take_vacant.ensures.left.cells c.in-Some.ensures.vacant c.read_used-block.ensures.value
 
 pub take_split-requires-clause-less : goal.take_split-requires-clause-less
 take_split-requires-clause-less c =

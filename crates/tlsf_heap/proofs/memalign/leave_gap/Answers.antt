@@ -1,4 +1,4 @@
-use Rattle.std.proofs.Common.{rules, ◌≡◌, refl, ℕ, ◌%◌, ◌<◌, length, sym, ap, ◌∙◌, subst, arith, Option, Some}
+use Rattle.std.proofs.Common.{◌≡◌, refl, ℕ, ◌%◌, ◌<◌, length, sym, ap, ◌∙◌, subst, arith, Option, Some}
 use Rattle.tlsf_store.specs.Records.{blank, record_at}
 use Rattle.tlsf_store.specs.declared.records.State.TheVariants.{Free, Live}
 use Rattle.tlsf_store.specs.Cells.{Cells, with_taken}
@@ -8,7 +8,7 @@ use Rattle.tlsf_heap.specs.Inner.Edits.{IsUsed}
 use Rattle.tlsf_heap.specs.Inner.Spans.{IsRead, split_by}
 use Rattle.tlsf_heap.specs.Inner.Nodes.{InUse, Loose}
 use Rattle.tlsf_heap.specs.Inner.At.{At, StandsAt, with_slot, at_turned}
-use Rattle.tlsf_heap.proofs.Inner.Steps.{slot_used, size_read, place_read, whole_at}
+use Rattle.tlsf_heap.proofs.Inner.Steps.{size_read, place_read, whole_at}
 use Rattle.tlsf_heap.proofs.Inner.Allotted.{slot_stands, at_front, span_gaps}
 use Rattle.tlsf_heap.proofs.Inner.Spans.{read_stays, back_used}
 use Rattle.tlsf_heap.proofs.Inner.Gapped.{gapped_stands}
@@ -17,11 +17,6 @@ use Rattle.tlsf_heap.proofs.memalign.leave_gap.Goals as goal
 -- the block as it is known, once a record was taken
 known : (old new : Cells) (span : Span) (rest : ℕ) (at : At) → StandsAt span.slot InUse old at → StandsAt span.slot InUse new (with_slot rest at) → IsRead span old.records → IsRead span new.records
 known old new span rest at was stands read = read_stays old new span InUse InUse at (with_slot rest at) was stands refl read
-
-pub split-requires-clause-slot_used : goal.split-requires-clause-slot_used
-split-requires-clause-slot_used c =
-    let at : At = c.requires.stands.0 in
-    slot_used c.take_vacant.new.self.cells c.args.block.now.slot InUse (with_slot c.in-Some.live at) (slot_stands c.args.store.now.cells c.take_vacant.new.self.cells c.take_vacant.result c.args.block.now.slot c.in-Some.live InUse at c.requires.stands.1 c.in-Some.is c.take_vacant.ensures.left.cells c.in-Some.ensures.within c.in-Some.ensures.vacant)
 
 pub split-requires-clause-next_used : goal.split-requires-clause-next_used
 split-requires-clause-next_used c =
@@ -69,10 +64,3 @@ returns-clause-leads c at stands =
     gapped_stands c.args.block.now.slot c.in-Some.live c.args.bytes at c.enter.new.store.cells stands.1.slot_is stands.1.node_state_is some
     (c.enter.ensures.leads (at_front c.in-Some.live c.args.bytes (at_turned Loose at))
     (fronted c.args.store.now.cells c.take_vacant.new.self.cells c.split.new.store.cells c.args.block.now c.take_vacant.result c.in-Some.live c.args.bytes at stands c.requires.read c.in-Some.is c.take_vacant.ensures.left.cells c.in-Some.ensures.within c.in-Some.ensures.vacant some c.requires.less c.requires.whole c.split.ensures.cells))
-
-pub returns-then-bytes-eq0-clause-slot : goal.returns-then-bytes-eq0-clause-slot
-returns-then-bytes-eq0-clause-slot c = record {
-  same = search rules;
-  vacant = λ some. absurd (omega (arith, some, c.if-bytes-eq0.true));
-  below = (slot_used c.args.store.now.cells c.args.block.now.slot InUse c.requires.stands.0 c.requires.stands.1).0;
-}

@@ -14,9 +14,8 @@ use Rattle.tlsf_heap.specs.Inner.Spans.{span_of, span_at}
 use Rattle.tlsf_heap.specs.Inner.Following.{content_of}
 use Rattle.tlsf_heap.specs.Inner.At.{StandsAt, at_taken, at_gapped, at_split_rest}
 use Rattle.tlsf_heap.proofs.Inner.Followed.{records_are}
-use Rattle.tlsf_heap.proofs.Inner.Steps.{slot_used, size_read}
+use Rattle.tlsf_heap.proofs.Inner.Steps.{size_read}
 use Rattle.tlsf_heap.proofs.Inner.TakenBlock.{slot_new}
-use Rattle.tlsf_heap.proofs.Inner.Live.{free_at}
 use Rattle.tlsf_heap.proofs.Inner.Spans.{read_of, span_is, is_read, read_stays}
 use Rattle.tlsf_heap.proofs.Inner.SplitAligned.{known, gap_of_some, split_aligned_full, SplitKnown, split_aligned_stands, vacant_new, vacant_taken, vacant_after}
 use Rattle.tlsf_heap.proofs.memalign.split_aligned.Goals as goal
@@ -59,21 +58,10 @@ returns-then-vacant-records_for c = record {
   touches = search rules;
 }
 
-pub read_used-block-requires-clause-within : goal.read_used-block-requires-clause-within
-read_used-block-requires-clause-within c =
-    let by = free_at c.args.store.now.cells c.requires.stands c.args.slot c.requires.picked.free in (slot_used c.args.store.now.cells c.args.slot Listed by.at by.stands).0
-
-pub read_used-block-requires-clause-used : goal.read_used-block-requires-clause-used
-read_used-block-requires-clause-used c =
-    let by = free_at c.args.store.now.cells c.requires.stands c.args.slot c.requires.picked.free in (slot_used c.args.store.now.cells c.args.slot Listed by.at by.stands).1
-
 pub take_whole-requires-clause-stands : goal.take_whole-requires-clause-stands
 take_whole-requires-clause-stands c =
     let k = picked_block (goal.at.take_whole-requires-clause-stands c).After-read_used-block in
     (k.by.at, subst (λ cells. StandsAt c.args.slot Listed cells k.by.at) (sym (c.vacant.ensures.left.cells ∙ c.read_used-block.ensures.left.cells)) k.by.stands)
-
-pub take_whole-requires-clause-read : goal.take_whole-requires-clause-read
-take_whole-requires-clause-read c = rw (c.vacant.ensures.left.cells, c.read_used-block.ensures.left.cells) c.read_used-block.ensures.value
 
 -- once the whole block was taken there are as many records vacant as are needed
 record Taken (c : After-take_whole) (k : SplitKnown c.args.store.now.cells c.requires.stands c.args.slot c.args.align c.args.asked c.read_used-block.result.size c.read_used-block.result.place) : Type 0 where

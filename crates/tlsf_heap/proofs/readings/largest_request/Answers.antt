@@ -3,12 +3,8 @@ use Rattle.tlsf_class.specs.Classes.{low}
 use Rattle.tlsf_class.proofs.LowestSizes.{low-le}
 use Rattle.std.proofs.lemmas.Bool.{cases_lt}
 use Rattle.tlsf_store.specs.Cells.{Cells}
-use Rattle.tlsf_heap.proofs.Inner.Followed.{heads_count}
 use Rattle.tlsf_heap.proofs.Inner.Largest.{largest_is}
 use Rattle.tlsf_heap.proofs.readings.largest_request.Goals as goal
-
-pub last_class-requires-clause-count : goal.last_class-requires-clause-count
-last_class-requires-clause-count c = heads_count c.args.store.now.cells c.requires
 
 pub returns-in-Some-clause-value : goal.returns-in-Some-clause-value
 returns-in-Some-clause-value c =

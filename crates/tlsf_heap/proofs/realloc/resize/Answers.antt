@@ -45,12 +45,6 @@ resize_in_place-requires-clause-other c =
     let size = sized c.args.store.now.cells c.requires.stands c.args.ptr.place c.args.ptr.slot c.args.block c.requires.live c.requires.slot c.requires.read in
     rw (c.fits_in_place.ensures.left.cells, c.requires.place) (λ e. c.if-asked-block.false (e ∙ sym size))
 
-pub fits_in_place-requires-clause-live : goal.fits_in_place-requires-clause-live
-fits_in_place-requires-clause-live c = rw (c.requires.slot, c.requires.place) c.requires.live
-
-pub resize_in_place-requires-clause-live : goal.resize_in_place-requires-clause-live
-resize_in_place-requires-clause-live c = rw (c.fits_in_place.ensures.left.cells, c.requires.slot, c.requires.place) c.requires.live
-
 pub returns-then-fits_in_place : goal.returns-then-fits_in_place
 returns-then-fits_in_place c = record {
   stands = search rules;

@@ -1,7 +1,7 @@
 use Rattle.std.proofs.Common.{ℕ, arith}
 use Rattle.tlsf_store.specs.Cells.{Cells}
 use Rattle.tlsf_heap.proofs.Bits.Search.{level_within}
-use Rattle.tlsf_heap.proofs.Bits.LastHead.{highest_set, word_not_zero, bit_has_head, none_behind_last, none_at_all}
+use Rattle.tlsf_heap.proofs.Bits.LastHead.{highest_set, word_not_zero, bit_has_head, none_behind_last}
 use Rattle.tlsf_heap.proofs.search.last_class.Goals as goal
 
 pub step_word-word-requires : goal.step_word-word-requires
@@ -38,8 +38,3 @@ returns-clause-last c =
           (rw c.level_word-word.ensures.value at c.in-Some.ensures.next_power_gt)
           (rw (c.step_word-word.ensures.value, c.level_word-word.ensures.left.cells) at c.in-Some-checked_ilog2.ensures.next_power_gt);
     })
-
-pub returns-in_default-clause-none : goal.returns-in_default-clause-none
-returns-in_default-clause-none c =
-    let old : Cells = c.args.store.now.cells in
-    none_at_all old.heads old.step_words old.level_word c.requires.bitmaps c.requires.count (rw c.level_word-word.ensures.value at c.in_default.ensures.none)

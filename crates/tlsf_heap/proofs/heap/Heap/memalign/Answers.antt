@@ -1,28 +1,18 @@
-use Rattle.std.proofs.Common.{rules, ◌≡◌, ℕ, ◌%◌, Err}
-use Rattle.std.proofs.lemmas.Result.{IfErr-at_err, IfOk-weaker}
+use Rattle.std.proofs.Common.{rules, ◌≡◌, ℕ, Err}
+use Rattle.std.proofs.lemmas.Result.{IfErr-at_err}
 use Rattle.tlsf_heap.specs.declared.refusal.Refusal.{Refusal}
 use Rattle.tlsf_heap.specs.declared.refusal.Refusal.TheVariants.{NoFit, TableFull, BadAlign, OutOfMemory}
-use Rattle.tlsf_heap.specs.Served.{IsServed}
 use Rattle.tlsf_heap.specs.Memalign.{memalign}
 use Rattle.tlsf_heap.specs.Inner.Following.{content_of}
 use Rattle.tlsf_heap.proofs.Inner.Standing.{content_is_good}
 use Rattle.tlsf_heap.proofs.Content.Results.{each_err}
 use Rattle.tlsf_heap.proofs.Good.AlignedImplied.{aligned_no_fit, aligned_full, aligned_lacks_none}
 use Rattle.tlsf_heap.proofs.Good.Room.{aligned_room_serves}
-use Rattle.tlsf_heap.proofs.Meaning.AlignedIsGood.{memalign_multiple}
 use Rattle.tlsf_heap.proofs.heap.Heap.memalign.Goals as goal
 
 -- where memalign is refused, so is it under slot 0
 refused : (c : goal.After-memalign) → (refusal : Refusal) → c.memalign.result ≡ Err refusal → memalign 0 c.args.align c.args.n (content_of c.self.inside.store.cells) ≡ Err refusal
 refused c refusal is = IfErr-at_err (λ why. (slot : ℕ) → memalign slot c.args.align c.args.n (content_of c.self.inside.store.cells) ≡ Err why) is c.memalign.ensures.refused 0
-
-pub returns-clause-multiple : goal.returns-clause-multiple
-returns-clause-multiple c =
-    IfOk-weaker c.memalign.result
-    (λ ptr. IsServed (λ slot. memalign slot c.args.align c.args.n) ptr (content_of c.self.inside.store.cells) (content_of c.memalign.new.store.cells))
-    (λ ptr. ptr.place % c.args.align ≡ 0)
-    (λ ptr e. memalign_multiple ptr.slot c.args.align c.args.n (content_of c.self.inside.store.cells) (ptr.place, content_of c.memalign.new.store.cells) (content_is_good c.self.inside.store.cells c.self.invariant) e.ok)
-    c.memalign.ensures.ok
 
 pub returns-clause-no_fit : goal.returns-clause-no_fit
 returns-clause-no_fit c = λ is.

@@ -1,19 +1,14 @@
-use Rattle.std.proofs.Common.{◌≡◌, ℕ, ◌<◌, ◌≤◌, List, length, sym, ap, ◌∙◌, subst, arith}
+use Rattle.std.proofs.Common.{◌≡◌, ℕ, ◌<◌, ◌≤◌, List, length, ap, ◌∙◌, arith}
 use Rattle.std.proofs.lemmas.List.{length-map}
 use Rattle.tlsf_store.specs.Records.{most_records}
 use Rattle.tlsf_store.specs.Cells.{Cells}
 use Rattle.tlsf_heap.specs.Images.Told.{told, told_parts}
 use Rattle.tlsf_heap.specs.Images.Writing.{image_of}
 use Rattle.tlsf_heap.specs.Counted.{Counted}
-use Rattle.tlsf_heap.specs.Cursors.{rows_by}
 use Rattle.tlsf_heap.specs.Images.Described.{IsImageOf}
-use Rattle.tlsf_heap.specs.Inner.Following.{content_of, Stands}
 use Rattle.tlsf_heap.proofs.Images.Written.{written_unbroken, written_content}
 use Rattle.tlsf_heap.proofs.heap.Heap.save_image.Goals as goal
 use Rattle.tlsf_heap.proofs.heap.Heap.save_image.Goals.{in-Ok, in-Err}
-
-pub invariant_of-self : goal.invariant_of-self
-invariant_of-self g c = subst Stands (sym c.put_image.ensures.read.kept) c.self.invariant
 
 pub returns-clause-saved : goal.returns-clause-saved
 returns-clause-saved g c =
@@ -30,9 +25,3 @@ returns-clause-saved g c =
       | in-Ok w ↦ rw w.result-is (record { image = image; is_image = is_image; put = w.in-Ok.ensures.put })
       | in-Err w ↦ rw w.result-is (record { image = image; is_image = is_image; put = w.in-Err.ensures.put })
     ]
-
-pub returns-clause-unchanged : goal.returns-clause-unchanged
-returns-clause-unchanged g c = record {
-  content = ap content_of c.put_image.ensures.read.kept ∙ ap (λ (v : Counted). v.content) c.self.view_is;
-  rows = ap (λ (cells : Cells). rows_by cells.records) c.put_image.ensures.read.kept ∙ ap (λ (v : Counted). v.rows) c.self.view_is;
-}

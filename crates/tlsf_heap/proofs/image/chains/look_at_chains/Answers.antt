@@ -2,7 +2,7 @@ use Rattle.std.proofs.Common.{◌≡◌, ◌<◌, ◌∙◌, length, sym, ap, ar
 use Rattle.tlsf_store.specs.Cells.{pool_at, most_pools}
 use Rattle.tlsf_heap.specs.Images.Image.{Parts}
 use Rattle.tlsf_heap.specs.Images.Findings.{chain_found}
-use Rattle.tlsf_heap.proofs.Images.ChainLemmas.{pool_on, pool_none, pools_end}
+use Rattle.tlsf_heap.proofs.Images.ChainLemmas.{pool_on, pool_none}
 use Rattle.tlsf_heap.proofs.Images.HasPartsLemmas.{and_reads}
 use Rattle.tlsf_heap.proofs.image.chains.look_at_chains.Goals as goal
 use Rattle.tlsf_heap.proofs.image.chains.look_at_chains.Goals.{in-Some+in_ok-look_at_chain, in_default}
@@ -33,8 +33,3 @@ loop-number-preserved g c =
             told = sym (pool_none parts c.loop-number.tally c.loop-number.number within (sym read ∙ w.in_default.is)) ∙ c.loop-number.invariant.told;
           })
     ]
-
-pub returns-clause-value : goal.returns-clause-value
-returns-clause-value g c =
-    let parts : Parts = g.T.HasParts.parts c.args.table.now in
-    sym (pools_end parts c.loop-number.tally c.loop-number.number (omega (arith, c.loop-number-test.false, c.loop-number.invariant.whole (omega (arith, c.loop-number-test.false))))) ∙ c.loop-number.invariant.told

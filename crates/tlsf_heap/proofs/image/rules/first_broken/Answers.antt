@@ -1,16 +1,9 @@
 use Rattle.std.proofs.Common.{◌≡◌, ◌∙◌, sym, ap, true, Bool, Some}
 use Rattle.std.specs.Prelude.{if◌then◌else◌}
-use Rattle.std.proofs.lemmas.Bool.{and_parts}
 use Rattle.tlsf_heap.specs.declared.image.rule.Rule.TheVariants.{Pools}
 use Rattle.tlsf_heap.specs.Images.Image.{Parts}
-use Rattle.tlsf_heap.specs.Images.Rules.{first_of, are_packed, has_ordered_pools, has_packed_pools, rules_of_parts}
+use Rattle.tlsf_heap.specs.Images.Rules.{first_of, has_packed_pools, rules_of_parts}
 use Rattle.tlsf_heap.proofs.image.rules.first_broken.Goals as goal
-
-pub first_behind_pools-requires : goal.first_behind_pools-requires
-first_behind_pools-requires g c =
-    let parts : Parts = g.T.HasParts.parts c.args.table.now in
-    let packed : has_packed_pools parts ≡ true = sym c.has_packed_pools.ensures.value ∙ c.if-has_packed_pools.true in
-    ap (λ p. has_ordered_pools p) c.has_packed_pools.ensures.read.same ∙ (and_parts (are_packed parts.pools) (has_ordered_pools parts) packed).1
 
 pub returns-then-has_packed_pools-clause-value : goal.returns-then-has_packed_pools-clause-value
 returns-then-has_packed_pools-clause-value g c =

@@ -25,9 +25,6 @@ gap-rest-requires-clause-size c = (sized (goal.at.gap-rest-requires-clause-size 
 pub gap-rest-requires-clause-place : goal.gap-rest-requires-clause-place
 gap-rest-requires-clause-place c = λ some. let k = sized (goal.at.gap-rest-requires-clause-place c).After-size_of in omega (arith, some, k.ends, k.within, c.from.ensures, c.from-2.ensures)
 
-pub invariant_of-live : goal.invariant_of-live
-invariant_of-live c = (sized (goal.at.invariant_of-live c).After-size_of).asked_size
-
 -- the content made is the definition's
 after : (c : goal.In_ok-replace) → c.replace.new.self ≡ resized c.slot.result c.place-place.result c.args.asked c.args.content.now
 after c =
