@@ -14,11 +14,10 @@ ghost use Rattle.tlsf_heap.specs.Inner.Answers.{AnswersOver};
 ghost use Rattle.tlsf_heap.specs.Inner.Entering.{pool_laid};
 
 use crate::Refusal;
-use crate::entries::{entries, first_behind, is_apart, set_entries};
+use crate::entries::{entries, entries_with, first_behind, is_apart, set_entries};
 use crate::free_lists::link;
-use arrayvec::ArrayVec;
 use tlsf_class::class_of;
-use tlsf_store::{MOST_POOLS, Pool, Record, State, Store, can_be_pool};
+use tlsf_store::{Pool, Record, State, Store, can_be_pool};
 
 /// A pool of `bytes` bytes from the place `base` on enters the store, as one free block. At most 27
 /// touches.
@@ -30,7 +29,7 @@ pub(crate) fn add_pool(store: &mut Store, base: u64, bytes: u64) -> Result<(), R
     requires { Stands store.old.cells }
     ensures { AnswersOver result (λ done old new. add_pool base bytes old ≡ Ok new) (λ refusal old. add_pool base bytes old ≡ Err refusal) add_pool_touches store.old store.new }
 {
-    let mut entries = entries(store);
+    let entries = entries(store);
     if !can_enter(entries.as_slice(), base, bytes) {
         return Err(Refusal::BadPool);
     }
@@ -45,7 +44,7 @@ pub(crate) fn add_pool(store: &mut Store, base: u64, bytes: u64) -> Result<(), R
         bytes: bytes as u32,
         first: slot,
     };
-    put_pool(store, &mut entries, entry);
+    put_pool(store, entries.as_slice(), entry);
     Ok(())
 }
 
@@ -58,22 +57,22 @@ fn can_enter(entries: &[Pool], base: u64, bytes: u64) -> bool
 
 /// Makes a pool one free block, whose slot was taken, the first of its class's list, and puts its entry
 /// among the others. At most 17 touches.
-fn put_pool(store: &mut Store, entries: &mut ArrayVec<Pool, MOST_POOLS>, entry: Pool)
+fn put_pool(store: &mut Store, entries: &[Pool], entry: Pool)
     requires can { can_be_pool entry.base entry.bytes ≡ true }
-    requires room { length entries.old.items < most_pools }
+    requires room { length entries.now < most_pools }
     requires count { length store.old.cells.pools ≡ most_pools }
-    requires entries { entries.old.items ≡ entries_of store.old.cells.pools }
-    requires below { All (λ e. e.first < length store.old.cells.records) entries.old.items }
+    requires entries { entries.now ≡ entries_of store.old.cells.pools }
+    requires below { All (λ e. e.first < length store.old.cells.records) entries.now }
     requires slot_used { IsUsed store.old.cells.records (Some entry.first) }
     requires taken { (layout : Layout) × Represents store.old.cells (record layout { taken = entry.first ∷ layout.taken }) }
     ensures leads { (layout : Layout) → Represents store.old.cells (record layout { taken = entry.first ∷ layout.taken }) → Represents store.new.cells (pool_laid entry layout) }
     ensures touches { AtMost 17 store.old.touches store.new.touches }
 {
     let Pool { base, bytes, first } = entry;
-    let place = first_behind(entries.as_slice(), base).unwrap_or(entries.len());
-    entries.insert(place, entry);
+    let place = first_behind(entries, base).unwrap_or(entries.len());
+    let all = entries_with(entries, place, entry);
     store.write(first, free_block(base, bytes));
-    set_entries(store, entries.as_slice());
+    set_entries(store, all.as_slice());
     link(store, class_of(bytes), first);
 }
 

@@ -1,6 +1,6 @@
 //! The pool entries of a store, in order of base.
 
-ghost use Rattle.std.specs.Prelude.{◌≡◌, ◌≢◌, ◌+◌, ◌<◌, ◌≤◌, ◌++◌, [], length, map, All, ◌∷◌, IfSome, IfNone, nat_lt, position, slice_index_or};
+ghost use Rattle.std.specs.Prelude.{◌≡◌, ◌≢◌, ◌+◌, ◌<◌, ◌≤◌, ◌++◌, [], length, map, insert, All, ◌∷◌, IfSome, IfNone, nat_lt, position, slice_index_or};
 ghost use Rattle.std.specs.List.{list_all};
 ghost use Rattle.arrayvec.specs.ArrayVec.{array_vec_len};
 ghost use Rattle.tlsf_store.specs.Cells.{most_pools};
@@ -72,6 +72,33 @@ pub(crate) fn first_behind(entries: &[Pool], base: u32) -> Option<usize>
     ensures number { result ≡ position (λ entry. nat_lt base entry.base) entries.now }
 {
     entries.iter().position(|entry| base < entry.base)
+}
+
+/// Appends these entries.
+fn push_all(entries: &mut ArrayVec<Pool, MOST_POOLS>, more: &[Pool])
+    requires { array_vec_len entries.old + length more.now ≤ most_pools }
+    ensures items { entries.new.items ≡ entries.old.items ++ more.now }
+{
+    for entry in more {
+        entries.push(*entry);
+    }
+}
+
+/// The entries with one more, in front of the one of this number. `ArrayVec::insert` would take 4,096 bytes of stack.
+pub(crate) fn entries_with(
+    entries: &[Pool],
+    number: usize,
+    entry: Pool,
+) -> ArrayVec<Pool, MOST_POOLS>
+    requires within { number ≤ length entries.now }
+    requires room { length entries.now < most_pools }
+    ensures { result.items ≡ insert entries.now number entry }
+{
+    let mut all = ArrayVec::new();
+    push_all(&mut all, &entries[..number]);
+    all.push(entry);
+    push_all(&mut all, &entries[number..]);
+    all
 }
 
 /// The number of the pool that begins at `base`, if there is one.

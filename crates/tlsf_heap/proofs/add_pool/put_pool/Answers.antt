@@ -9,9 +9,9 @@ use Rattle.tlsf_heap.proofs.add_pool.put_pool.Goals as goal
 -- the cells once the pool is there
 put : (c : goal.After-class_of) → c.set_entries.new.store.cells ≡ pool_put c.args.entry (with_entry c.args.entry (entries_of c.args.store.now.cells.pools)) c.args.store.now.cells
 put c =
-    let items : List StoredPool = c.args.entries.now.items in
-    let all : c.as_slice-2.result.now ≡ with_entry c.args.entry (entries_of c.args.store.now.cells.pools) =
-    rw (c.as_slice-2.ensures.value, c.insert.ensures.items, c.unwrap_or-place.ensures, c.first_behind.ensures.number, c.len.ensures.value, c.as_slice.ensures.value, insert_is (λ (e : StoredPool). e.base) c.args.entry items, c.requires.entries) in
+    let items : List StoredPool = c.args.entries.now in
+    let all : c.as_slice.result.now ≡ with_entry c.args.entry (entries_of c.args.store.now.cells.pools) =
+    rw (c.as_slice.ensures.value, c.entries_with-all.ensures, c.unwrap_or-place.ensures, c.first_behind.ensures.number, insert_is (λ (e : StoredPool). e.base) c.args.entry items, c.requires.entries) in
     rw (c.set_entries.ensures.cells, c.write.ensures.left.cells, c.free_block.ensures, all)
 
 enters : (c : goal.After-class_of) → Enters c.args.entry c.requires.taken.0 c.args.store.now.cells
