@@ -1,6 +1,6 @@
 //! The pool entries of a store, in order of base.
 
-ghost use Rattle.std.specs.Prelude.{◌≡◌, ◌≢◌, ◌+◌, ◌<◌, ◌≤◌, ◌++◌, [], length, map, insert, All, ◌∷◌, IfSome, IfNone, nat_lt, position, slice_index_or};
+ghost use Rattle.std.specs.Prelude.{◌≡◌, ◌≢◌, ◌+◌, ◌<◌, ◌≤◌, ◌++◌, [], length, map, insert, remove, All, ◌∷◌, IfSome, IfNone, nat_lt, position, slice_index_or};
 ghost use Rattle.std.specs.List.{list_all};
 ghost use Rattle.arrayvec.specs.ArrayVec.{array_vec_len};
 ghost use Rattle.tlsf_store.specs.Cells.{most_pools};
@@ -99,6 +99,18 @@ pub(crate) fn entries_with(
     all.push(entry);
     push_all(&mut all, &entries[number..]);
     all
+}
+
+/// The entries without the one of this number. `ArrayVec::remove` would want C's `memmove`.
+pub(crate) fn entries_without(entries: &[Pool], number: usize) -> ArrayVec<Pool, MOST_POOLS>
+    requires within { number < length entries.now }
+    requires few { length entries.now ≤ most_pools }
+    ensures { result.items ≡ remove entries.now number }
+{
+    let mut rest = ArrayVec::new();
+    push_all(&mut rest, &entries[..number]);
+    push_all(&mut rest, &entries[number + 1..]);
+    rest
 }
 
 /// The number of the pool that begins at `base`, if there is one.

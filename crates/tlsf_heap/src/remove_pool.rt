@@ -15,7 +15,7 @@ ghost use Rattle.tlsf_heap.specs.Inner.Following.{Stands};
 ghost use Rattle.tlsf_heap.specs.Inner.Answers.{AnswersOver};
 
 use crate::Refusal;
-use crate::entries::{entries, pool_number, set_entries};
+use crate::entries::{entries, entries_without, pool_number, set_entries};
 use crate::malloc::take_whole;
 use tlsf_class::class_of;
 use tlsf_store::{Pool, Record, Slot, Store};
@@ -29,7 +29,7 @@ pub(crate) fn remove_pool(store: &mut Store, base: u64) -> Result<(), Refusal>
     requires { Stands store.old.cells }
     ensures { AnswersOver result (λ done old new. remove_pool base old ≡ Ok new) (λ refusal old. remove_pool base old ≡ Err refusal) remove_pool_touches store.old store.new }
 {
-    let mut entries = entries(store);
+    let entries = entries(store);
     let Some(number) = pool_number(entries.as_slice(), base) else {
         return Err(Refusal::NoPool);
     };
@@ -39,8 +39,8 @@ pub(crate) fn remove_pool(store: &mut Store, base: u64) -> Result<(), Refusal>
     if !is_alone(&block) {
         return Err(Refusal::PoolInUse);
     }
-    entries.remove(number);
-    drop_pool(store, slot, &block, entries.as_slice());
+    let rest = entries_without(entries.as_slice(), number);
+    drop_pool(store, slot, &block, rest.as_slice());
     Ok(())
 }
 

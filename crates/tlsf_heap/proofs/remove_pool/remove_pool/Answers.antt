@@ -79,7 +79,7 @@ drop_pool-requires-clause-below c =
     let P : StoredPool → Type 0 = λ entry. entry.first < length c.args.store.now.cells.records in
     let items : List StoredPool = c.entries-entries.result.items in
     let n : ℕ = c.in-Some.number in
-    rw (c.as_slice-3.ensures.value, c.remove.ensures.items, c.read-block.ensures.left.cells, c.entries-entries.ensures.left.cells)
+    rw (c.as_slice-4.ensures.value, c.entries_without-rest.ensures, c.as_slice-3.ensures.value, c.read-block.ensures.left.cells, c.entries-entries.ensures.left.cells)
     (All-append P (take n items) (drop (suc n) items) (All-take P n items c.entries-entries.ensures.below) (All-drop P (suc n) items c.entries-entries.ensures.below))
 
 -- what is left
@@ -92,7 +92,7 @@ left c =
     let here = stands_there old c.requires c.args.base c.in-Some.number t.is.0 t.is.1 slot t.slot_is unused in
     let alone = alone_there old c.requires c.args.base c.in-Some.number t.is.0 t.is.1 slot t.slot_is unused in
     let node : At = node_there old c.requires c.args.base c.in-Some.number t.is.0 t.is.1 slot t.slot_is unused in
-    let entries = c.as_slice-3.ensures.value ∙ c.remove.ensures.items ∙ ap (λ items. remove items c.in-Some.number) c.entries-entries.ensures.value ∙ alone.2 in
+    let entries = c.as_slice-4.ensures.value ∙ c.entries_without-rest.ensures ∙ ap (λ items. remove items c.in-Some.number) (c.as_slice-3.ensures.value ∙ c.entries-entries.ensures.value) ∙ alone.2 in
     let P : Cells → Type 0 = λ cells. StandsAt slot Listed cells node in
     let now : StandsAt slot Listed c.read-block.new.self.cells node = subst P (sym (c.read-block.ensures.left.cells ∙ c.entries-entries.ensures.left.cells)) here in
     removed_stands old c.requires c.args.base c.in-Some.number t.is.0 t.is.1 slot t.slot_is unused c.drop_pool.new.store.cells (c.drop_pool.ensures.leads node now alone.0 alone.1 entries)
