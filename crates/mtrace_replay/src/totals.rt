@@ -6,9 +6,9 @@ ghost use Rattle.mtrace_replay.specs.Totals.{gone_on};
 pub struct Totals {
     /// How many lines there were.
     pub lines: u64,
-    /// How many lines `+` and `>` the heap served.
+    /// How many lines `+`, `*` and `>` the heap served.
     pub served: u64,
-    /// How many lines `+` and `>` the heap refused.
+    /// How many lines `+`, `*` and `>` the heap refused.
     pub refused: u64,
     /// The sum of the sizes held, in bytes as asked for.
     pub live_bytes: u64,
