@@ -18,7 +18,8 @@
  * heap itself. tlsf_heap_destroy gives both back.
  *
  * Who may call: a heap belongs to the thread that made it. One call at a time; none from a signal
- * handler, nor from the forked child of a process with threads. A program that wants a heap in
+ * handler, nor from the forked child of a process with threads. An interrupt whose handler calls is
+ * masked around the program's own calls. A program that wants a heap in
  * several threads puts a lock around it at its own risk: that a heap may pass from thread to thread
  * isn't proved.
  *
@@ -203,9 +204,9 @@ enum tlsf_status tlsf_heap_remove_pool(tlsf_heap *heap, uint64_t base);
 
 /* Gives *out a live block of at least `bytes` bytes, rounded up to 16. At most 23 touches.
  * 0, TLSF_ZERO_SIZE, TLSF_NO_FIT or TLSF_TABLE_FULL.
- * It is the first block of the first list that isn't empty, at or above the class from which each
- * block holds the bytes: so TLSF_NO_FIT says that each free block is smaller than that class, not
- * that none would do. */
+ * Lists are searched from the least class whose blocks all hold the bytes upwards; the block is the
+ * first of the first list that isn't empty. So TLSF_NO_FIT says that each free block is smaller than
+ * that class, not that none would do. */
 enum tlsf_status tlsf_heap_malloc(tlsf_heap *heap, uint64_t bytes, tlsf_heap_block *out);
 
 /* As tlsf_heap_malloc, at a place that is a multiple of align, a power of two from 1 to 2^29. At
