@@ -19,9 +19,8 @@
  *
  * Who may call: a heap belongs to the thread that made it. One call at a time; none from a signal
  * handler, nor from the forked child of a process with threads. An interrupt whose handler calls is
- * masked around the program's own calls. A program that wants a heap in
- * several threads puts a lock around it at its own risk: that a heap may pass from thread to thread
- * isn't proved.
+ * masked around the program's own calls. A program that wants a heap in several threads puts a lock
+ * around it at its own risk: that a heap may pass from thread to thread isn't proved.
  *
  * What the program owes: a tlsf_heap starts with zeros. The calls that fill it and the one that
  * ends it take it so; the others take one that was filled and isn't ended. The program doesn't use
