@@ -1,9 +1,9 @@
 -- The first lines of a log, read and replayed.
-use Rattle.std.proofs.Common.{◌≡◌, ◌<◌, ◌≤◌, ℕ, List, length, refl, sym, subst, arith, ◌⊎◌, inl, inr}
+use Rattle.std.proofs.Common.{◌≡◌, ◌<◌, ◌≤◌, ◌∷◌, ℕ, List, length, refl, sym, subst, arith, ◌⊎◌, inl, inr}
 use Rattle.std.specs.Prelude.{Result, Ok, Err}
 use Rattle.mtrace_log.specs.Progress.{Progress, Stage, Reading, Ended, Faulted, to_come, greatest_number}
 use Rattle.mtrace_log.specs.Shown.{ReaderState}
-use Rattle.mtrace_log.specs.declared.call.Call.TheVariants.{Gave}
+use Rattle.mtrace_log.specs.declared.call.Call.TheVariants.{Gave, Began}
 use Rattle.mtrace_log.proofs.TraceLemmas.{moved_none}
 use Rattle.mtrace_log.specs.Trace.{HasGivenAll}
 use Rattle.mtrace_log.specs.HasRead.{HasRead, HasReadAll, HasReadSo}
@@ -12,7 +12,7 @@ use Rattle.mtrace_log.specs.declared.event.LineFault.{LineFault}
 use Rattle.mtrace_replay.specs.declared.settings.Settings.{Settings}
 use Rattle.mtrace_replay.specs.Replay.{Replayed}
 use Rattle.mtrace_replay.specs.Run.{with_unused, FailedInPiece, IsPastLastNumber}
-use Rattle.mtrace_replay.specs.Again.{HasReadFirst, HasReplayedFirst, StopsEarly, ReplaysFirst}
+use Rattle.mtrace_replay.specs.Again.{HasReadFirst, HasReplayedFirst, StopsEarly, ReplaysFirst, begun_again}
 use Rattle.mtrace_replay.specs.Replaying.{IsReplaying, ReplaysUpTo}
 use Rattle.mtrace_replay.proofs.ReplayingLemmas.{used_to_end, no_line, replaying_start}
 
@@ -51,17 +51,22 @@ pub failed_in_piece : (start reader : ReaderState) (lines : List (Result Event L
 failed_in_piece start reader lines few (inl failed) = failed
 failed_in_piece start reader lines few (inr (unused, past)) = absurd (omega (arith, few, past.count))
 
+-- a reader that began again
+pub has_begun : (reader_old reader_middle : ReaderState) → reader_middle.left ≡ reader_old.whole → reader_middle.whole ≡ reader_old.whole → reader_middle.calls ≡ Began ∷ reader_old.calls
+    → reader_middle ≡ begun_again reader_old
+has_begun reader_old reader_middle left_is whole_is calls_are = λ i. record { left = left_is i; whole = whole_is i; calls = calls_are i }
+
 -- the lines up to one, from the first on, are the first lines
 pub first_up_to : {E : Type 0} (many : ℕ) (result : Result (Unit {0}) E) (new : Progress) (replay_old replay_new : Replayed) (reader_old reader_new : ReaderState)
-    → many ≤ greatest_number → ReplaysUpTo many result no_line new replay_old replay_new reader_old reader_new
-    → ReplaysFirst reader_old (StopsEarly many reader_old reader_new) many result
-    replay_old replay_new reader_old reader_new
+    → many ≤ greatest_number → ReplaysUpTo many result no_line new replay_old replay_new (begun_again reader_old) reader_new
+    → ReplaysFirst many result replay_old replay_new reader_old reader_new
 first_up_to many (Ok done) new replay_old replay_new reader_old reader_new within up =
-    let none = moved_none Gave reader_old.calls in
+    let start = begun_again reader_old in
+    let none = moved_none Gave start.calls in
     record {
       done = λ settings stands.
-          first_at_most many settings new replay_new reader_old reader_new (up.replaying settings reader_old (replaying_start settings replay_old reader_old stands)).now up.reached;
-      not_failed = (up.gave reader_old none (inl none)).1;
+          first_at_most many settings new replay_new start reader_new (up.replaying settings start (replaying_start settings replay_old start stands)).now up.reached;
+      not_failed = (up.gave start none (inl none)).1;
       read = tt;
       whole = up.whole;
       records = up.records;
@@ -70,7 +75,8 @@ first_up_to many (Err failed) new replay_old replay_new reader_old reader_new wi
   done = tt;
   not_failed = tt;
   read = λ settings stands.
-      up.stops settings reader_old many (replaying_start settings replay_old reader_old stands) (moved_none Gave reader_old.calls) (omega arith) within;
+      let start = begun_again reader_old in
+      inr (up.stops settings start many (replaying_start settings replay_old start stands) (moved_none Gave start.calls) (omega arith) within);
   whole = up.whole;
   records = up.records;
 }

@@ -9,10 +9,10 @@ use Rattle.mtrace_log.specs.declared.call.Call.TheVariants.{Gave, Failed, Began,
 use Rattle.mtrace_replay.specs.declared.settings.Settings.{Settings}
 use Rattle.mtrace_replay.specs.Replay.{Replayed}
 use Rattle.mtrace_log.specs.Shown.{ReaderState}
-use Rattle.mtrace_replay.specs.Again.{HasReadFirst, begun_again, StopsEarly, FailsAgain}
+use Rattle.mtrace_replay.specs.Again.{HasReadFirst, StopsEarly, FailsAgain}
 use Rattle.mtrace_replay.specs.RunFit.{IsTried, NoneFailed}
 use Rattle.mtrace_replay.specs.Replaying.{IsReplaying}
-use Rattle.mtrace_replay.proofs.AgainLemmas.{read_first}
+use Rattle.mtrace_replay.proofs.AgainLemmas.{read_first, has_begun}
 
 -- no line is refused
 pub tried_served : (many : ℕ) (settings : Settings) (progress : Progress) (replay : Replayed) (start now : ReaderState) → (so_far : IsReplaying settings progress replay start now)
@@ -63,8 +63,7 @@ none_failed-began old middle new began then =
 pub fails_again : (many : ℕ) (reader_old reader_middle reader_new : ReaderState) → reader_middle.left ≡ reader_old.whole → reader_middle.whole ≡ reader_old.whole → reader_middle.calls ≡ Began ∷ reader_old.calls
     → StopsEarly many reader_middle reader_new → FailsAgain many reader_old reader_new
 fails_again many reader_old reader_middle reader_new left_is whole_is calls_are failed =
-    let is : reader_middle ≡ begun_again reader_old = λ i. record { left = left_is i; whole = whole_is i; calls = calls_are i } in
-    inr (subst (λ reader. StopsEarly many reader reader_new) is failed)
+    inr (subst (λ reader. StopsEarly many reader reader_new) (has_begun reader_old reader_middle left_is whole_is calls_are) failed)
 
 -- what follows where a call succeeds, or fails
 pub on_ok : {T E A B : Type 0} → (result : Result T E) → OnOk result A → (A → B) → OnOk result B

@@ -49,12 +49,11 @@ abbrev pub FailsAgain : (many : ℕ) (reader_old reader_new : ReaderState) → T
 FailsAgain many reader_old reader_new =
     ((reader_new.left ≡ reader_old.left) × (reader_new.calls ≡ Failed ∷ reader_old.calls)) ⊎ StopsEarly many (begun_again reader_old) reader_new
 
--- What a call leaves that reads and replays the first lines of a text, from this start on. They were replayed, or the reader failed.
-pub record ReplaysFirst {E : Type 0} (start : ReaderState) (Fails : Type 0) (many : ℕ)
-    (result : Result (Unit {0}) E) (replay_old replay_new : Replayed) (reader_old reader_new : ReaderState) : Type 0 where
-  pub done : OnOk result ((settings : Settings) → StandsFor replay_old settings [] → HasReplayedFirst many settings replay_new start.left reader_new.left)
-  pub not_failed : OnOk result (HasNotFailed start.calls reader_new.calls)
-  pub read : OnErr result ((settings : Settings) → StandsFor replay_old settings [] → Fails)
+-- What a call leaves that begins a text again, and replays its first lines. They were replayed, or the reader failed.
+pub record ReplaysFirst {E : Type 0} (many : ℕ) (result : Result (Unit {0}) E) (replay_old replay_new : Replayed) (reader_old reader_new : ReaderState) : Type 0 where
+  pub done : OnOk result ((settings : Settings) → StandsFor replay_old settings [] → HasReplayedFirst many settings replay_new reader_old.whole reader_new.left)
+  pub not_failed : OnOk result (HasNotFailed (begun_again reader_old).calls reader_new.calls)
+  pub read : OnErr result ((settings : Settings) → StandsFor replay_old settings [] → FailsAgain many reader_old reader_new)
   pub whole : reader_new.whole ≡ reader_old.whole
   pub records : replay_new.content.records ≡ replay_old.content.records
 

@@ -99,36 +99,22 @@ greatest (size ∷ sizes) = max size (greatest sizes)
 abbrev pub spread_text : (high peak : ℕ) → List ℕ
 spread_text high peak = if peak == 0 then codes "-" else decimal (high * 1000 / peak)
 
--- how the lines went
-abbrev pub count_lines : Totals → List ℕ
-count_lines totals =
-    number_line (codes "lines: ") totals.lines
-    ++ number_line (codes "served: ") totals.served
-    ++ number_line (codes "refused: ") totals.refused
-
 -- `peak: B bytes at line K`, one line
 abbrev pub greatest_line : Totals → List ℕ
 greatest_line totals = pair_line (codes "peak: ") totals.peak_bytes (codes " bytes at line ") totals.peak_line []
 
--- what is held, and what was at the most
-abbrev pub held_lines : Totals → List ℕ
-held_lines totals =
-    pair_line (codes "live: ") totals.live_bytes (codes " bytes in ") totals.live_blocks (codes " blocks")
+-- the nine lines, by what is free: how many bytes, in how many blocks, and the bytes of the largest
+abbrev pub peak_lines : Totals → (bytes blocks largest : ℕ) → List ℕ
+peak_lines totals bytes blocks largest =
+    number_line (codes "lines: ") totals.lines
+    ++ number_line (codes "served: ") totals.served
+    ++ number_line (codes "refused: ") totals.refused
+    ++ pair_line (codes "live: ") totals.live_bytes (codes " bytes in ") totals.live_blocks (codes " blocks")
     ++ greatest_line totals
     ++ number_line (codes "high place: ") totals.high_place
-
--- what is free: how many bytes, in how many blocks, and the bytes of the largest
-abbrev pub free_lines : (bytes blocks largest : ℕ) → List ℕ
-free_lines bytes blocks largest =
-    pair_line (codes "free: ") bytes (codes " bytes in ") blocks (codes " blocks")
+    ++ pair_line (codes "free: ") bytes (codes " bytes in ") blocks (codes " blocks")
     ++ number_line (codes "largest free: ") largest
-
-abbrev pub spread_line : Totals → List ℕ
-spread_line totals = codes "spread: " ++ spread_text totals.high_place totals.peak_bytes ++ newline ∷ []
-
--- the nine lines, by what is free
-abbrev pub peak_lines : Totals → (bytes blocks largest : ℕ) → List ℕ
-peak_lines totals bytes blocks largest = count_lines totals ++ held_lines totals ++ free_lines bytes blocks largest ++ spread_line totals
+    ++ codes "spread: " ++ spread_text totals.high_place totals.peak_bytes ++ newline ∷ []
 
 -- the report of the peak
 abbrev pub peak_report : Totals → Bare → List ℕ
@@ -197,19 +183,14 @@ size_line word size = word ++ size_text size ++ newline ∷ []
 abbrev pub record_lines : ℕ → List ℕ
 record_lines records = number_line (codes "records: ") records ++ size_line (codes "table: ") (Some (table_bytes records))
 
--- the first size that serves, and the first from which on all do
-abbrev pub served_lines : Fitted → List ℕ
-served_lines fitted = size_line (codes "least pool: ") fitted.least ++ size_line (codes "safe pool: ") fitted.safe
-
--- what the sizes tell that were tried
-abbrev pub tried_lines : Fitted → List ℕ
-tried_lines fitted =
-    served_lines fitted
-    ++ pair_line (codes "sizes tried: ") fitted.tried (codes ", ") fitted.refused (codes " refused")
-
 -- the records, what the sizes tell that were tried with them, and the pool that is always enough
 abbrev pub fitted_lines : (records : ℕ) → Fitted → Option ℕ → List ℕ
-fitted_lines records fitted sure = record_lines records ++ tried_lines fitted ++ size_line (codes "sure pool: ") sure
+fitted_lines records fitted sure =
+    record_lines records
+    ++ size_line (codes "least pool: ") fitted.least
+    ++ size_line (codes "safe pool: ") fitted.safe
+    ++ pair_line (codes "sizes tried: ") fitted.tried (codes ", ") fitted.refused (codes " refused")
+    ++ size_line (codes "sure pool: ") sure
 
 -- that no size was tried
 abbrev pub untried_lines : List ℕ

@@ -1,12 +1,12 @@
 //! A log that is read again.
 
 ghost use Rattle.std.specs.Prelude.{◌≡◌, ◌≤◌, [], OnOk};
-ghost use Rattle.mtrace_replay.specs.Again.{StopsEarly, ReplaysFirst};
+ghost use Rattle.mtrace_replay.specs.Again.{ReplaysFirst};
 ghost use Rattle.mtrace_replay.specs.Replaying.{ReplaysNext, ReplaysUpTo};
 
 use crate::findings::Findings;
 use crate::replay::Replay;
-use mtrace_log::{Failed, Lines, Source};
+use mtrace_log::{Again, Failed, Lines, Source};
 use tlsf_heap::Heap;
 
 /// Reads and replays the next line. What is wrong with it isn't told.
@@ -62,20 +62,20 @@ pub(crate) fn replay_up_to<R: Source>(
     Ok(())
 }
 
-/// Reads and replays the first lines of the log, this many. What is wrong with them isn't told.
+/// Begins the log again, and replays its first lines, this many. What is wrong with them isn't told.
 ///
 /// # Errors
 ///
-/// `Failed` where the reader fails, or has fewer lines.
-pub(crate) fn replay_first<R: Source>(
+/// `Failed` where the reader doesn't begin again, fails, or has fewer lines then.
+pub(crate) fn replay_again<R: Again>(
     reader: &mut R,
     replay: &mut Replay<Heap>,
     many: u64,
 ) -> Result<(), Failed>
     requires start { replay.old.totals.lines ≡ 0 }
-    ensures { ReplaysFirst (R.shown reader.old) (StopsEarly many (R.shown reader.old) (R.shown reader.new))
-        many result replay.old replay.new (R.shown reader.old) (R.shown reader.new) }
+    ensures { ReplaysFirst many result replay.old replay.new (R.shown reader.old) (R.shown reader.new) }
 {
+    reader.begin()?;
     let mut lines = Lines::new();
     let mut findings = Findings::none();
     replay_up_to(&mut lines, reader, replay, &mut findings, many)

@@ -26,19 +26,12 @@ impl Model for Findings {
     ghost view = { λ findings. option_to_list findings.first ++ option_to_list findings.second };
 }
 
-/// Whether the heap refused what a line asked for.
-fn is_refusal(kind: Kind) -> bool
-    ensures { result ≡ is_refusal kind }
-{
-    matches!(kind, Kind::Refused(..))
-}
-
 /// Whether it is there and says that the heap refused what a line asked for.
-fn is_some_refusal(diagnostic: &Option<Diagnostic>) -> bool
+fn is_refusal(diagnostic: &Option<Diagnostic>) -> bool
     ensures { result ≡ list_any (λ diagnostic. is_refusal diagnostic.kind) (option_to_list diagnostic.now) }
 {
     match diagnostic {
-        Some(diagnostic) => is_refusal(diagnostic.kind),
+        Some(diagnostic) => matches!(diagnostic.kind, Kind::Refused(..)),
         None => false,
     }
 }
@@ -102,7 +95,7 @@ impl Findings {
     pub(crate) fn has_refusal(&self) -> bool
         ensures { result ≡ list_any (λ diagnostic. is_refusal diagnostic.kind) self.now }
     {
-        is_some_refusal(&self.first) || is_some_refusal(&self.second)
+        is_refusal(&self.first) || is_refusal(&self.second)
     }
 
     /// The diagnostics as a list.

@@ -3,7 +3,7 @@
 ghost use Rattle.std.specs.Prelude.{◌≡◌, ◌+◌, ◌^◌, ◌<◌, ◌≤◌, ◌++◌, length};
 ghost use Rattle.arrayvec.specs.ArrayVec.{array_vec_len};
 ghost use Rattle.mtrace_replay.specs.Appends.{Appends};
-ghost use Rattle.mtrace_replay.specs.Texts.{size_line, greatest_line, most_line, record_lines, served_lines, tried_lines, fitted_lines, untried_lines, refused_line};
+ghost use Rattle.mtrace_replay.specs.Texts.{size_line, greatest_line, most_line, record_lines, fitted_lines, untried_lines, refused_line};
 
 use crate::fitted::Fitted;
 use crate::line_text::{
@@ -48,21 +48,14 @@ pub(crate) fn push_records(text: &mut LineText, records: u64)
     push_size_line(text, b"table: ", Some(16 * records + 1696));
 }
 
-/// Appends the first size that serves, and the first from which on all do.
-fn push_sizes(text: &mut LineText, fitted: Fitted)
-    requires { array_vec_len text.old ≤ 430 }
-    ensures { Appends (served_lines fitted) 130 text.old text.new }
+/// Appends the records, what the sizes tell that were tried with them, and the pool that is always enough.
+fn push_fitted(text: &mut LineText, records: u32, fitted: Fitted, sure: Option<u64>)
+    requires { array_vec_len text.old ≤ 300 }
+    ensures { text.new.items ≡ text.old.items ++ fitted_lines records fitted sure }
 {
+    push_records(text, u64::from(records));
     push_size_line(text, b"least pool: ", fitted.least);
     push_size_line(text, b"safe pool: ", fitted.safe);
-}
-
-/// Appends what the sizes tell that were tried.
-fn push_tried(text: &mut LineText, fitted: Fitted)
-    requires { array_vec_len text.old ≤ 430 }
-    ensures { Appends (tried_lines fitted) 250 text.old text.new }
-{
-    push_sizes(text, fitted);
     push_pair_line(
         text,
         b"sizes tried: ",
@@ -71,15 +64,6 @@ fn push_tried(text: &mut LineText, fitted: Fitted)
         fitted.refused,
         b" refused",
     );
-}
-
-/// Appends the records, what the sizes tell that were tried with them, and the pool that is always enough.
-fn push_fitted(text: &mut LineText, records: u32, fitted: Fitted, sure: Option<u64>)
-    requires { array_vec_len text.old ≤ 300 }
-    ensures { text.new.items ≡ text.old.items ++ fitted_lines records fitted sure }
-{
-    push_records(text, u64::from(records));
-    push_tried(text, fitted);
     push_size_line(text, b"sure pool: ", sure);
 }
 

@@ -49,21 +49,6 @@ impl Model for Index {
     ghost invariant = { λ index. IsIndex index.keys index.blocks index.bytes index.rounded };
 }
 
-/// Whether room at the end is to be made anew. It is where a new address there moved more than a 64th of the keys. It
-/// is too where three quarters of the keys and 65 more are vacant. So where addresses rise, the keys stay few, and a
-/// search stays among those that it looked at before.
-fn is_end_spent(keys: usize, blocks: u64, moved: usize) -> bool {
-    moved > keys / 64 || keys as u64 / 4 > blocks.saturating_add(64)
-}
-
-/// How many blocks are held under the key: one or none.
-#[inline(always)]
-fn blocks_of(key: &Key) -> u64
-    ensures { (rows : Rows) → result ≡ length (option_to_list (holding_of rows key.now)) }
-{
-    u64::from(!key.is_vacant())
-}
-
 /// How many bytes were asked for what is held under the key.
 #[inline(always)]
 fn size_of(keys: &Keys, key: &Key) -> u64
@@ -173,7 +158,9 @@ impl Index {
     }
 
     /// Where a new key entered between the others, it gets a hint. The keys are arranged anew where much has moved,
-    /// or where room at the end is to be made anew.
+    /// or where room at the end is to be made anew. That is where a new address there moved more than a 64th of the keys,
+    /// or three quarters of the keys and 65 more are vacant. So where addresses rise, the keys stay few, and a search
+    /// stays among those that it looked at before.
     fn settle(&mut self, found: &LookUp, end: usize, gap: &Gap)
         ensures unchanged { self.new.all ≡ self.old.all }
         ensures looked { LooksUp 0 self.old self.new }
@@ -185,7 +172,8 @@ impl Index {
         let moved = gap.from.abs_diff(gap.to);
         self.came.add(at == end, moved);
         let keys = self.keys.len();
-        if self.came.moved() > keys || at == end && is_end_spent(keys, self.blocks, moved) {
+        let is_spent = moved > keys / 64 || keys as u64 / 4 > self.blocks.saturating_add(64);
+        if self.came.moved() > keys || at == end && is_spent {
             arrange(&mut self.keys, &self.came);
             self.came = Came::nothing();
         }
@@ -245,7 +233,7 @@ impl Index {
     {
         if let Ok(at) = found.place {
             let key = self.keys.key(at);
-            self.blocks -= blocks_of(&key);
+            self.blocks -= u64::from(!key.is_vacant());
             self.bytes -= size_of(&self.keys, &key);
             self.rounded -= rounded_size_of(&self.keys, &key);
             self.keys.set_key(at, &key.vacated());

@@ -24,14 +24,6 @@ pub(crate) struct Standing {
     pub is_same: bool,
 }
 
-/// 1 where the first number is at most the second, else 0. Without a test, so that the search which adds by it has no
-/// branch to guess.
-fn at_most(first: u64, second: u64) -> usize
-    ensures { Reaches first second result }
-{
-    (((1 << 64) + u128::from(second) - u128::from(first)) >> 64) as usize
-}
-
 impl Key {
     /// An address with the block that it is held under, if it is.
     pub(crate) fn new(address: Addr, block: Option<Ptr>) -> Key
@@ -50,14 +42,16 @@ impl Key {
         }
     }
 
-    /// How this key stands to an address: one comparison of two addresses, which is counted.
+    /// How this key stands to an address: one comparison of two addresses, which is counted. Without a test, so that the
+    /// search which adds by it has no branch to guess.
     #[inline(always)]
     pub(crate) fn compare(&self, address: Addr, comparisons: &mut GhostCount) -> Standing
         ensures { StandsTo self.now.address address result comparisons.old.count comparisons.new.count }
     {
         comparisons.tick();
+        let (own, other) = (self.address.value(), address.value());
         Standing {
-            reaches: at_most(self.address.value(), address.value()),
+            reaches: (((1 << 64) + u128::from(other) - u128::from(own)) >> 64) as usize,
             is_same: self.address == address,
         }
     }

@@ -5,7 +5,7 @@ ghost use Rattle.std.specs.Option.{option_copied};
 ghost use Rattle.arrayvec.specs.ArrayVec.{array_vec_len};
 ghost use Rattle.mtrace_log.specs.Address.{address_text};
 ghost use Rattle.mtrace_replay.specs.Appends.{Appends, IsShort};
-ghost use Rattle.mtrace_replay.specs.Texts.{count_line, refused_line, refusal_text, kind_text, diagnostic_text, at_text, entry_text, number_line, pair_line, spread_text, count_lines, greatest_line, held_lines, free_lines, spread_line, peak_lines, peak_words, site_text, use_text, row_text, column, point_text};
+ghost use Rattle.mtrace_replay.specs.Texts.{count_line, refused_line, refusal_text, kind_text, diagnostic_text, at_text, entry_text, number_line, pair_line, spread_text, greatest_line, peak_lines, peak_words, site_text, use_text, row_text, column, point_text};
 
 use crate::diagnostic::{Diagnostic, Kind};
 use crate::entry::Entry;
@@ -241,16 +241,6 @@ pub(crate) fn site_text(site: &Site<'_>) -> LineText
     text
 }
 
-/// Appends how the lines went.
-fn push_counts(text: &mut LineText, totals: Totals)
-    requires { array_vec_len text.old ≤ 100 }
-    ensures { Appends (count_lines totals) 150 text.old text.new }
-{
-    push_number_line(text, b"lines: ", totals.lines);
-    push_number_line(text, b"served: ", totals.served);
-    push_number_line(text, b"refused: ", totals.refused);
-}
-
 /// Appends the line of the peak.
 pub(crate) fn push_greatest_line(text: &mut LineText, totals: Totals)
     requires { array_vec_len text.old + 102 ≤ LONGEST_TEXT }
@@ -266,39 +256,6 @@ pub(crate) fn push_greatest_line(text: &mut LineText, totals: Totals)
     );
 }
 
-/// Appends what is held, and what was at the most.
-fn push_held(text: &mut LineText, totals: Totals)
-    requires { array_vec_len text.old ≤ 300 }
-    ensures { Appends (held_lines totals) 260 text.old text.new }
-{
-    push_pair_line(
-        text,
-        b"live: ",
-        totals.live_bytes,
-        b" bytes in ",
-        totals.live_blocks,
-        b" blocks",
-    );
-    push_greatest_line(text, totals);
-    push_number_line(text, b"high place: ", totals.high_place);
-}
-
-/// Appends what is free.
-fn push_free(text: &mut LineText, survey: Survey)
-    requires { array_vec_len text.old ≤ 500 }
-    ensures { Appends (free_lines survey.free_bytes survey.free_blocks survey.largest_free) 160 text.old text.new }
-{
-    push_pair_line(
-        text,
-        b"free: ",
-        survey.free_bytes,
-        b" bytes in ",
-        survey.free_blocks,
-        b" blocks",
-    );
-    push_number_line(text, b"largest free: ", survey.largest_free);
-}
-
 /// Appends the high place in thousandths of the peak, or that there is no peak.
 fn push_spread(text: &mut LineText, high: u64, peak: u64)
     requires { array_vec_len text.old + 40 ≤ LONGEST_TEXT }
@@ -311,25 +268,38 @@ fn push_spread(text: &mut LineText, high: u64, peak: u64)
     }
 }
 
-/// Appends the line of the spread.
-fn push_spread_line(text: &mut LineText, totals: Totals)
-    requires { array_vec_len text.old + 60 ≤ LONGEST_TEXT }
-    ensures { text.new.items ≡ text.old.items ++ spread_line totals }
-{
-    push_bytes(text, b"spread: ");
-    push_spread(text, totals.high_place, totals.peak_bytes);
-    push_bytes(text, b"\n");
-}
-
 /// The nine lines of the peak.
 pub(crate) fn peak_text(totals: Totals, survey: Survey) -> LineText
     ensures { result.items ≡ peak_lines totals survey.free_bytes survey.free_blocks survey.largest_free }
 {
     let mut text = ArrayVec::new();
-    push_counts(&mut text, totals);
-    push_held(&mut text, totals);
-    push_free(&mut text, survey);
-    push_spread_line(&mut text, totals);
+    let (live, blocks) = (totals.live_bytes, totals.live_blocks);
+    let (free, free_blocks) = (survey.free_bytes, survey.free_blocks);
+    push_number_line(&mut text, b"lines: ", totals.lines);
+    push_number_line(&mut text, b"served: ", totals.served);
+    push_number_line(&mut text, b"refused: ", totals.refused);
+    push_pair_line(
+        &mut text,
+        b"live: ",
+        live,
+        b" bytes in ",
+        blocks,
+        b" blocks",
+    );
+    push_greatest_line(&mut text, totals);
+    push_number_line(&mut text, b"high place: ", totals.high_place);
+    push_pair_line(
+        &mut text,
+        b"free: ",
+        free,
+        b" bytes in ",
+        free_blocks,
+        b" blocks",
+    );
+    push_number_line(&mut text, b"largest free: ", survey.largest_free);
+    push_bytes(&mut text, b"spread: ");
+    push_spread(&mut text, totals.high_place, totals.peak_bytes);
+    push_bytes(&mut text, b"\n");
     text
 }
 

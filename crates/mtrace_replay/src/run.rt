@@ -1,7 +1,6 @@
 //! The runs that write the reports of a log.
 
 ghost use Rattle.std.specs.Prelude.{◌≡◌, ◌+◌, ◌++◌, false, [], IfOk, if◌then◌else◌};
-ghost use Rattle.mtrace_log.specs.Trace.{FlushWasAsked};
 ghost use Rattle.mtrace_log.specs.Output.{Puts};
 ghost use Rattle.mtrace_replay.specs.Texts.{diagnostics_text, report_text};
 ghost use Rattle.mtrace_replay.specs.Replay.{entries};
@@ -114,17 +113,6 @@ fn put_end<H: Heaped, W: Sink>(
     put_report(writer, replay, report)
 }
 
-/// The status, by whether anything is wrong or held.
-fn status_by(is_found: bool) -> Status
-    ensures { result ≡ (if is_found then Status.Found else Status.Clean) }
-{
-    if is_found {
-        Status::Found
-    } else {
-        Status::Clean
-    }
-}
-
 /// Puts what is wrong at the end and the report, and flushes. Answers the status.
 fn finish<H: Heaped, W: Sink>(
     writer: &mut W,
@@ -141,15 +129,10 @@ fn finish<H: Heaped, W: Sink>(
     let is_found = has_diagnostics || !diagnostics.is_empty() || replay.blocks() > 0;
     put_end(writer, replay, &diagnostics, report)?;
     writer.flush()?;
-    Ok(status_by(is_found))
-}
-
-/// Asks the writer to flush; it doesn't matter what comes of it.
-fn ask_flush<W: Sink>(writer: &mut W)
-    ensures kept { (W.shown writer.new).taken ≡ (W.shown writer.old).taken }
-    ensures asked { FlushWasAsked (W.shown writer.old).calls (W.shown writer.new).calls }
-{
-    let _ = writer.flush();
+    if is_found {
+        return Ok(Status::Found);
+    }
+    Ok(Status::Clean)
 }
 
 /// A run that read its log to the end: its status, and the replay then.
@@ -183,7 +166,7 @@ pub(crate) fn replay_log<R: Source, W: Sink>(
         },
         Err(Failing::Writer) => Err(RunFault::Write),
         Err(Failing::Reader) => {
-            ask_flush(writer);
+            let _ = writer.flush();
             Err(RunFault::Read)
         }
     }

@@ -7,10 +7,9 @@ ghost use Rattle.mtrace_replay.specs.Settings.{are_bad};
 ghost use Rattle.mtrace_replay.specs.Moment.{ReadLine};
 ghost use Rattle.mtrace_replay.specs.Replay.{StandsFor, entries};
 ghost use Rattle.mtrace_replay.specs.Texts.{site_text, section, peak_words, end_words, refused_line};
-ghost use Rattle.mtrace_replay.specs.Again.{begun_again, FailsAgain, ReplaysFirst};
 ghost use Rattle.mtrace_replay.specs.RunSites.{Groups, HasMemory, SitesFollow, RunsSites};
 
-use crate::again::replay_first;
+use crate::again::replay_again;
 use crate::flush::flush_behind;
 use crate::grouping::Grouping;
 use crate::line_text::{peak_words, refused_text, section_text, site_text};
@@ -67,24 +66,6 @@ fn put_section<W: Sink>(
     put_all(writer, words)?;
     put_all(writer, section_text(sum.blocks, sum.bytes).as_slice())?;
     put_sites(writer, sites)
-}
-
-/// Begins the log again, and replays its first lines, this many.
-///
-/// # Errors
-///
-/// `Failed` where the reader doesn't begin again, fails, or has fewer lines then.
-fn replay_again<R: Again>(
-    reader: &mut R,
-    replay: &mut Replay<Heap>,
-    many: u64,
-) -> Result<(), Failed>
-    requires start { replay.old.totals.lines ≡ 0 }
-    ensures { ReplaysFirst (begun_again (R.shown reader.old)) (FailsAgain many (R.shown reader.old) (R.shown reader.new))
-        many result replay.old replay.new (R.shown reader.old) (R.shown reader.new) }
-{
-    reader.begin()?;
-    replay_first(reader, replay, many)
 }
 
 /// Puts what is held at the peak and what is held at the end, each by its sites, and how many lines were refused.

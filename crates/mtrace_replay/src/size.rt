@@ -32,13 +32,6 @@ fn align_of(bounds: Bounds) -> u64
     bounds.align.unwrap_or(1)
 }
 
-/// Whether the alignment is none that `memalign` takes.
-fn are_bad(bounds: Bounds) -> bool
-    ensures { result ≡ are_bad_bounds bounds }
-{
-    !is_alignment(align_of(bounds))
-}
-
 /// The bytes in live blocks, in whole units: those told, or those of as many blocks of the largest size.
 fn bytes_of(bounds: Bounds) -> u64
     ensures { result ≡ blocks_bytes bounds.blocks bounds.largest bounds.bytes }
@@ -74,7 +67,7 @@ fn size_text(bounds: Bounds) -> LineText
 pub fn run_size<W: Sink>(writer: &mut W, bounds: Bounds) -> Result<Status, RunFault>
     ensures { RunsSize bounds W.shown result writer.old writer.new }
 {
-    if are_bad(bounds) {
+    if !is_alignment(align_of(bounds)) {
         return Err(RunFault::BadSettings);
     }
     let put = put_all(writer, size_text(bounds).as_slice());

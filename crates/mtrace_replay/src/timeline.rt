@@ -19,10 +19,13 @@ use crate::report::Report;
 use crate::run::replay_log;
 use crate::settings::Settings;
 use crate::status::{RunFault, Status};
-use crate::told::{is_bad_parts, tell_lines};
+use crate::told::tell_lines;
 use mtrace_log::{Again, Failed, Lines, Sink, put_all};
 use std::alloc::{AllocError, Global};
 use tlsf_heap::Heap;
+
+/// The greatest number of parts.
+const MOST_PARTS: u32 = 10_000;
 
 /// Puts a line for each point.
 fn put_points<W: Sink>(writer: &mut W, points: &[Point]) -> Result<(), Failed>
@@ -79,10 +82,6 @@ struct Room {
 
 impl Room {
     /// Room for 0, the peak and this many parts. It takes memory twice.
-    ///
-    /// # Errors
-    ///
-    /// `AllocError` where memory is refused.
     fn new(alloc: Global, parts: u32) -> Result<Room, AllocError>
         ensures { IfOk result (λ room. HasRoom parts room.numbers room.points) }
     {
@@ -160,7 +159,7 @@ pub fn run_timeline<R: Again, W: Sink>(
 ) -> Result<Status, RunFault>
     ensures { RunsTimeline settings parts R.shown W.shown result reader.old reader.new writer.old writer.new }
 {
-    if is_bad_parts(parts) {
+    if parts == 0 || parts > MOST_PARTS {
         return Err(RunFault::BadSettings);
     }
     let room = match take_room(alloc, settings, parts) {

@@ -2,17 +2,7 @@
 
 ghost use Rattle.std.specs.Prelude.{◌≡◌, ◌+◌, ◌<◌, ◌≤◌, [], max, vec_len, vec_capacity};
 ghost use Rattle.std.specs.List.Sorted.{IsStrictlyIncreasing};
-ghost use Rattle.mtrace_replay.specs.Timeline.{is_bad_parts, end_of_part, AreTold, told_later};
-
-/// The greatest number of parts.
-const MOST_PARTS: u32 = 10_000;
-
-/// Whether the number of parts is bad: it has to be from 1 to 10,000.
-pub(crate) fn is_bad_parts(parts: u32) -> bool
-    ensures { result ≡ is_bad_parts parts }
-{
-    parts == 0 || parts > MOST_PARTS
-}
+ghost use Rattle.mtrace_replay.specs.Timeline.{end_of_part, AreTold, told_later};
 
 /// The number of the last line of a part, where the first is part 1. It is 0 for part 0.
 fn end_of_part(lines: u64, parts: u32, part: u32) -> u64

@@ -55,7 +55,6 @@ impl Totals {
     {
         let lines = self.lines + 1;
         let is_peak = live_bytes > self.peak_bytes;
-        let place = end.unwrap_or(0);
         Totals {
             lines,
             served: self.served + u64::from(end.is_some()),
@@ -64,11 +63,7 @@ impl Totals {
             live_blocks,
             peak_bytes: if is_peak { live_bytes } else { self.peak_bytes },
             peak_line: if is_peak { lines } else { self.peak_line },
-            high_place: if place > self.high_place {
-                place
-            } else {
-                self.high_place
-            },
+            high_place: self.high_place.max(end.unwrap_or(0)),
         }
     }
 }

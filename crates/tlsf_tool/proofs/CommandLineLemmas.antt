@@ -1,10 +1,13 @@
 -- The command line's description, and what a parse by it gives.
-use Rattle.std.proofs.Common.{◌≡◌, ◌∙◌, ◌⊎◌, ◌<◌, ◌^◌, ℕ, List, [], Option, Some, None, Result, Ok, Err, inl, inr, refl, sym, ap, subst, true, codes}
+use Rattle.std.proofs.Common.{◌≡◌, ◌∙◌, ◌⊎◌, ◌<◌, ◌^◌, ◌||◌, ℕ, List, [], Option, Some, None, Result, Ok, Err, inl, inr, refl, sym, ap, subst, true, codes}
 use Rattle.std.specs.Prelude.{MatchBool, String, bytes_eq, string_bytes}
 use Rattle.std.specs.Result.{IsErrAnd}
 use Rattle.std.specs.declared.alloc.Global.{Global}
 use Rattle.std.specs.Str.Parse.{ParsesUnsigned, digits_value, without_leading_plus}
-use Rattle.clap.specs.Words.{App, HasMatchesOf, HasKind, IsAmong, Kinds, ReadsOne, Row, Text, fault_of, first_of, is_simple, is_simple_and_free, kind_of, one_text, rows_of, with_subcommand, subcommand_of, subcommand_rows_of}
+use Rattle.clap.specs.Words.{AddsArg, App, HasMatchesOf, HasKind, IsAmong, Kinds, ReadsOne, Row, Rule, Text, rule_of, with_rule, fault_of, first_of, is_simple, is_simple_and_free, kind_of, one_text, rows_of, with_subcommand, subcommand_of, subcommand_rows_of}
+use Rattle.clap.specs.declared.builder.arg.Arg.{Arg}
+use Rattle.clap.specs.declared.builder.command.Command.{Command as Clap}
+use Rattle.clap.specs.declared.builder.value_parser.ValueParser.{ValueParser}
 use Rattle.clap.specs.declared.parser.matches.ArgMatches.{ArgMatches}
 use Rattle.clap.specs.declared.parser.matches.Found.{Found}
 use Rattle.clap.specs.declared.error.Error.{Error}
@@ -22,7 +25,7 @@ use Rattle.tlsf_tool.specs.declared.asked.Name.{Name}
 use Rattle.tlsf_tool.specs.declared.asked.Name.TheVariants.{Leaks, Peak, Walk}
 use Rattle.tlsf_tool.specs.declared.asked.ToolFault.{ToolFault}
 use Rattle.tlsf_tool.specs.declared.asked.ToolFault.TheVariants.{Help, Usage, CannotOpen, ReadsOnce, ReadsFileOnce, Run}
-use Rattle.tlsf_tool.specs.CommandLine.{AskFor, HasNumber, HasSettings, HasBounds, HasNoLog, MatchesAskFor, bare_line, report_line, great_line, timeline_line, fit_line, size_line, save_line, check_line, name_text, texts_of, tlsf_line, wrong_with}
+use Rattle.tlsf_tool.specs.CommandLine.{IsArgOf, IsCommandOf, given_rule, AskFor, HasNumber, HasSettings, HasBounds, HasNoLog, MatchesAskFor, bare_line, report_line, great_line, timeline_line, fit_line, size_line, save_line, check_line, name_text, texts_of, tlsf_line, wrong_with}
 use Rattle.tlsf_tool.specs.Faults.{ExplainsKind, ExplainsWords, IsUsage}
 use Rattle.tlsf_tool.specs.Asks.{Asks, Picks}
 
@@ -33,6 +36,18 @@ line_is_simple = refl
 pub line_is_free : is_simple_and_free tlsf_line ≡ true
 unfolding clap_on_literals
 line_is_free = refl
+
+-- an option by its parser, and then changed as its rule is
+pub changed_arg : (change : Rule → Rule) (id : Text) (by takes : ValueParser) (arg new : Arg) → IsArgOf (given_rule id by) arg → by ≡ takes
+    → rule_of new ≡ change (rule_of arg) → new.global ≡ arg.global → IsArgOf (change (given_rule id takes)) new
+changed_arg change id by takes arg new given by_is is own = record { rule_is = is ∙ ap change (given.rule_is ∙ ap (given_rule id) by_is); own = own ∙ given.own }
+
+-- one argument more
+pub more_arg : (line : App) (rule : Rule) (command : Clap) (arg : Arg) (new : Clap) → IsCommandOf line command → IsArgOf rule arg → AddsArg command arg new → IsCommandOf (with_rule line rule) new
+more_arg line rule command arg new is given adds = record {
+  line_is = adds.shape given.own ∙ ap (λ l. with_rule l (rule_of arg)) is.line_is ∙ ap (with_rule line) given.rule_is;
+  own = adds.globals ∙ ap (λ b. b || arg.global) is.own ∙ given.own;
+}
 
 -- one subcommand more
 put : (more a b next : App) → a ≡ b → next ≡ with_subcommand a more.top → next ≡ with_subcommand b more.top

@@ -36,43 +36,18 @@ option_rule id default takes = record (given_rule id takes) { defaults = default
 abbrev pub needed_rule : Text → ValueParser → Rule
 needed_rule id takes = record (given_rule id takes) { required = true }
 
-abbrev pub pool_rule : Text → Rule
-pool_rule default = option_rule (codes "pool") default (parser.Unsigned unit greatest_size)
-
-abbrev pub pools_rule : Rule
-pools_rule = option_rule (codes "pools") (codes "1") (parser.Signed (pos 1) (pos 8))
-
-abbrev pub records_rule : Text → Rule
-records_rule default = option_rule (codes "records") default (parser.Signed (pos 1) (pos 65535))
-
-abbrev pub points_rule : Rule
-points_rule = option_rule (codes "points") (codes "100") (parser.Signed (pos 1) (pos 10000))
-
-abbrev pub step_rule : Rule
-step_rule = given_rule (codes "step") (parser.Unsigned unit greatest_size)
-
-abbrev pub blocks_rule : Rule
-blocks_rule = needed_rule (codes "blocks") (parser.Signed (pos 1) (pos 32766))
-
-abbrev pub largest_rule : Rule
-largest_rule = needed_rule (codes "largest") (parser.Unsigned 1 1056964608)
-
-abbrev pub bytes_rule : Rule
-bytes_rule = given_rule (codes "bytes") (parser.Unsigned 1 greatest_size)
-
-abbrev pub align_rule : Rule
-align_rule = given_rule (codes "align") (parser.Unsigned 0 18446744073709551615)
-
 -- one word that must be there
-abbrev pub log_rule : Rule
-log_rule = record (new_rule (codes "LOG")) { required = true }
-
-abbrev pub image_rule : Rule
-image_rule = record (new_rule (codes "IMAGE")) { required = true }
+abbrev pub word_rule : Text → Rule
+word_rule id = record (new_rule id) { required = true }
 
 -- a subcommand that takes a heap's settings and a log, with these defaults of a pool's bytes and of the records
 abbrev pub heap_line : (pool records name : Text) → App
-heap_line pool records name = with_rule (with_rule (with_rule (with_rule (new_app name) (pool_rule pool)) pools_rule) (records_rule records)) log_rule
+heap_line pool records name =
+    with_rule (with_rule (with_rule (with_rule (new_app name)
+    (option_rule (codes "pool") pool (parser.Unsigned unit greatest_size)))
+    (option_rule (codes "pools") (codes "1") (parser.Signed (pos 1) (pos 8))))
+    (option_rule (codes "records") records (parser.Signed (pos 1) (pos 65535))))
+    (word_rule (codes "LOG"))
 
 -- a report's subcommand, or one that takes the same words
 abbrev pub report_line : Text → App
@@ -83,19 +58,24 @@ abbrev pub great_line : Text → App
 great_line = heap_line (codes "1073741808") (codes "65535")
 
 abbrev pub timeline_line : App
-timeline_line = with_rule (great_line (codes "timeline")) points_rule
+timeline_line = with_rule (great_line (codes "timeline")) (option_rule (codes "points") (codes "100") (parser.Signed (pos 1) (pos 10000)))
 
 abbrev pub fit_line : App
-fit_line = with_rule (with_rule (new_app (codes "fit")) step_rule) log_rule
+fit_line = with_rule (with_rule (new_app (codes "fit")) (given_rule (codes "step") (parser.Unsigned unit greatest_size))) (word_rule (codes "LOG"))
 
 abbrev pub size_line : App
-size_line = with_rule (with_rule (with_rule (with_rule (new_app (codes "size")) blocks_rule) largest_rule) bytes_rule) align_rule
+size_line =
+    with_rule (with_rule (with_rule (with_rule (new_app (codes "size"))
+    (needed_rule (codes "blocks") (parser.Signed (pos 1) (pos 32766))))
+    (needed_rule (codes "largest") (parser.Unsigned 1 1056964608)))
+    (given_rule (codes "bytes") (parser.Unsigned 1 greatest_size)))
+    (given_rule (codes "align") (parser.Unsigned 0 18446744073709551615))
 
 abbrev pub save_line : App
-save_line = with_rule (report_line (codes "save")) image_rule
+save_line = with_rule (report_line (codes "save")) (word_rule (codes "IMAGE"))
 
 abbrev pub check_line : App
-check_line = with_rule (new_app (codes "check")) image_rule
+check_line = with_rule (new_app (codes "check")) (word_rule (codes "IMAGE"))
 
 -- `tlsf`, which tells its version and wants one of its subcommands
 abbrev pub bare_line : App

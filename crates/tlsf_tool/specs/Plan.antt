@@ -2,7 +2,7 @@
 use Rattle.std.specs.Prelude.{◌≡◌, ◌⊎◌, ◌&&◌, Bool, true, false, not, List, Result, Err, String, IfOk, IfErr, codes, string_bytes, bytes_eq}
 use Rattle.std.specs.declared.alloc.Global.{Global}
 use Rattle.tlsf_tool.specs.declared.asked.Command.{Command}
-use Rattle.tlsf_tool.specs.declared.asked.Command.TheVariants.{Report, Reread, Save, Size, Check}
+use Rattle.tlsf_tool.specs.declared.asked.Command.TheVariants.{Report, Reread, Save}
 use Rattle.tlsf_tool.specs.declared.asked.ToolFault.{ToolFault}
 use Rattle.tlsf_tool.specs.declared.asked.ToolFault.TheVariants.{ReadsOnce}
 use Rattle.tlsf_tool.specs.declared.plan.Plan.{Plan}
@@ -23,16 +23,12 @@ abbrev pub is_told : Terminals → Command → Bool
 is_told terminals (Report name settings log) = is_told_of terminals log
 is_told terminals (Reread what log) = terminals.errors
 is_told terminals (Save settings log image) = is_told_of terminals log
-is_told terminals (Size bounds) = false
-is_told terminals (Check image) = false
+is_told terminals _ = false
 
 -- the command reads its log more than once, and that is standard input
 abbrev pub reads_standard_again : Command → Bool
-reads_standard_again (Report name settings log) = false
 reads_standard_again (Reread what log) = is_dash log
-reads_standard_again (Save settings log image) = false
-reads_standard_again (Size bounds) = false
-reads_standard_again (Check image) = false
+reads_standard_again _ = false
 
 -- The answer is the command that the words ask for, and whether it is told how far it is. A fault is that of the words, or
 -- they ask to read standard input more than once.

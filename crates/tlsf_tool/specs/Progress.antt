@@ -3,17 +3,13 @@ use Rattle.std.specs.Prelude.{◌≡◌, ◌==◌, ◌+◌, ◌-◌, ◌^◌, �
 use Rattle.tlsf_tool.specs.declared.progress.Progress.{Progress}
 use Rattle.tlsf_tool.specs.declared.progress.Counts.{Counts}
 
--- the lines that end in these bytes
-abbrev pub line_ends : List ℕ → ℕ
-line_ends = count_by (λ byte. byte == 10)
-
 -- what is told after a piece at this second: all lines read, and the sizes tried, one less than the log was begun again
 abbrev pub progress_of : Counts → Progress
 progress_of counts = record { lines = counts.lines; sizes = counts.begun - 1 }
 
--- A piece is counted. It is told how far the run is where a second began since that was told last.
+-- The lines that end in a piece are counted. It is told how far the run is where a second began since that was told last.
 pub record CountsPiece (bytes : List ℕ) (seconds : ℕ) (result : Option Progress) (old new : Counts) : Type 0 where
-  pub lines : new.lines ≡ min (old.lines + line_ends bytes) (2 ^ 64 - 1)
+  pub lines : new.lines ≡ min (old.lines + count_by (λ byte. byte == 10) bytes) (2 ^ 64 - 1)
   pub begun : new.begun ≡ old.begun
   pub told : new.told ≡ max old.told seconds
   pub progress : result ≡ (if nat_lt old.told seconds then Some (progress_of new) else None)

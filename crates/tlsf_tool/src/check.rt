@@ -133,6 +133,5 @@ pub fn check_image<R: Source, W: Sink, E: Sink>(
     ensures { EndsAs (λ outcome. ChecksImage W.shown outcome (R.shown reader.old) (R.shown reader.new) writer.old writer.new)
         result errors.old errors.new }
 {
-    let run = checked(alloc, reader, writer);
-    end_run(errors, run)
+    end_run(errors, checked(alloc, reader, writer))
 }

@@ -1,8 +1,9 @@
 //! The command line, described to clap.
 
-ghost use Rattle.std.specs.Prelude.{◌≡◌, IfOk};
+ghost use Rattle.std.specs.Prelude.{◌≡◌, IfOk, codes, pos};
+ghost use Rattle.clap.specs.declared.builder.value_parser.ValueParser.TheVariants.{Signed, Unsigned};
 ghost use Rattle.clap.specs.Words.{App, app_of, new_app, with_subcommand};
-ghost use Rattle.tlsf_tool.specs.CommandLine.{IsArgOf, IsCommandOf, given_rule, log_rule, image_rule, points_rule, pool_rule, pools_rule, records_rule, step_rule, blocks_rule, largest_rule, bytes_rule, align_rule, heap_line, report_line, great_line, timeline_line, fit_line, size_line, save_line, check_line, bare_line, tlsf_line};
+ghost use Rattle.tlsf_tool.specs.CommandLine.{IsArgOf, IsCommandOf, given_rule, word_rule, heap_line, report_line, great_line, timeline_line, fit_line, size_line, save_line, check_line, bare_line, tlsf_line};
 
 use clap::builder::ValueParser;
 use clap::{Arg, Command, value_parser};
@@ -121,93 +122,23 @@ fn option<'a>(
         .help(help)
 }
 
-/// The option of a pool's size, with this default.
-fn pool_option<'a>(alloc: Global, default: &'a str) -> Arg<'a>
-    ensures { IsArgOf (pool_rule default.entry.now) result }
+/// What takes a number from 1 to the most.
+fn count<'a>(most: u32) -> ValueParser<'a>
+    ensures { result ≡ Signed (pos 1) (pos most) }
 {
-    let parser = value_parser!(u64).range(i64::from(UNIT)..=i64::from(GREATEST_SIZE));
-    let help = "Bytes of each pool, a multiple of 16 from 16 to 1073741808";
-    option(alloc, "pool", "BYTES", parser, help).default_value(default)
+    value_parser!(u32).range(1..=i64::from(most))
 }
 
-/// The option of the number of pools.
-fn pools_option<'a>(alloc: Global) -> Arg<'a>
-    ensures { IsArgOf pools_rule result }
+/// What takes bytes, from the least to the most.
+fn bytes<'a>(least: u32, most: u32) -> ValueParser<'a>
+    ensures { result ≡ Unsigned least most }
 {
-    let parser = value_parser!(u32).range(1..=8);
-    let help = "Number of pools, from 1 to 8; together they end at 4294967296 bytes at most";
-    option(alloc, "pools", "K", parser, help).default_value("1")
-}
-
-/// The option of the number of records, with this default.
-fn records_option<'a>(alloc: Global, default: &'a str) -> Arg<'a>
-    ensures { IsArgOf (records_rule default.entry.now) result }
-{
-    let parser = value_parser!(u32).range(1..=65_535);
-    let help = "Number of records, one for each block, from the number of pools to 65535";
-    option(alloc, "records", "N", parser, help).default_value(default)
-}
-
-/// The option of how many equal parts a log is cut in.
-fn points_option<'a>(alloc: Global) -> Arg<'a>
-    ensures { IsArgOf points_rule result }
-{
-    let parser = value_parser!(u32).range(1..=10_000);
-    let help =
-        "Number of equal parts of the log, from 1 to 10000: a line is told at the end of each";
-    option(alloc, "points", "N", parser, help).default_value("100")
-}
-
-/// The option of the bytes between two sizes.
-fn step_option<'a>(alloc: Global) -> Arg<'a>
-    ensures { IsArgOf step_rule result }
-{
-    let parser = value_parser!(u64).range(i64::from(UNIT)..=i64::from(GREATEST_SIZE));
-    let help =
-        "Bytes between two sizes that are tried, a multiple of 16 from 16 to 1073741808; else a 64th of the peak, rounded up";
-    option(alloc, "step", "BYTES", parser, help)
-}
-
-/// The option of the most live blocks.
-fn blocks_option<'a>(alloc: Global) -> Arg<'a>
-    ensures { IsArgOf blocks_rule result }
-{
-    let parser = value_parser!(u32).range(1..=32_766);
-    let help = "Most blocks that are live at once, from 1 to 32766";
-    option(alloc, "blocks", "L", parser, help).required(true)
-}
-
-/// The option of the largest request.
-fn largest_option<'a>(alloc: Global) -> Arg<'a>
-    ensures { IsArgOf largest_rule result }
-{
-    let parser = value_parser!(u64).range(1..=1_056_964_608);
-    let help = "Bytes of the largest request, from 1 to 1056964608";
-    option(alloc, "largest", "M", parser, help).required(true)
-}
-
-/// The option of the most bytes in live blocks.
-fn bytes_option<'a>(alloc: Global) -> Arg<'a>
-    ensures { IsArgOf bytes_rule result }
-{
-    let parser = value_parser!(u64).range(1..=i64::from(GREATEST_SIZE));
-    let help =
-        "Most bytes in live blocks together, each block in whole units of 16, from 1 to 1073741808; else L times M";
-    option(alloc, "bytes", "U", parser, help)
-}
-
-/// The option of the greatest alignment.
-fn align_option<'a>(alloc: Global) -> Arg<'a>
-    ensures { IsArgOf align_rule result }
-{
-    let parser = value_parser!(u64);
-    let help = "Greatest alignment of a request, a power of two from 1 to 536870912";
-    option(alloc, "align", "A", parser, help)
+    value_parser!(u64).range(i64::from(least)..=i64::from(most))
 }
 
 /// The log's name.
 fn log_word<'a>(alloc: Global) -> Arg<'a>
-    ensures { IsArgOf log_rule result }
+    ensures { IsArgOf (word_rule (codes "LOG")) result }
 {
     Arg::new(alloc, "LOG").required(true).help(
         "File of the log; leaks, peak, walk and save take - for standard input",
@@ -216,7 +147,7 @@ fn log_word<'a>(alloc: Global) -> Arg<'a>
 
 /// The image's name.
 fn image_word<'a>(alloc: Global) -> Arg<'a>
-    ensures { IsArgOf image_rule result }
+    ensures { IsArgOf (word_rule (codes "IMAGE")) result }
 {
     Arg::new(alloc, "IMAGE")
         .required(true)
@@ -242,10 +173,20 @@ fn heap_command<'a>(
 ) -> Result<Command<'a>, AllocError>
     ensures { IfOk result (IsCommandOf (heap_line pool.entry.now records.entry.now name.entry.now)) }
 {
+    let bytes_of_each = "Bytes of each pool, a multiple of 16 from 16 to 1073741808";
+    let number = "Number of pools, from 1 to 8; together they end at 4294967296 bytes at most";
+    let records_of_all = "Number of records, one for each block, from the number of pools to 65535";
     subcommand(alloc, name, help)
-        .arg(pool_option(alloc, pool))?
-        .arg(pools_option(alloc))?
-        .arg(records_option(alloc, records))?
+        .arg(option(
+            alloc,
+            "pool",
+            "BYTES",
+            bytes(UNIT, GREATEST_SIZE),
+            bytes_of_each,
+        )
+        .default_value(pool))?
+        .arg(option(alloc, "pools", "K", count(8), number).default_value("1"))?
+        .arg(option(alloc, "records", "N", count(65_535), records_of_all).default_value(records))?
         .arg(log_word(alloc))
 }
 
@@ -267,15 +208,25 @@ fn great_command<'a>(alloc: Global, name: &'a str, help: Help) -> Result<Command
 fn timeline_command<'a>(alloc: Global) -> Result<Command<'a>, AllocError>
     ensures { IfOk result (IsCommandOf timeline_line) }
 {
-    great_command(alloc, "timeline", TIMELINE)?.arg(points_option(alloc))
+    let parts =
+        "Number of equal parts of the log, from 1 to 10000: a line is told at the end of each";
+    great_command(alloc, "timeline", TIMELINE)?.arg(option(
+        alloc,
+        "points",
+        "N",
+        count(10_000),
+        parts,
+    ).default_value("100"))
 }
 
 /// The subcommand that tries sizes.
 fn fit_command<'a>(alloc: Global) -> Result<Command<'a>, AllocError>
     ensures { IfOk result (IsCommandOf fit_line) }
 {
+    let step =
+        "Bytes between two sizes that are tried, a multiple of 16 from 16 to 1073741808; else a 64th of the peak, rounded up";
     subcommand(alloc, "fit", FIT)
-        .arg(step_option(alloc))?
+        .arg(option(alloc, "step", "BYTES", bytes(UNIT, GREATEST_SIZE), step))?
         .arg(log_word(alloc))
 }
 
@@ -283,11 +234,16 @@ fn fit_command<'a>(alloc: Global) -> Result<Command<'a>, AllocError>
 fn size_command<'a>(alloc: Global) -> Result<Command<'a>, AllocError>
     ensures { IfOk result (IsCommandOf size_line) }
 {
+    let blocks = "Most blocks that are live at once, from 1 to 32766";
+    let largest = "Bytes of the largest request, from 1 to 1056964608";
+    let sum =
+        "Most bytes in live blocks together, each block in whole units of 16, from 1 to 1073741808; else L times M";
+    let align = "Greatest alignment of a request, a power of two from 1 to 536870912";
     subcommand(alloc, "size", SIZE)
-        .arg(blocks_option(alloc))?
-        .arg(largest_option(alloc))?
-        .arg(bytes_option(alloc))?
-        .arg(align_option(alloc))
+        .arg(option(alloc, "blocks", "L", count(32_766), blocks).required(true))?
+        .arg(option(alloc, "largest", "M", bytes(1, 1_056_964_608), largest).required(true))?
+        .arg(option(alloc, "bytes", "U", bytes(1, GREATEST_SIZE), sum))?
+        .arg(option(alloc, "align", "A", value_parser!(u64), align))
 }
 
 /// The subcommand that saves.

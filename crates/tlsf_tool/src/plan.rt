@@ -1,7 +1,7 @@
 //! What the program does for its words, and whether it tells how far it is.
 
 ghost use Rattle.std.specs.Prelude.{◌≡◌};
-ghost use Rattle.tlsf_tool.specs.Plan.{is_dash, is_told, reads_standard_again, PlansFor};
+ghost use Rattle.tlsf_tool.specs.Plan.{is_dash, is_told, PlansFor};
 
 use crate::asked::{Command, ToolFault};
 use crate::words::command;
@@ -38,20 +38,11 @@ fn is_told(terminals: Terminals, command: &Command) -> bool
     ensures { result ≡ is_told terminals command.now }
 {
     match command {
-        Command::Report { log, .. } => terminals.errors && !(terminals.input && is_standard(log)),
-        Command::Save { log, .. } => terminals.errors && !(terminals.input && is_standard(log)),
+        Command::Report { log, .. } | Command::Save { log, .. } => {
+            terminals.errors && !(terminals.input && is_standard(log))
+        }
         Command::Reread { .. } => terminals.errors,
         Command::Size { .. } | Command::Check { .. } => false,
-    }
-}
-
-/// Whether the command reads standard input more than once.
-fn reads_standard_again(command: &Command) -> bool
-    ensures { result ≡ reads_standard_again command.now }
-{
-    match command {
-        Command::Reread { log, .. } => is_standard(log),
-        _ => false,
     }
 }
 
@@ -64,7 +55,7 @@ pub fn planned(alloc: Global, words: &[String], terminals: Terminals) -> Result<
     ensures { PlansFor words.now terminals result }
 {
     let command = command(alloc, words)?;
-    if reads_standard_again(&command) {
+    if matches!(&command, Command::Reread { log, .. } if is_standard(log)) {
         return Err(ToolFault::ReadsOnce);
     }
     let notice = is_told(terminals, &command);

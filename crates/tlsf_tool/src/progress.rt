@@ -2,7 +2,7 @@
 //! on, by the contracts of std's `Read` and `Write`.
 
 ghost use Rattle.std.specs.Prelude.{◌≡◌, ◌+◌, ◌-◌, ◌^◌, min};
-ghost use Rattle.tlsf_tool.specs.Progress.{line_ends, progress_of, CountsPiece};
+ghost use Rattle.tlsf_tool.specs.Progress.{CountsPiece};
 
 use mtrace_replay::Watch;
 use std::cell::Cell;
@@ -27,13 +27,6 @@ pub struct Counts {
     told: u64,
 }
 
-/// How many lines end in these bytes.
-fn line_ends_in(bytes: &[u8]) -> usize
-    ensures { result ≡ line_ends bytes.now }
-{
-    bytes.iter().filter(|byte| **byte == b'\n').count()
-}
-
 impl Counts {
     /// Nothing is counted, and nothing was told.
     pub const NONE: Counts = Counts {
@@ -42,27 +35,22 @@ impl Counts {
         told: 0,
     };
 
-    /// How far the run is. A log that is begun again tries a size, and one that is begun once more has tried it.
-    fn progress(self) -> Progress
-        ensures { result ≡ progress_of self }
-    {
-        Progress {
-            lines: self.lines,
-            sizes: self.begun.saturating_sub(1),
-        }
-    }
-
     /// Counts the lines that end in a piece, which came in this second of the run. Answers what is to be told: once in
-    /// each second, and nothing in the first.
+    /// each second, and nothing in the first. A log that is begun again tries a size, and one that is begun once more has
+    /// tried it.
     pub fn count(&mut self, bytes: &[u8], second: u64) -> Option<Progress>
         ensures { CountsPiece bytes.now second result self.old self.new }
     {
-        self.lines = self.lines.saturating_add(line_ends_in(bytes));
+        let ends = bytes.iter().filter(|byte| **byte == b'\n').count();
+        self.lines = self.lines.saturating_add(ends);
         if self.told >= second {
             return None;
         }
         self.told = second;
-        Some(self.progress())
+        Some(Progress {
+            lines: self.lines,
+            sizes: self.begun.saturating_sub(1),
+        })
     }
 
     /// Counts that the log was begun again.

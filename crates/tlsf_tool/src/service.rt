@@ -55,13 +55,11 @@ pub(crate) fn put_text<W: Sink>(writer: &mut W, text: &[u8]) -> Result<(), Faile
 pub fn serve_help<W: Sink, E: Sink>(text: &str, writer: &mut W, errors: &mut E) -> u8
     ensures { EndsAs (λ outcome. PutsHelp text.now outcome (W.shown writer.old) (W.shown writer.new)) result errors.old errors.new }
 {
-    match put_text(writer, text.as_bytes()) {
-        Ok(()) => end_status(Status::Clean),
-        Err(_) => {
-            put_fault(errors, &ToolFault::Run(RunFault::Write));
-            fault_status(RunFault::Write)
-        }
-    }
+    let run = match put_text(writer, text.as_bytes()) {
+        Ok(()) => Ok(Status::Clean),
+        Err(_) => Err(RunFault::Write),
+    };
+    end_run(errors, run)
 }
 
 /// Makes the report of this name from what the reader has left.
@@ -95,8 +93,7 @@ pub fn serve<R: Source, W: Sink, E: Sink>(
     ensures { EndsAs (λ outcome. Runs (report_of name) settings R.shown W.shown outcome reader.old reader.new writer.old writer.new)
         result errors.old errors.new }
 {
-    let run = run_named(alloc, name, settings, reader, writer);
-    end_run(errors, run)
+    end_run(errors, run_named(alloc, name, settings, reader, writer))
 }
 
 /// Makes what reads its log more than once, of the log that the reader has left.
@@ -133,8 +130,7 @@ pub fn serve_again<R: Again, W: Sink, E: Sink, T: Watch>(
     ensures { EndsAs (λ outcome. Rereads what R.shown W.shown outcome reader.old reader.new writer.old writer.new)
         result errors.old errors.new }
 {
-    let run = run_again(alloc, what, reader, writer, watch);
-    end_run(errors, run)
+    end_run(errors, run_again(alloc, what, reader, writer, watch))
 }
 
 /// Tells how large a pool is always enough within the bounds, by `run_size`. Puts the line of a fault to `errors`, whose
@@ -143,8 +139,7 @@ pub fn serve_again<R: Again, W: Sink, E: Sink, T: Watch>(
 pub fn serve_size<W: Sink, E: Sink>(bounds: Bounds, writer: &mut W, errors: &mut E) -> u8
     ensures { EndsAs (λ outcome. RunsSize bounds W.shown outcome writer.old writer.new) result errors.old errors.new }
 {
-    let run = run_size(writer, bounds);
-    end_run(errors, run)
+    end_run(errors, run_size(writer, bounds))
 }
 
 /// Saves the heap at the end of the log that the reader has left, by `run_save`. Puts the line of a fault to
@@ -162,6 +157,5 @@ pub fn serve_save<R: Source, W: Sink, I: Sink, E: Sink>(
     ensures { EndsAs (λ outcome. RunsAndSaves settings R.shown W.shown I.shown outcome
         reader.old reader.new writer.old writer.new image.old image.new) result errors.old errors.new }
 {
-    let run = run_save(alloc, reader, writer, image, settings);
-    end_run(errors, run)
+    end_run(errors, run_save(alloc, reader, writer, image, settings))
 }

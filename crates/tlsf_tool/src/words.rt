@@ -19,18 +19,6 @@ const NO_MEMORY: ToolFault = ToolFault::Run(RunFault::OutOfMemory);
 /// The text where clap takes words that ask for nothing.
 const NO_COMMAND: &str = "tlsf: no command; for more, try 'tlsf --help'\n";
 
-/// The report of this name.
-fn named(text: &str) -> Option<Name>
-    ensures { Picks (λ name. text.now ≡ name_text name) result }
-{
-    match text {
-        "leaks" => Some(Name::Leaks),
-        "peak" => Some(Name::Peak),
-        "walk" => Some(Name::Walk),
-        _ => None,
-    }
-}
-
 /// The size of this id, in bytes, that a subcommand's matches have.
 fn size_of(found: &ArgMatches<'_>, id: &str) -> Option<u64>
     ensures { Picks (HasNumber (rows_of (found_of found.now)) id.now 64) result }
@@ -190,10 +178,10 @@ fn asked(alloc: Global, matches: &ArgMatches<'_>) -> Result<Command, ToolFault>
         "save" => asked_save(alloc, found),
         "size" => asked_size(alloc, found),
         "check" => asked_check(alloc, found),
-        _ => match named(text) {
-            Some(name) => asked_report(alloc, name, found),
-            None => Err(ToolFault::usage(alloc, NO_COMMAND)),
-        },
+        "leaks" => asked_report(alloc, Name::Leaks, found),
+        "peak" => asked_report(alloc, Name::Peak, found),
+        "walk" => asked_report(alloc, Name::Walk, found),
+        _ => Err(ToolFault::usage(alloc, NO_COMMAND)),
     }
 }
 

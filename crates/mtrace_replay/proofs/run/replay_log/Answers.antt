@@ -1,11 +1,20 @@
-use Rattle.std.proofs.Common.{rules, subst, ◌∙◌}
+use Rattle.std.proofs.Common.{rules, ◌≡◌, List, ◌∷◌, subst, ◌∙◌, inl, inr}
+use Rattle.std.specs.Prelude.{Result, Ok, Err}
+use Rattle.mtrace_log.specs.Trace.{HasTaken, FlushWasAsked, flushed}
+use Rattle.mtrace_log.specs.declared.failed.Failed.{Failed as Failure}
+use Rattle.mtrace_log.specs.declared.call.Call.{Call}
 use Rattle.mtrace_log.specs.Output.{Wrote}
 use Rattle.mtrace_replay.specs.declared.report.Report.{Report}
 use Rattle.mtrace_replay.specs.Run.{end_text}
 use Rattle.mtrace_log.specs.declared.call.Call.TheVariants.{Took, Flushed}
-use Rattle.mtrace_log.proofs.TraceLemmas.{moved_then_append, flush_after, failed_after}
+use Rattle.mtrace_log.proofs.TraceLemmas.{moved_then_append, failed_after}
 use Rattle.mtrace_replay.proofs.RunLemmas.{report_all, ends_at, report_write}
 use Rattle.mtrace_replay.proofs.run.replay_log.Goals as goal
+
+-- a writer that took pieces, and was then asked to flush
+flush_asked : (result : Result (Unit {0}) Failure) (old middle new : List Call) → HasTaken old middle → new ≡ flushed result ∷ middle → FlushWasAsked old new
+flush_asked (Ok done) old middle new took told = inl (record { middle = middle; moved = took; then = told })
+flush_asked (Err failure) old middle new took told = inr (record { middle = middle; moved = took; then = told })
 
 -- the log has ended, and all was written
 pub returns-in-Ok-finish-clause-ran : goal.returns-in-Ok-finish-clause-ran
@@ -50,7 +59,7 @@ returns-in-Ok-replay_lines-clause-ran g c =
 pub returns-clause-ran : goal.returns-clause-ran
 returns-clause-ran g c =
     record {
-      ends = record { read_fault = search rules; flush_asked = flush_after _ _ _ (c.in-Err-Reader.ensures.writer_took (λ is. cc)) c.ask_flush.ensures.asked };
+      ends = record { read_fault = search rules; flush_asked = flush_asked c.flush.result _ _ _ (c.in-Err-Reader.ensures.writer_took (λ is. cc)) c.flush.ensures.told };
       bad_settings = search rules;
       whole = search rules;
     }

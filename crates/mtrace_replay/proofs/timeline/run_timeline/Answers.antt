@@ -1,28 +1,29 @@
-use Rattle.std.proofs.Common.{rules, ◌≡◌, Bool, true, false, refl, sym, ◌∙◌}
+use Rattle.std.proofs.Common.{rules, arith, ◌≡◌, ◌≢◌, ◌≤◌, ℕ, true, refl}
 use Rattle.std.specs.Prelude.{Ok}
+use Rattle.mtrace_replay.specs.Timeline.{is_bad_parts}
 use Rattle.mtrace_replay.specs.RunTimeline.{TimelineFollows}
 use Rattle.mtrace_replay.proofs.RunsAgain.{again_undone}
 use Rattle.mtrace_replay.proofs.timeline.run_timeline.Goals as goal
 
-not_both : {bad : Bool} → bad ≡ true → bad ≡ false → ⊥
-not_both is is_not = cc
-
 pub returns-in-Err-BadSettings : goal.returns-in-Err-BadSettings
 returns-in-Err-BadSettings g c =
     let again = again_undone c.args.settings (λ lines. TimelineFollows c.args.settings c.args.parts lines g.R.Source.shown g.W.Sink.shown) g.R.Source.shown g.W.Sink.shown _ c.args.reader.now c.args.writer.now (refl, refl) (search rules) in
-    record { bad_parts = λ bad. absurd (not_both bad (sym c.is_bad_parts.ensures ∙ c.if-is_bad_parts.false)); runs = λ good. again }
+    record { bad_parts = search rules; runs = λ good. again }
 
 pub returns-in-Err-OutOfMemory : goal.returns-in-Err-OutOfMemory
 returns-in-Err-OutOfMemory g c =
     let again = again_undone c.args.settings (λ lines. TimelineFollows c.args.settings c.args.parts lines g.R.Source.shown g.W.Sink.shown) g.R.Source.shown g.W.Sink.shown _ c.args.reader.now c.args.writer.now (refl, refl) (search rules) in
-    record { bad_parts = λ bad. absurd (not_both bad (sym c.is_bad_parts.ensures ∙ c.if-is_bad_parts.false)); runs = λ good. again }
+    record { bad_parts = search rules; runs = λ good. again }
+
+not_bad : (parts : ℕ) → parts ≢ 0 → parts ≤ 10000 → is_bad_parts parts ≡ true → ⊥
+not_bad parts some few bad = search rules
 
 pub returns : goal.returns
 returns g c =
     let ended = c.in_ok-ended.ended in
     let last = c.in_ok-ended.ensures.last refl in
     record {
-      bad_parts = λ bad. absurd (not_both bad (sym c.is_bad_parts.ensures ∙ c.if-is_bad_parts.false));
+      bad_parts = λ bad. absurd (not_bad c.args.parts (omega (arith, c.if-parts-eq0)) (omega (arith, c.if-parts-gt-MOST_PARTS)) bad);
       runs = λ good. record {
         run = Ok ended.status;
         reader_middle = c.replay_log.new.reader;

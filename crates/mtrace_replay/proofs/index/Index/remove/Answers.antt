@@ -1,5 +1,6 @@
-use Rattle.std.proofs.Common.{◌≡◌, true, Option, None, Some, is_some, length, arith, refl, sym, ap, ◌∙◌, cond}
+use Rattle.std.proofs.Common.{rules, ◌≡◌, ℕ, Bool, not, true, Option, None, Some, is_some, length, arith, refl, sym, ap, ◌∙◌, cond}
 use Rattle.std.specs.Prelude.{◌==◌, option_to_list}
+use mir.Val.{bool_byte}
 use Rattle.std.proofs.lemmas.List.{length-set}
 use Rattle.mtrace_replay.specs.Holding.{Holding}
 use Rattle.mtrace_replay.specs.declared.key.Key.{Key}
@@ -10,13 +11,17 @@ use Rattle.mtrace_replay.specs.Index.{Indexed, held_at, held_bytes}
 use Rattle.mtrace_replay.proofs.IndexLemmas.{row_there, held_there, held_fewer, held_less, vacates, puts_keeps, puts_held, puts_count, puts_sum, none_there, none_removed, found_key, found_fits}
 use Rattle.mtrace_replay.proofs.index.Index.remove.Goals as goal
 
+-- one block is held under the key, or none
+blocks_under : (rows : Rows) (key : Key) (vacant : Bool) → vacant ≡ not (is_some key.block) → (count : ℕ) → count ≡ bool_byte (not vacant) → count ≡ length (option_to_list (holding_of rows key))
+blocks_under rows key vacant is count by = search rules
+
 pub overflow_sub-self : goal.overflow_sub-self
 overflow_sub-self c =
     let kept = c.self.inside.keys in
     let address = c.args.found.now.address in
     let is_at = found_key kept c.args.self.now (ap (λ (index : Indexed). index.keys) c.self.view_is) _ _ _ c.self.invariant c.args.found.now c.requires.found c.in-Ok.at c.in-Ok.is c.key-key.result (c.key-key.ensures c.key-key.result) in
     let fewer = held_fewer kept address c.in-Ok.at c.key-key.result is_at in
-    omega (arith, fewer, c.blocks_of.ensures kept.rows, c.self.invariant.blocks_are)
+    omega (arith, fewer, blocks_under kept.rows c.key-key.result c.is_vacant.result c.is_vacant.ensures c.from.result c.from.ensures, c.self.invariant.blocks_are)
 
 pub size_of-requires : goal.size_of-requires
 size_of-requires c =
@@ -60,7 +65,7 @@ invariant_of-self c =
     let as_many = ap (length {A = Key}) c.set_key.ensures.keys ∙ length-set kept.keys c.in-Ok.at c.vacated.result in
     puts_keeps kept c.set_key.new.self address (holding_of kept.rows c.key-key.result) None put c.self.inside.blocks c.self.inside.bytes c.self.inside.rounded _ _ _ c.self.invariant
     (omega (arith, as_many, ap (λ (rows : Rows). rows.room) c.set_key.ensures.rows, c.self.invariant.within)) (ap (λ (rows : Rows). rows.room) c.set_key.ensures.rows)
-    (omega (arith, fewer, c.blocks_of.ensures kept.rows, c.self.invariant.blocks_are)) (omega (arith, less (λ (held : Holding). held.entry.size), c.size_of.ensures, c.self.invariant.bytes_are))
+    (omega (arith, fewer, blocks_under kept.rows c.key-key.result c.is_vacant.result c.is_vacant.ensures c.from.result c.from.ensures, c.self.invariant.blocks_are)) (omega (arith, less (λ (held : Holding). held.entry.size), c.size_of.ensures, c.self.invariant.bytes_are))
     (omega (arith, less (λ (held : Holding). rounded_bytes held.entry.size), c.rounded_size_of.ensures, c.self.invariant.rounded_are))
 
 pub returns-in-Ok-clause-held : goal.returns-in-Ok-clause-held
