@@ -26,7 +26,7 @@ use Rattle.mtrace_replay.specs.Replay.{Replayed, StandsFor, entries, added_diagn
 use Rattle.mtrace_replay.specs.declared.report.Report.{Report}
 use Rattle.mtrace_replay.specs.declared.report.Report.TheVariants.{Nothing}
 use Rattle.mtrace_replay.specs.declared.totals.Totals.{Totals}
-use Rattle.mtrace_replay.specs.Run.{text_of_notes, whole_text, end_text, StopsAtRead, StopsAtWrite, Reports, HoldsAtEnd, EndsAt, is_some_diagnostic, is_some_entry, LineGives, LineBegins, HasReplayed}
+use Rattle.mtrace_replay.specs.Run.{text_of_notes, whole_text, end_text, StopsAtRead, StopsAtWrite, Reports, HoldsAtEnd, EndsAt, has_some, LineGives, LineBegins, HasReplayed}
 use Rattle.mtrace_replay.proofs.Moments.{moments-none, moments-line}
 use Rattle.mtrace_replay.specs.Replaying.{IsReplaying}
 use Rattle.mtrace_replay.proofs.ReplayingLemmas.{prepend_nothing, replaying_start, replaying_line, replaying_end, replaying_fault, line_read, reverse-more}
@@ -36,7 +36,7 @@ use Rattle.mtrace_log.proofs.Writing.{Wrote-nothing, Wrote-append, Begins-after,
 pub record IsUnderWay (settings : Settings) (progress : Progress) (replay : Replayed) (has_diagnostics : Bool) (reader_start reader_now : ReaderState) (writer_start writer_now : WriterState) : Type 0 where
   pub so_far : IsReplaying settings progress replay reader_start reader_now
   pub wrote : Wrote writer_start writer_now (text_of_notes settings so_far.lines)
-  pub has_diagnostics_is : has_diagnostics ≡ is_some_diagnostic (notes (history settings so_far.lines))
+  pub has_diagnostics_is : has_diagnostics ≡ has_some (notes (history settings so_far.lines))
 
 -- before the first line
 pub underway_start : (settings : Settings) (replay : Replayed) (reader : ReaderState) (writer : WriterState) → StandsFor replay settings []
@@ -46,7 +46,7 @@ underway_start settings replay reader writer stands =
     record {
       so_far = replaying_start settings replay reader stands;
       wrote = (let P : List Moment → Type 0 = λ past. Wrote writer writer (diagnostics_text (notes past)) in subst P (sym none) (Wrote-nothing writer));
-      has_diagnostics_is = ap (λ past. is_some_diagnostic (notes past)) (sym none);
+      has_diagnostics_is = ap (λ past. has_some (notes past)) (sym none);
     }
 
 -- the moment of one line more
@@ -65,11 +65,11 @@ diagnostics_text-more : (settings : Settings) (lines : List (Result Event LineFa
 diagnostics_text-more settings lines line =
     ap (λ past. diagnostics_text (notes past)) (history-more settings lines line) ∙ diagnostics_text-append (notes (history settings lines)) (next_moment settings lines line).diagnostics
 
-some_diagnostic-append : (first second : List Diagnostic) → is_some_diagnostic (first ++ second) ≡ (is_some_diagnostic first || is_some_diagnostic second)
+some_diagnostic-append : (first second : List Diagnostic) → has_some (first ++ second) ≡ (has_some first || has_some second)
 some_diagnostic-append [] second = refl
 some_diagnostic-append (diagnostic ∷ first) second = refl
 
-pub some_diagnostic-is : (all : List Diagnostic) → not (length all == 0) ≡ is_some_diagnostic all
+pub some_diagnostic-is : (all : List Diagnostic) → not (length all == 0) ≡ has_some all
 some_diagnostic-is [] = refl
 some_diagnostic-is (diagnostic ∷ all) = grind (arith, nat_tests)
 
@@ -91,8 +91,8 @@ underway_line settings old new replay_old replay_new had_diagnostics more start 
       so_far = replaying_line settings old new replay_old replay_new start before after line under.so_far given gives.stands;
       wrote = (let Q : List ℕ → Type 0 = λ text. Wrote writer_start writer_new text in
           subst Q (sym (diagnostics_text-more settings lines line.event)) (Wrote-append writer_start writer_old writer_new (text_of_notes settings lines) (diagnostics_text added) under.wrote gives.wrote));
-      has_diagnostics_is = ap (λ b. b || more) under.has_diagnostics_is ∙ ap (λ b. is_some_diagnostic (notes (history settings lines)) || b) gives.has_diagnostics_is
-          ∙ sym (ap (λ past. is_some_diagnostic (notes past)) whole ∙ some_diagnostic-append (notes (history settings lines)) added);
+      has_diagnostics_is = ap (λ b. b || more) under.has_diagnostics_is ∙ ap (λ b. has_some (notes (history settings lines)) || b) gives.has_diagnostics_is
+          ∙ sym (ap (λ past. has_some (notes past)) whole ∙ some_diagnostic-append (notes (history settings lines)) added);
     }
 
 -- what comes behind the diagnostics of the lines: that of the end, and the report
@@ -205,7 +205,7 @@ report_write report settings replay has_diagnostics reader_old reader_new writer
 
 -- the status, of the diagnostics of the lines, those at the end, and what is held
 pub status-is : (first last : List Diagnostic) (all : List Entry)
-    → (if is_some_diagnostic first || (is_some_diagnostic last || is_some_entry all) then Found else Clean) ≡ clean_or_found (first ++ last) all
+    → (if has_some first || (has_some last || has_some all) then Found else Clean) ≡ clean_or_found (first ++ last) all
 status-is (diagnostic ∷ first) last all = refl
 status-is [] (diagnostic ∷ last) all = refl
 status-is [] [] (one ∷ all) = refl
@@ -215,7 +215,7 @@ status-is [] [] [] = refl
 abbrev pub report_all : (report : Report) (settings : Settings) (replay : Replayed) (has_diagnostics : Bool) (status : Status) (reader_old reader_new : ReaderState) (writer_old writer_middle writer_new : WriterState)
     → HasReplayed settings replay has_diagnostics reader_old reader_new writer_old writer_middle
     → Wrote writer_middle writer_new (end_text report replay)
-    → status ≡ (if has_diagnostics || (is_some_diagnostic (half replay.totals.lines replay.pending) || is_some_entry (entries replay)) then Found else Clean)
+    → status ≡ (if has_diagnostics || (has_some (half replay.totals.lines replay.pending) || has_some (entries replay)) then Found else Clean)
     → Reports report settings status reader_old reader_new writer_old writer_new
 report_all report settings replay has_diagnostics status reader_old reader_new writer_old writer_middle writer_new done wrote is =
     let Q : List ℕ → Type 0 = λ text. Wrote writer_old writer_new text in
@@ -232,8 +232,8 @@ report_all report settings replay has_diagnostics status reader_old reader_new w
       wrote = subst Q (sym (whole_is report settings done.lines replay.given replay.totals))
           (Wrote-append writer_old writer_middle writer_new (text_of_notes settings done.lines) told done.wrote (subst R (end_is report settings replay done.lines done.stands) wrote));
       status_is = is
-          ∙ ap (λ b. if b || (is_some_diagnostic (half replay.totals.lines replay.pending) || is_some_entry (entries replay)) then Found else Clean) done.has_diagnostics_is
-          ∙ ap (λ more. if is_some_diagnostic (notes (history settings done.lines)) || (is_some_diagnostic more || is_some_entry (entries replay)) then Found else Clean) (half-is settings replay done.lines done.stands)
+          ∙ ap (λ b. if b || (has_some (half replay.totals.lines replay.pending) || has_some (entries replay)) then Found else Clean) done.has_diagnostics_is
+          ∙ ap (λ more. if has_some (notes (history settings done.lines)) || (has_some more || has_some (entries replay)) then Found else Clean) (half-is settings replay done.lines done.stands)
           ∙ status-is (notes (history settings done.lines)) last (entries replay);
     }
 
@@ -241,7 +241,7 @@ report_all report settings replay has_diagnostics status reader_old reader_new w
 pub ends_at : (settings : Settings) (replay end : Replayed) (has_diagnostics : Bool) (status : Status) (reader_old reader_new : ReaderState) (writer_old writer_middle writer_new : WriterState)
     → HasReplayed settings replay has_diagnostics reader_old reader_new writer_old writer_middle
     → Wrote writer_middle writer_new (end_text Nothing replay)
-    → status ≡ (if has_diagnostics || (is_some_diagnostic (half replay.totals.lines replay.pending) || is_some_entry (entries replay)) then Found else Clean)
+    → status ≡ (if has_diagnostics || (has_some (half replay.totals.lines replay.pending) || has_some (entries replay)) then Found else Clean)
     → end ≡ replay → replay.content.records ≡ settings.records
     → EndsAt settings status end reader_old reader_new writer_old writer_new
 ends_at settings replay end has_diagnostics status reader_old reader_new writer_old writer_middle writer_new done wrote is kept records = record {

@@ -11,7 +11,7 @@ use Rattle.mtrace_replay.specs.Moment.{Given, Moment}
 use Rattle.mtrace_replay.specs.History.{AreHeld, content_after, entries_of}
 use Rattle.mtrace_replay.specs.Step.{end_of}
 use Rattle.mtrace_replay.specs.Texts.{total_size}
-use Rattle.mtrace_replay.specs.Totals.{is_served, is_refusal, is_refused, bytes_in, IsSum, IsPeak, IsLiveIn, IsEnd, IsHighPlace, AreTotals, gone_on}
+use Rattle.mtrace_replay.specs.Totals.{is_served, is_refusal, is_refused, bytes_in, Measures, IsPeak, IsLiveIn, IsEnd, IsHighPlace, AreTotals, gone_on}
 use Rattle.mtrace_replay.proofs.TotalsLemmas.{first_moments_all, greatest_goes_on, peak_goes_on}
 
 -- an end is there where something was given
@@ -75,7 +75,7 @@ totals_of_line start past moment all old end refused bytes blocks are end_is ref
   high_place = high_goes_on start past moment old.high_place are.high_place end stood given;
 }
   where
-    sum_now : IsSum (moment ∷ past) bytes
+    sum_now : Measures bytes_in (moment ∷ past) bytes
     sum_now = record { all = all; held = held; measured = sum }
 
     -- the line is as many as there were, and one

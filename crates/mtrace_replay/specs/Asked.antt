@@ -5,7 +5,7 @@ use Rattle.tlsf_heap.specs.Sizing.{class_size}
 use Rattle.mtrace_log.specs.declared.event.Event.TheVariants.{Alloc, New, Aligned}
 use Rattle.mtrace_replay.specs.Started.{Bare}
 use Rattle.mtrace_replay.specs.Moment.{ReadLine, Moment, asked_size, moment}
-use Rattle.mtrace_replay.specs.History.{held, pending, content_after, moments}
+use Rattle.mtrace_replay.specs.History.{next_moment, moments}
 use Rattle.mtrace_replay.specs.Totals.{is_served}
 
 -- the class size of what a line asks for; none where there is no such class, or nothing is asked
@@ -20,12 +20,8 @@ abbrev pub greater_class : Option ℕ → Option ℕ → Option ℕ
 greater_class (Some size) (Some other) = Some (max size other)
 greater_class _ _ = None
 
--- the moment of the line behind these
-abbrev pub moment_of : Bare → ReadLine → List ReadLine → Moment
-moment_of start line past = moment (length past) line (pending past) (held (moments start past)) (content_after start (moments start past))
-
 -- the greatest class size that a served line asks for, the unit where none is served; none where a class is missing
 abbrev pub greatest_class : Bare → List ReadLine → Option ℕ
 greatest_class start [] = Some unit
 greatest_class start (line ∷ past) =
-    if is_served (moment_of start line past) then greater_class (greatest_class start past) (class_asked line) else greatest_class start past
+    if is_served (next_moment start line past (moments start past)) then greater_class (greatest_class start past) (class_asked line) else greatest_class start past

@@ -24,12 +24,9 @@ abbrev pub is_bad_step : Option ℕ → Bool
 is_bad_step None = false
 is_bad_step (Some step) = not (step % unit == 0) || (nat_lt step unit || nat_lt greatest_size step)
 
--- the step where none is given: the least multiple of the unit from a 64th of the peak on, and at least the unit
-abbrev pub default_step : ℕ → ℕ
-default_step peak = unit * max (div_ceil peak (64 * unit)) 1
-
+-- the step; where none is given, the least multiple of the unit from a 64th of the peak on, and at least the unit
 abbrev pub step_of : Option ℕ → ℕ → ℕ
-step_of None peak = default_step peak
+step_of None peak = unit * max (div_ceil peak (64 * unit)) 1
 step_of (Some step) peak = step
 
 -- the least number of steps, above 0, that reach the peak

@@ -43,11 +43,14 @@ abbrev pub pending : List ReadLine → Option ℕ
 pending [] = None
 pending (line ∷ past) = old_address line
 
+-- the moment of the line behind these, and behind their moments
+abbrev pub next_moment : Bare → ReadLine → List ReadLine → List Moment → Moment
+next_moment start line past before = moment (length past) line (pending past) (held before) (content_after start before)
+
 -- the moments of lines, from a heap on
 unfoldable pub moments : Bare → List ReadLine → List Moment
 moments start [] = []
-moments start (line ∷ past) =
-    moment (length past) line (pending past) (held (moments start past)) (content_after start (moments start past)) ∷ moments start past
+moments start (line ∷ past) = next_moment start line past (moments start past) ∷ moments start past
 
 -- the moments of a log's lines, the first line first
 abbrev pub history : Settings → List ReadLine → List Moment

@@ -11,8 +11,8 @@ use Rattle.mtrace_replay.specs.Started.{Bare, started}
 use Rattle.mtrace_replay.specs.Asked.{greatest_class}
 use Rattle.mtrace_replay.specs.Step.{found}
 use Rattle.mtrace_replay.specs.Totals.{blocks_in, rounded_bytes_in, AreTotals, IsMost}
-use Rattle.mtrace_replay.specs.Moment.{ReadLine, Given, moment, plan, acts, half}
-use Rattle.mtrace_replay.specs.History.{AreHeld, held, moments, content_after, pending, entries_of}
+use Rattle.mtrace_replay.specs.Moment.{ReadLine, Given, plan, acts, half}
+use Rattle.mtrace_replay.specs.History.{AreHeld, next_moment, moments, content_after, pending, entries_of}
 
 -- a replay: the heap's content, how often it was touched, how many addresses were compared, and the totals. `given`
 -- is what is held, in order of address; `most`, the most addresses that were held, and `most_rounded` the most bytes in
@@ -36,18 +36,7 @@ entries replay = entries_of replay.given
 
 -- the same replay, whose heap was touched this often
 abbrev pub touched : ℕ → Replayed → Replayed
-touched touches replay = record {
-  content = replay.content;
-  touches = touches;
-  comparisons = replay.comparisons;
-  given = replay.given;
-  totals = replay.totals;
-  most = replay.most;
-  most_rounded = replay.most_rounded;
-  class_size = replay.class_size;
-  pending = replay.pending;
-  out_of_memory = replay.out_of_memory;
-}
+touched touches replay = record replay { touches = touches }
 
 -- the replay stands for the lines, of which the latest comes first
 pub record StandsFor (replay : Replayed) (settings : Settings) (past : List ReadLine) : Type 0 where
@@ -64,8 +53,7 @@ pub record StandsFor (replay : Replayed) (settings : Settings) (past : List Read
 -- the diagnostics that one more line adds to those of the lines before it, of which the latest comes first
 abbrev pub added_diagnostics : Settings → ReadLine → List ReadLine → List Diagnostic
 added_diagnostics settings line past =
-    let before = moments (started settings) past in
-    (moment (length past) line (pending past) (held before) (content_after (started settings) before)).diagnostics
+    (next_moment (started settings) line past (moments (started settings) past)).diagnostics
 
 -- The line of this number was fed. Where that is served, the replay stands for it too, and the answer is what it adds
 -- to the diagnostics. Else memory was refused, by a heap that may lack it: what is held and the totals stay, for

@@ -151,21 +151,16 @@ abbrev pub end_text : Report → Replayed → List ℕ
 end_text report replay =
     diagnostics_text (half replay.totals.lines replay.pending) ++ report_text report (entries replay) replay.totals replay.content
 
--- whether there is a diagnostic
-abbrev pub is_some_diagnostic : List Diagnostic → Bool
-is_some_diagnostic [] = false
-is_some_diagnostic (diagnostic ∷ more) = true
-
--- whether something is held
-abbrev pub is_some_entry : List Entry → Bool
-is_some_entry [] = false
-is_some_entry (first ∷ entries) = true
+-- whether the list has an item
+abbrev pub has_some : {A : Type 0} → List A → Bool
+has_some [] = false
+has_some (first ∷ more) = true
 
 -- one line more was replayed, and its diagnostics were written
 pub record LineGives (new : Replayed) (settings : Settings) (line : ReadLine) (past : List ReadLine) (writer_old writer_new : WriterState) (has_diagnostics : Bool) : Type 0 where
   pub stands : StandsFor new settings (line ∷ past)
   pub wrote : Wrote writer_old writer_new (diagnostics_text (added_diagnostics settings line past))
-  pub has_diagnostics_is : has_diagnostics ≡ is_some_diagnostic (added_diagnostics settings line past)
+  pub has_diagnostics_is : has_diagnostics ≡ has_some (added_diagnostics settings line past)
 
 -- one line more was replayed, and its diagnostics were begun
 pub record LineBegins (new : Replayed) (settings : Settings) (line : ReadLine) (past : List ReadLine) (writer_old writer_new : WriterState) : Type 0 where
@@ -178,7 +173,7 @@ pub record HasReplayed (settings : Settings) (replay : Replayed) (has_diagnostic
   pub read : HasReadAll reader_old.left reader_new.left lines
   pub stands : StandsFor replay settings (reverse lines)
   pub wrote : Wrote writer_old writer_new (text_of_notes settings lines)
-  pub has_diagnostics_is : has_diagnostics ≡ is_some_diagnostic (notes (history settings lines))
+  pub has_diagnostics_is : has_diagnostics ≡ has_some (notes (history settings lines))
 
 -- What a call leaves that replays one line and puts what is wrong with it, for all lines before it.
 pub record ReplaysLine {E : Type 0} (number : ℕ) (line : ReadLine) (result : Result Bool E)
@@ -220,7 +215,7 @@ pub record Finishes {E : Type 0} (report : Report) (has_diagnostics : Bool) (res
     (replay_old replay_new : Replayed) (writer_old writer_new : WriterState) : Type 0 where
   pub all : OnOk result (Wrote writer_old writer_new (end_text report replay_old))
   pub status : IfOk result (λ status. status
-      ≡ (if has_diagnostics || (is_some_diagnostic (half replay_old.totals.lines replay_old.pending) || is_some_entry (entries replay_old)) then Found else Clean))
+      ≡ (if has_diagnostics || (has_some (half replay_old.totals.lines replay_old.pending) || has_some (entries replay_old)) then Found else Clean))
   pub flushed : OnOk result (HasTakenAndFlushed writer_old.calls writer_new.calls)
   pub beginning : OnErr result (Begins writer_old writer_new (end_text report replay_old))
   pub failed : OnErr result (HasFailedToWrite writer_old.calls writer_new.calls)

@@ -43,12 +43,6 @@ abbrev pub rounded_bytes_in : List Given → ℕ
 rounded_bytes_in [] = 0
 rounded_bytes_in (given ∷ all) = rounded_bytes given.entry.size + rounded_bytes_in all
 
-abbrev pub IsSum : List Moment → ℕ → Type 0
-IsSum = Measures bytes_in
-
-abbrev pub IsCount : List Moment → ℕ → Type 0
-IsCount = Measures blocks_in
-
 -- the greatest of the numbers that hold after any number of lines, and the first number of lines after which it holds
 pub record IsGreatestOf (Holds : List Moment → ℕ → Type 0) (past : List Moment) (greatest_number line : ℕ) : Type 0 where
   pub within : line ≤ length past
@@ -58,7 +52,7 @@ pub record IsGreatestOf (Holds : List Moment → ℕ → Type 0) (past : List Mo
 
 -- the greatest sum, and the first line after which it is held
 abbrev pub IsPeak : List Moment → (bytes line : ℕ) → Type 0
-IsPeak past bytes line = IsGreatestOf IsSum past bytes line
+IsPeak past bytes line = IsGreatestOf (Measures bytes_in) past bytes line
 
 -- the greatest measure of what is held
 abbrev pub IsMost : (measure : List Given → ℕ) → List Moment → ℕ → Type 0
@@ -80,8 +74,8 @@ pub record AreTotals (start : Bare) (past : List Moment) (totals : Totals) : Typ
   pub lines : totals.lines ≡ length past
   pub served : totals.served ≡ count_by is_served past
   pub refused : totals.refused ≡ count_by is_refused past
-  pub live_bytes : IsSum past totals.live_bytes
-  pub live_blocks : IsCount past totals.live_blocks
+  pub live_bytes : Measures bytes_in past totals.live_bytes
+  pub live_blocks : Measures blocks_in past totals.live_blocks
   pub peak : IsPeak past totals.peak_bytes totals.peak_line
   pub high_place : IsHighPlace start past totals.high_place
 

@@ -1,3 +1,2 @@
 mod CheckLemmas
 mod CommandLineLemmas
-mod StatusLemmas

@@ -2,7 +2,7 @@ use Rattle.std.proofs.Common.{List, sym, subst, ap, ◌∙◌, not}
 use Rattle.mtrace_replay.specs.declared.diagnostic.Diagnostic.{Diagnostic}
 use Rattle.mtrace_log.specs.Output.{Wrote}
 use Rattle.mtrace_replay.specs.Texts.{diagnostics_text}
-use Rattle.mtrace_replay.specs.Run.{is_some_diagnostic}
+use Rattle.mtrace_replay.specs.Run.{has_some}
 use Rattle.mtrace_replay.proofs.RunLemmas.{some_diagnostic-is, no_diagnostic-is}
 use Rattle.mtrace_log.proofs.Writing.{Wrote-nothing}
 use Rattle.mtrace_log.specs.declared.call.Call.TheVariants.{Took}
@@ -19,7 +19,7 @@ returns-then-is_empty g c =
           record {
             stands = c.in-Ok.ensures.stands settings past stands;
             wrote = subst (λ diagnostics. Wrote writer writer (diagnostics_text diagnostics)) none (Wrote-nothing writer);
-            has_diagnostics_is = ap is_some_diagnostic none;
+            has_diagnostics_is = ap has_some none;
           };
       counted = c.in-Ok.ensures.counted;
       cleared = empty;
@@ -38,7 +38,7 @@ returns g c =
           record {
             stands = c.in-Ok.ensures.stands settings past stands;
             wrote = subst P is c.in_ok-put_findings.ensures.put.wrote;
-            has_diagnostics_is = sym (ap not (sym c.is_empty.ensures ∙ c.if-is_empty.false)) ∙ some_diagnostic-is c.feed_lent.new.findings ∙ ap is_some_diagnostic is;
+            has_diagnostics_is = sym (ap not (sym c.is_empty.ensures ∙ c.if-is_empty.false)) ∙ some_diagnostic-is c.feed_lent.new.findings ∙ ap has_some is;
           };
       counted = c.in-Ok.ensures.counted;
       cleared = c.put_findings.ensures.cleared;
