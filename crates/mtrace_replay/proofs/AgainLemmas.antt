@@ -66,7 +66,7 @@ first_up_to many (Ok done) new replay_old replay_new reader_old reader_new withi
     record {
       done = λ settings stands.
           first_at_most many settings new replay_new start reader_new (up.replaying settings start (replaying_start settings replay_old start stands)).now up.reached;
-      not_failed = (up.gave start none (inl none)).1;
+      not_failed = (up.gave start (none, inl none)).1;
       read = tt;
       whole = up.whole;
       records = up.records;
@@ -76,7 +76,8 @@ first_up_to many (Err failed) new replay_old replay_new reader_old reader_new wi
   not_failed = tt;
   read = λ settings stands.
       let start = begun_again reader_old in
-      inr (up.stops settings start many (replaying_start settings replay_old start stands) (moved_none Gave start.calls) (omega arith) within);
+      let none = moved_none Gave start.calls in
+      inr (up.stops settings start many (replaying_start settings replay_old start stands) (none, inl none) (omega arith) within);
   whole = up.whole;
   records = up.records;
 }

@@ -1,6 +1,6 @@
 -- Lines that are read and replayed one after the other.
 use Rattle.std.specs.Prelude.{◌≡◌, ◌≢◌, ℕ, ◌+◌, ◌<◌, ◌≤◌, List, ◌++◌, length, reverse, Result, OnOk, OnErr}
-use Rattle.mtrace_log.specs.Progress.{Progress, Faulted, to_come, CallsFor, greatest_number}
+use Rattle.mtrace_log.specs.Progress.{Progress, Stage, Faulted, to_come, CallsFor, greatest_number}
 use Rattle.mtrace_log.specs.Shown.{ReaderState}
 use Rattle.mtrace_log.specs.Trace.{HasNotFailed}
 use Rattle.mtrace_log.specs.HasRead.{HasReadSo}
@@ -25,17 +25,9 @@ pub record GoesOn (settings : Settings) (before : List (Result Event LineFault))
   pub more : List (Result Event LineFault)
   pub behind : now.lines ≡ before ++ more
 
--- What a call leaves that reads and replays one line more. With that line what was so is so. Or the reader failed, or has no
--- more lines.
-pub record ReplaysNext {E : Type 0} (result : Result (Unit {0}) E) (old new : Progress) (replay_old replay_new : Replayed) (reader_old reader_new : ReaderState) : Type 0 where
-  pub counted : OnOk result (replay_new.totals.lines ≡ new.count)
-  pub one_more : OnOk result (new.count ≡ old.count + 1)
-  pub replaying : OnOk result ((settings : Settings) (start : ReaderState) (so_far : IsReplaying settings old replay_old start reader_old) → GoesOn settings so_far.lines new replay_new start reader_new)
-  pub gave : OnOk result ((start : ReaderState) → CallsFor old.stage start.calls reader_old.calls → CallsFor new.stage start.calls reader_new.calls × HasNotFailed start.calls reader_new.calls)
-  pub stops : OnErr result ((settings : Settings) (start : ReaderState) (many : ℕ) → IsReplaying settings old replay_old start reader_old → CallsFor old.stage start.calls reader_old.calls
-      → old.count < many → many ≤ greatest_number → StopsEarly many start reader_new)
-  pub whole : reader_new.whole ≡ reader_old.whole
-  pub records : replay_new.content.records ≡ replay_old.content.records
+-- since the start the reader gave pieces, as many as this stage has, and perhaps told its end
+abbrev pub HasGivenSo : Stage → (start now : ReaderState) → Type 0
+HasGivenSo stage start now = CallsFor stage start.calls now.calls × HasNotFailed start.calls now.calls
 
 -- What a call leaves that reads and replays the lines up to one. With them what was so is so. Or the reader failed, or has fewer lines.
 pub record ReplaysUpTo {E : Type 0} (number : ℕ) (result : Result (Unit {0}) E) (old new : Progress) (replay_old replay_new : Replayed)
@@ -43,8 +35,8 @@ pub record ReplaysUpTo {E : Type 0} (number : ℕ) (result : Result (Unit {0}) E
   pub counted : OnOk result (replay_new.totals.lines ≡ new.count)
   pub reached : OnOk result (new.count ≡ number)
   pub replaying : OnOk result ((settings : Settings) (start : ReaderState) (so_far : IsReplaying settings old replay_old start reader_old) → GoesOn settings so_far.lines new replay_new start reader_new)
-  pub gave : OnOk result ((start : ReaderState) → CallsFor old.stage start.calls reader_old.calls → HasNotFailed start.calls reader_old.calls → CallsFor new.stage start.calls reader_new.calls × HasNotFailed start.calls reader_new.calls)
-  pub stops : OnErr result ((settings : Settings) (start : ReaderState) (many : ℕ) → IsReplaying settings old replay_old start reader_old → CallsFor old.stage start.calls reader_old.calls
+  pub gave : OnOk result ((start : ReaderState) → HasGivenSo old.stage start reader_old → HasGivenSo new.stage start reader_new)
+  pub stops : OnErr result ((settings : Settings) (start : ReaderState) (many : ℕ) → IsReplaying settings old replay_old start reader_old → HasGivenSo old.stage start reader_old
       → number ≤ many → many ≤ greatest_number → StopsEarly many start reader_new)
   pub whole : reader_new.whole ≡ reader_old.whole
   pub records : replay_new.content.records ≡ replay_old.content.records

@@ -1,8 +1,8 @@
 //! A log that is read again.
 
-ghost use Rattle.std.specs.Prelude.{◌≡◌, ◌≤◌, [], OnOk};
+ghost use Rattle.std.specs.Prelude.{◌≡◌, ◌+◌, ◌≤◌, [], OnOk};
 ghost use Rattle.mtrace_replay.specs.Again.{ReplaysFirst};
-ghost use Rattle.mtrace_replay.specs.Replaying.{ReplaysNext, ReplaysUpTo};
+ghost use Rattle.mtrace_replay.specs.Replaying.{ReplaysUpTo};
 
 use crate::findings::Findings;
 use crate::replay::Replay;
@@ -23,7 +23,7 @@ pub(crate) fn replay_next<R: Source>(
 ) -> Result<(), Failed>
     requires counted { replay.old.totals.lines ≡ lines.old.count }
     requires none { findings.old ≡ [] }
-    ensures next { ReplaysNext result lines.old lines.new replay.old replay.new (R.shown reader.old) (R.shown reader.new) }
+    ensures next { ReplaysUpTo (lines.old.count + 1) result lines.old lines.new replay.old replay.new (R.shown reader.old) (R.shown reader.new) }
     ensures none { OnOk result (findings.new ≡ []) }
 {
     let number = match lines.advance(reader) {

@@ -11,8 +11,7 @@ loop-init g c = record {
   many = omega (arith, c.requires.counted, ap (λ (totals : Totals). totals.lines) c.totals-counter.ensures.totals);
   none = c.requires.none;
   whole = refl;
-  gave = λ start gave not_failed. (gave, not_failed);
-  calls = λ start gave. gave;
+  gave = λ start gave. gave;
   records = refl;
 }
 
@@ -27,11 +26,10 @@ loop-preserved g c =
           going_on_further settings before.lines c.loop.lines c.replay_next.new.lines c.loop.replay c.replay_next.new.replay start (reads c.loop.reader) (reads c.replay_next.new.reader)
           so_far (next.replaying settings start so_far.now);
       counted = next.counted;
-      many = omega (arith, next.one_more, kept.many);
+      many = omega (arith, next.reached, kept.many);
       none = c.in_ok-replay_next.ensures.none;
       whole = next.whole ∙ kept.whole;
-      gave = λ start gave not_failed. next.gave start (kept.calls start gave);
-      calls = λ start gave. (next.gave start (kept.calls start gave)).0;
+      gave = λ start gave. next.gave start (kept.gave start gave);
       records = next.records ∙ kept.records;
     }
 
@@ -46,7 +44,7 @@ returns-in_err-replay_next-clause-lines g c =
       replaying = tt;
       gave = tt;
       stops = λ settings start many before gave up within.
-          next.stops settings start many (kept.so_far settings start before).now (kept.calls start gave) (omega (arith, kept.many, c.loop-test.true, up)) within;
+          next.stops settings start many (kept.so_far settings start before).now (kept.gave start gave) (omega (arith, kept.many, c.loop-test.true, up)) within;
       whole = next.whole ∙ kept.whole;
       records = next.records ∙ kept.records;
     })

@@ -48,7 +48,6 @@ loop-number-preserved g c =
     let items = c.push_reserved.ensures.items in
     let number = get_or numbers index 0 in
     let line : point.line ≡ number = c.point_after.ensures.line ∙ read.counted ∙ read.reached in
-    let gave = read.gave (reads c.begin.new.self) kept.gave kept.not_failed in
     let up : c.loop-number.lines.count ≤ c.replay_up_to.new.lines.count = omega (arith, kept.reached, up_to_next numbers index c.requires.rising c.loop-number-test.true, read.reached) in
     record {
       so_far = λ settings stands.
@@ -63,8 +62,7 @@ loop-number-preserved g c =
       counted = ap (λ (one : Replayed). one.totals.lines) c.point_after.ensures.kept ∙ read.counted;
       none = c.in_ok-replay_up_to.ensures.none;
       whole = read.whole ∙ kept.whole;
-      gave = gave.0;
-      not_failed = gave.1;
+      gave = read.gave (reads c.begin.new.self) kept.gave;
       many = omega (arith, c.push_reserved.ensures.len, kept.many);
       room = omega (arith, c.push_reserved.ensures.capacity, kept.room);
     }
@@ -88,6 +86,6 @@ returns g c =
             told = kept.told ∙ all;
             exact = so_far.exact;
           };
-      not_failed = (let P : List Call → Type 0 = λ calls. HasNotFailed calls (reads c.loop-number.reader).calls in subst P began.told kept.not_failed);
+      not_failed = (let P : List Call → Type 0 = λ calls. HasNotFailed calls (reads c.loop-number.reader).calls in subst P began.told kept.gave.1);
       fails = tt;
     }

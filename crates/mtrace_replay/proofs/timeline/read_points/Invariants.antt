@@ -1,10 +1,9 @@
 use Rattle.std.proofs.Common.{◌≡◌, ◌≤◌, [], length, take, vec_len, vec_capacity}
 use Rattle.std.specs.List.{All}
-use Rattle.mtrace_log.specs.Progress.{CallsFor}
-use Rattle.mtrace_log.specs.Trace.{HasNotFailed}
 use Rattle.mtrace_replay.specs.declared.point.Point.{Point}
 use Rattle.mtrace_replay.specs.declared.settings.Settings.{Settings}
 use Rattle.mtrace_replay.specs.Replay.{StandsFor}
+use Rattle.mtrace_replay.specs.Replaying.{HasGivenSo}
 use Rattle.mtrace_replay.specs.Texts.{greatest}
 use Rattle.mtrace_replay.specs.Timeline.{lines_of}
 use Rattle.mtrace_replay.proofs.Points.{Gathers}
@@ -22,8 +21,7 @@ invariant-loop-number g l =
       counted : l.replay.totals.lines ≡ l.lines.count;
       none : l.findings ≡ [];
       whole : (reads l.reader).whole ≡ (reads l.initial.reader).whole;
-      gave : CallsFor l.lines.stage (reads l.initial.reader).calls (reads l.reader).calls;
-      not_failed : HasNotFailed (reads l.initial.reader).calls (reads l.reader).calls;
+      gave : HasGivenSo l.lines.stage (reads l.initial.reader) (reads l.reader);
       many : vec_len l.points ≡ l.number-index;
       room : length l.numbers ≤ vec_capacity l.points;
     }

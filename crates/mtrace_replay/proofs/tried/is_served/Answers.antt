@@ -11,12 +11,11 @@ loop-preserved g c =
     record {
       so_far = λ settings stands. (next.replaying settings _ (kept.so_far settings stands)).now;
       counted = next.counted;
-      many = omega (arith, next.one_more, kept.many);
+      many = omega (arith, next.reached, kept.many);
       served = omega (arith, ap (λ (totals : Totals). totals.refused) c.totals.ensures.totals, c.if-totals-gt0.false);
       none = c.in_ok-replay_next.ensures.none;
       whole = next.whole ∙ kept.whole;
-      gave = gave.0;
-      not_failed = gave.1;
+      gave = gave;
       records = next.records ∙ kept.records;
     }
 
@@ -30,7 +29,7 @@ returns-then-totals-gt0 g c =
           let some : 0 < c.totals.result.refused = c.if-totals-gt0.true in
           tried_refused c.args.many settings c.replay_next.new.lines c.replay_next.new.replay (reads c.args.reader.now) (reads c.replay_next.new.reader)
           (next.replaying settings _ (kept.so_far settings stands)).now
-          (omega (arith, next.one_more, kept.many, c.loop-test.true))
+          (omega (arith, next.reached, kept.many, c.loop-test.true))
           (subst (λ n. 0 < n) (ap (λ (totals : Totals). totals.refused) c.totals.ensures.totals) some);
       not_failed = none_failed (reads c.args.reader.now).calls (reads c.replay_next.new.reader).calls (next.gave (reads c.args.reader.now) kept.gave).1;
       read = tt;
@@ -45,7 +44,7 @@ returns g c =
       tried = λ settings stands.
           tried_served c.args.many settings c.loop.lines c.loop.replay (g.R.Source.shown c.args.reader.now) (g.R.Source.shown c.loop.reader) (kept.so_far settings stands)
           (omega (arith, kept.many, c.loop-test.false, c.loop.auto.counter-end)) kept.served;
-      not_failed = none_failed (g.R.Source.shown c.args.reader.now).calls (g.R.Source.shown c.loop.reader).calls kept.not_failed;
+      not_failed = none_failed (g.R.Source.shown c.args.reader.now).calls (g.R.Source.shown c.loop.reader).calls kept.gave.1;
       read = tt;
       whole = kept.whole;
       records = kept.records;

@@ -1,9 +1,7 @@
 use Rattle.std.proofs.Common.{◌≡◌, []}
-use Rattle.mtrace_log.specs.Progress.{CallsFor}
-use Rattle.mtrace_log.specs.Trace.{HasNotFailed}
 use Rattle.mtrace_replay.specs.declared.settings.Settings.{Settings}
 use Rattle.mtrace_replay.specs.Replay.{StandsFor}
-use Rattle.mtrace_replay.specs.Replaying.{IsReplaying}
+use Rattle.mtrace_replay.specs.Replaying.{IsReplaying, HasGivenSo}
 use Rattle.mtrace_replay.proofs.tried.is_served.Given as goal
 
 -- as many lines were replayed as the counter says, and none is refused; the reader gave pieces, and perhaps told its end
@@ -18,7 +16,6 @@ invariant-loop g l =
       served : l.replay.totals.refused ≡ 0;
       none : l.findings ≡ [];
       whole : (reads l.reader).whole ≡ (reads l.initial.reader).whole;
-      gave : CallsFor l.lines.stage (reads l.initial.reader).calls (reads l.reader).calls;
-      not_failed : HasNotFailed (reads l.initial.reader).calls (reads l.reader).calls;
+      gave : HasGivenSo l.lines.stage (reads l.initial.reader) (reads l.reader);
       records : l.replay.content.records ≡ l.initial.replay.content.records;
     }
