@@ -148,6 +148,20 @@ module _ (old new : Replayed) (settings : Settings) (past : List ReadLine) (line
       ∙ ap (λ p. (if is_new line then [] else half (length past) p) ++ diagnostics) stands.pending_is
       ∙ ap (λ ns. (if is_new line then [] else half (length past) (pending past)) ++ ns) comes_so.diagnostics_are
 
+-- the totals of which each is 0
+pub all_zero : (totals : Totals) → (totals.lines ≡ 0) × ((totals.served ≡ 0) × ((totals.refused ≡ 0) × ((totals.live_bytes ≡ 0) × ((totals.live_blocks ≡ 0) × ((totals.peak_bytes ≡ 0) × ((totals.peak_line ≡ 0) × ((totals.high_place ≡ 0))))))))
+    → totals ≡ record { lines = 0; served = 0; refused = 0; live_bytes = 0; live_blocks = 0; peak_bytes = 0; peak_line = 0; high_place = 0 }
+all_zero totals is = λ i. record {
+  lines = is.0 i;
+  served = is.1.0 i;
+  refused = is.1.1.0 i;
+  live_bytes = is.1.1.1.0 i;
+  live_blocks = is.1.1.1.1.0 i;
+  peak_bytes = is.1.1.1.1.1.0 i;
+  peak_line = is.1.1.1.1.1.1.0 i;
+  high_place = is.1.1.1.1.1.1.1 i;
+}
+
 -- the totals before the first line
 pub totals_none : (settings : Settings) → AreTotals (started settings) [] (record { lines = 0; served = 0; refused = 0; live_bytes = 0; live_blocks = 0; peak_bytes = 0; peak_line = 0; high_place = 0 })
 totals_none settings = record {

@@ -8,8 +8,8 @@ ghost use Rattle.mtrace_replay.specs.Arrange.{held_keys};
 use crate::keys::Keys;
 
 /// How many have come since the keys were arranged: new addresses between them, new addresses at the end, and moves
-/// of keys for these.
-#[derive(Clone, Copy)]
+/// of keys for these. By default nothing has come.
+#[derive(Clone, Copy, Default)]
 pub(crate) struct Came {
     between: usize,
     at_end: usize,
@@ -17,15 +17,6 @@ pub(crate) struct Came {
 }
 
 impl Came {
-    /// Nothing has come.
-    pub(crate) fn nothing() -> Came {
-        Came {
-            between: 0,
-            at_end: 0,
-            moved: 0,
-        }
-    }
-
     /// One more came, at the end or between, and this many keys moved for it.
     pub(crate) fn add(&mut self, is_end: bool, moved: usize) {
         self.moved = self.moved.saturating_add(moved);

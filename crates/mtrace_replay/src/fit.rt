@@ -176,7 +176,7 @@ fn try_sizes<R: Again, T: Watch>(
     let first = peak.div_ceil(step).max(1);
     let last = last_number(step, first);
     watch.expect((last + 1).saturating_sub(first));
-    let mut fitted = try_range(reader, replay, trial, step, first, last, Fitted::none())?;
+    let mut fitted = try_range(reader, replay, trial, step, first, last, Fitted::default())?;
     while fitted.least.is_none() && is_range_behind(step, first) {
         step *= 2;
         let last = last_number(step, first);

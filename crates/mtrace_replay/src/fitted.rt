@@ -3,8 +3,8 @@
 ghost use Rattle.std.specs.Prelude.{◌≡◌, ◌++◌, ◌∷◌, ◌+◌, ◌<◌, ◌≤◌, ◌^◌, [], List};
 ghost use Rattle.mtrace_replay.specs.Fit.{Verdict, fitted};
 
-/// What the sizes tell that were tried so far, in rising order.
-#[derive(Clone, Copy)]
+/// What the sizes tell that were tried so far, in rising order: by default none was.
+#[derive(Clone, Copy, Default)]
 pub(crate) struct Fitted {
     /// The first size that serves the log, in bytes.
     pub(crate) least: Option<u64>,
@@ -17,18 +17,6 @@ pub(crate) struct Fitted {
 }
 
 impl Fitted {
-    /// No size was tried.
-    pub(crate) fn none() -> Fitted
-        ensures { result ≡ fitted [] }
-    {
-        Fitted {
-            least: None,
-            safe: None,
-            tried: 0,
-            refused: 0,
-        }
-    }
-
     /// With one size more, by whether it serves the log.
     pub(crate) fn with(self, size: u64, serves: bool) -> Fitted
         requires tried { self.tried + 1 < 2 ^ 64 }

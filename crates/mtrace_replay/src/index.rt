@@ -87,7 +87,7 @@ impl Index {
             blocks: 0,
             bytes: 0,
             rounded: 0,
-            came: Came::nothing(),
+            came: Came::default(),
             comparisons: GhostCount::new(),
         })
     }
@@ -101,7 +101,7 @@ impl Index {
         self.blocks = 0;
         self.bytes = 0;
         self.rounded = 0;
-        self.came = Came::nothing();
+        self.came = Came::default();
     }
 
     /// Where the address stands. That is where a key of it stood last, if it still does, or else as `find` says.
@@ -175,7 +175,7 @@ impl Index {
         let is_spent = moved > keys / 64 || keys as u64 / 4 > self.blocks.saturating_add(64);
         if self.came.moved() > keys || at == end && is_spent {
             arrange(&mut self.keys, &self.came);
-            self.came = Came::nothing();
+            self.came = Came::default();
         }
     }
 

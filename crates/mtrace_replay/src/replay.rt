@@ -145,7 +145,7 @@ impl<H: Heaped> Replay<H> {
         Ok(Replay {
             heap,
             held,
-            totals: Totals::new(),
+            totals: Totals::default(),
             most: 0,
             most_rounded: 0,
             class_size: Some(tlsf_class::UNIT),
@@ -325,7 +325,7 @@ impl Replay<Heap> {
     {
         restart_heap(&mut self.heap, settings);
         self.held.restart(settings.records);
-        self.totals = Totals::new();
+        self.totals = Totals::default();
         self.most = 0;
         self.most_rounded = 0;
         self.class_size = Some(tlsf_class::UNIT);

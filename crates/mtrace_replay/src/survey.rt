@@ -12,7 +12,7 @@ ghost use Rattle.mtrace_replay.specs.Survey.{live_ends, IsSurvey, SurveysRows, S
 use tlsf_heap::{Cursor, Heaped, Row};
 
 /// What is free in a heap, and how far its live blocks reach.
-#[derive(Clone, Copy, Debug, PartialEq, Eq)]
+#[derive(Clone, Copy, Debug, Default, PartialEq, Eq)]
 pub(crate) struct Survey {
     /// How many blocks are free.
     pub(crate) free_blocks: u64,
@@ -24,26 +24,7 @@ pub(crate) struct Survey {
     pub(crate) reach: u64,
 }
 
-/// The larger of two numbers.
-fn larger(first: u64, second: u64) -> u64
-    ensures { result ≡ max first second }
-{
-    if first > second { first } else { second }
-}
-
 impl Survey {
-    /// That of no block.
-    fn none() -> Survey
-        ensures { IsSurvey result [] [] }
-    {
-        Survey {
-            free_blocks: 0,
-            free_bytes: 0,
-            largest_free: 0,
-            reach: 0,
-        }
-    }
-
     /// That of the blocks of both.
     fn joined(self, more: Survey) -> Survey
         requires blocks { self.free_blocks + more.free_blocks < 2 ^ 64 }
@@ -55,8 +36,8 @@ impl Survey {
         Survey {
             free_blocks: self.free_blocks + more.free_blocks,
             free_bytes: self.free_bytes + more.free_bytes,
-            largest_free: larger(self.largest_free, more.largest_free),
-            reach: larger(self.reach, more.reach),
+            largest_free: self.largest_free.max(more.largest_free),
+            reach: self.reach.max(more.reach),
         }
     }
 }
@@ -69,14 +50,14 @@ fn survey_row(row: Row) -> Survey
     if row.used {
         Survey {
             reach: u64::from(row.place) + size,
-            ..Survey::none()
+            ..Survey::default()
         }
     } else {
         Survey {
             free_blocks: 1,
             free_bytes: size,
             largest_free: size,
-            reach: 0,
+            ..Survey::default()
         }
     }
 }
@@ -87,7 +68,7 @@ fn survey_rows<H: Heaped>(heap: &mut H, cursor: Cursor) -> Survey
     requires few { length (H.rest heap.old cursor) ≤ most_records }
     ensures { ReadsRows H.content most_records (H.rest heap.old cursor) result heap.old heap.new }
 {
-    let mut survey = Survey::none();
+    let mut survey = Survey::default();
     let mut here = cursor;
     while let Some(next) = heap.row(here) {
         survey = survey.joined(survey_row(next.0));
@@ -103,7 +84,7 @@ fn survey_pool<H: Heaped>(heap: &mut H, base: u64) -> Survey
 {
     match heap.first(base) {
         Ok(cursor) => survey_rows(heap, cursor),
-        Err(_) => Survey::none(),
+        Err(_) => Survey::default(),
     }
 }
 
@@ -115,7 +96,7 @@ pub(crate) fn survey_heap<H: Heaped>(heap: &mut H) -> Survey
 {
     heap.keeps_good();
     let pools = heap.pools();
-    let mut survey = Survey::none();
+    let mut survey = Survey::default();
     for range in pools.as_slice() {
         survey = survey.joined(survey_pool(heap, range.0));
     }

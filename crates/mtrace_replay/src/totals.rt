@@ -1,8 +1,8 @@
 ghost use Rattle.std.specs.Prelude.{◌≡◌, ◌+◌, ◌<◌, ◌^◌};
 ghost use Rattle.mtrace_replay.specs.Totals.{gone_on};
 
-/// The sums over the lines of a log.
-#[derive(Clone, Copy, Debug, PartialEq, Eq)]
+/// The sums over the lines of a log: all 0 before the first.
+#[derive(Clone, Copy, Debug, Default, PartialEq, Eq)]
 pub struct Totals {
     /// How many lines there were.
     pub lines: u64,
@@ -23,22 +23,6 @@ pub struct Totals {
 }
 
 impl Totals {
-    /// Those of no line.
-    pub(crate) fn new() -> Totals
-        ensures { result ≡ record { lines = 0; served = 0; refused = 0; live_bytes = 0; live_blocks = 0; peak_bytes = 0; peak_line = 0; high_place = 0 } }
-    {
-        Totals {
-            lines: 0,
-            served: 0,
-            refused: 0,
-            live_bytes: 0,
-            live_blocks: 0,
-            peak_bytes: 0,
-            peak_line: 0,
-            high_place: 0,
-        }
-    }
-
     /// Those with one line more: where the block ends that it was given, if any, whether it was refused, and what is
     /// held after it.
     pub(crate) fn after(

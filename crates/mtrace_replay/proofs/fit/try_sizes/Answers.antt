@@ -20,6 +20,9 @@ none_is : {A : Type 0} (found : Option A) → is_some found ≡ false → found 
 none_is None is = refl
 none_is (Some x) is = absurd (cc)
 
+none_tried : (none : Fitted) → (none.least ≡ None) × ((none.safe ≡ None) × ((none.tried ≡ 0) × (none.refused ≡ 0))) → none ≡ fitted []
+none_tried none is = λ i. record { least = is.0 i; safe = is.1.0 i; tried = is.1.1.0 i; refused = is.1.1.1 i }
+
 pub loop-trial-init : goal.loop-trial-init
 loop-trial-init g c =
     let reads = g.R.Source.shown in
@@ -34,9 +37,9 @@ loop-trial-init g c =
         record { sizes_are = refl; each = tt },
         subst (V (reads c.try_range.new.reader).whole) c.last_number-last.ensures.value (subst (λ text. V text c.last_number-last.result) (sym c.in_ok-fitted.ensures.whole) tells.1),
         refl,
-        tells.2 [] c.none.ensures,
+        tells.2 [] (none_tried _ c.default.ensures),
       );
-      tried = omega (arith, c.in_ok-fitted.ensures.few, ap (λ (f : Fitted). f.tried) c.none.ensures, c.last_number-last.ensures.within, c.requires.some);
+      tried = omega (arith, c.in_ok-fitted.ensures.few, c.default.ensures.1.1.0, c.last_number-last.ensures.within, c.requires.some);
       refused = c.in_ok-fitted.ensures.refused;
       some = c.requires.some;
       in_units = c.requires.in_units;

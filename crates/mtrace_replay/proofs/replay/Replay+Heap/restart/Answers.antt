@@ -12,7 +12,7 @@ use Rattle.mtrace_replay.proofs.FoundLemmas.{none_held}
 use Rattle.mtrace_replay.proofs.HeldStayLive.{none_live}
 use Rattle.mtrace_replay.proofs.StartLemmas.{started_records, started_room}
 use Rattle.mtrace_replay.proofs.TotalsLemmas.{most_none}
-use Rattle.mtrace_replay.proofs.OneLineMore.{totals_none}
+use Rattle.mtrace_replay.proofs.OneLineMore.{all_zero, totals_none}
 use Rattle.mtrace_replay.proofs.replay.Replay+Heap.restart.Goals as goal
 
 pub invariant_of-self : goal.invariant_of-self
@@ -27,8 +27,8 @@ invariant_of-self c =
       lacks = (λ refused. absurd (cc));
       few = omega (arith, ap (λ (all : List Holding). length all) empty);
       room = ap (λ (index : Indexed). index.room) c.restart.ensures ∙ sym (same ∙ started_room c.args.settings c.requires.good);
-      served = omega (arith, ap (λ (totals : Totals). totals.served) c.new-self-inside.ensures);
-      refused = omega (arith, ap (λ (totals : Totals). totals.refused) c.new-self-inside.ensures);
+      served = omega (arith, ap (λ (totals : Totals). totals.served) (all_zero _ c.default-self-inside.ensures));
+      refused = omega (arith, ap (λ (totals : Totals). totals.refused) (all_zero _ c.default-self-inside.ensures));
     }
 
 pub returns-clause-made : goal.returns-clause-made
@@ -37,14 +37,14 @@ returns-clause-made c =
     let none = moments-none start in
     let P : List Given → List Moment → Type 0 = λ all past. AreHeld all past in
     let T : List Moment → Totals → Type 0 = λ past totals. AreTotals start past totals in
-    let fresh = c.new-self-inside in
+    let fresh = c.default-self-inside in
     record {
       works = refl;
-      lines_are = ap (λ (totals : Totals). totals.lines) fresh.ensures;
+      lines_are = ap (λ (totals : Totals). totals.lines) (all_zero _ fresh.ensures);
       pending_is = refl;
       content_is = c.restart_heap.ensures ∙ ap (content_after start) (sym none);
       held = subst (P (all_given c.restart.new.self.all)) (sym none) (subst (λ (all : List Holding). P (all_given all) []) (sym (ap (λ (index : Indexed). index.all) c.restart.ensures)) none_held);
-      totals = subst (λ past. T past fresh.result) (sym none) (subst (T []) (sym fresh.ensures) (totals_none c.args.settings));
+      totals = subst (λ past. T past fresh.result) (sym none) (subst (T []) (sym (all_zero _ fresh.ensures)) (totals_none c.args.settings));
       most = subst (λ past. IsMost blocks_in past 0) (sym none) (0, most_none blocks_in refl);
       rounded = subst (λ past. IsMost rounded_bytes_in past 0) (sym none) (0, most_none rounded_bytes_in refl);
       class = refl;

@@ -11,7 +11,7 @@ use Rattle.mtrace_replay.proofs.FoundLemmas.{none_held}
 use Rattle.mtrace_replay.proofs.HeldStayLive.{none_live}
 use Rattle.mtrace_replay.proofs.StartLemmas.{started_records, started_room}
 use Rattle.mtrace_replay.proofs.TotalsLemmas.{most_none}
-use Rattle.mtrace_replay.proofs.OneLineMore.{totals_none}
+use Rattle.mtrace_replay.proofs.OneLineMore.{all_zero, totals_none}
 use Rattle.mtrace_replay.proofs.replay.Replay.create.Goals as goal
 
 pub invariant_of-result : goal.invariant_of-result
@@ -26,8 +26,8 @@ invariant_of-result g c =
       lacks = (λ refused. absurd (cc));
       few = omega (arith, ap (λ (index : Indexed). length index.all) held);
       room = ap (λ (index : Indexed). index.room) held ∙ sym (same ∙ started_room c.args.settings (sym c.are_bad.ensures ∙ c.if-are_bad.false));
-      served = omega (arith, ap (λ (totals : Totals). totals.served) c.new-2.ensures);
-      refused = omega (arith, ap (λ (totals : Totals). totals.refused) c.new-2.ensures);
+      served = omega (arith, ap (λ (totals : Totals). totals.served) (all_zero _ c.default.ensures));
+      refused = omega (arith, ap (λ (totals : Totals). totals.refused) (all_zero _ c.default.ensures));
     }
 
 pub returns-clause-made : goal.returns-clause-made
@@ -38,11 +38,11 @@ returns-clause-made g c =
     let T : List Moment → Totals → Type 0 = λ past totals. AreTotals start past totals in
     record {
       works = refl;
-      lines_are = ap (λ (totals : Totals). totals.lines) c.new-2.ensures;
+      lines_are = ap (λ (totals : Totals). totals.lines) (all_zero _ c.default.ensures);
       pending_is = refl;
       content_is = c.in-Ok.ensures ∙ ap (content_after start) (sym none);
       held = subst (P (all_given c.in-Ok-new.held.all)) (sym none) (subst (λ (index : Indexed). P (all_given index.all) []) (sym c.in-Ok-new.ensures) none_held);
-      totals = subst (λ past. T past c.new-2.result) (sym none) (subst (T []) (sym c.new-2.ensures) (totals_none c.args.settings));
+      totals = subst (λ past. T past c.default.result) (sym none) (subst (T []) (sym (all_zero _ c.default.ensures)) (totals_none c.args.settings));
       most = subst (λ past. IsMost blocks_in past 0) (sym none) (0, most_none blocks_in refl);
       rounded = subst (λ past. IsMost rounded_bytes_in past 0) (sym none) (0, most_none rounded_bytes_in refl);
       class = refl;
