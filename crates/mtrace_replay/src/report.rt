@@ -4,7 +4,7 @@ ghost use Rattle.std.specs.Prelude.{◌≡◌, ◌≢◌, false, [], flat_map};
 ghost use Rattle.mtrace_log.specs.Output.{Puts};
 ghost use Rattle.mtrace_replay.specs.Replay.{entries};
 ghost use Rattle.mtrace_replay.specs.Run.{PutsReport};
-ghost use Rattle.mtrace_replay.specs.Texts.{entry_text, leaks_report, peak_report, report_text};
+ghost use Rattle.mtrace_replay.specs.Texts.{entry_text, leaks_report, report_text};
 
 use crate::index::Entries;
 use crate::line_text::{entry_text, peak_text, total_text};
@@ -63,16 +63,6 @@ fn put_leaks<W: Sink, H: Heaped>(writer: &mut W, replay: &Replay<H>) -> Result<(
     }
 }
 
-/// Puts the report of the peak.
-fn put_peak<W: Sink, H: Heaped>(writer: &mut W, replay: &mut Replay<H>) -> Result<(), Failed>
-    requires works { replay.old.out_of_memory ≡ false }
-    ensures { Puts result (peak_report replay.old.totals replay.old.content) (W.shown writer.old) (W.shown writer.new) }
-{
-    let totals = replay.totals();
-    let survey = replay.survey();
-    put_all(writer, peak_text(totals, survey).as_slice())
-}
-
 /// Puts a report.
 ///
 /// # Errors
@@ -89,7 +79,11 @@ pub(crate) fn put_report<W: Sink, H: Heaped>(
 {
     match report {
         Report::Leaks => put_leaks(writer, replay),
-        Report::Peak => put_peak(writer, replay),
+        Report::Peak => {
+            let totals = replay.totals();
+            let survey = replay.survey();
+            put_all(writer, peak_text(totals, survey).as_slice())
+        }
         Report::Walk => replay.put_walk(writer),
         Report::Nothing => Ok(()),
     }
