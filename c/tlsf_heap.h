@@ -271,7 +271,7 @@ enum tlsf_status tlsf_heap_save(const tlsf_heap *heap, unsigned char *bytes, siz
 
 /* Fills *out with the heap of which the `length` bytes at bytes are an image: each block that was
  * live is live, with its place and its slot. The bytes need not be trusted: *out is filled exactly
- * where they break none of the twelve rules, unless memory is refused. They aren't kept. At most 16
+ * where they break none of the twelve rules, unless memory is refused. They aren't kept. At most 5
  * touches for each record and 8 for each of the 704 classes.
  * 0, TLSF_BROKEN_MAGIC to TLSF_BROKEN_ON_LISTS for the first rule that is broken, and then no
  * memory was asked for; or TLSF_OUT_OF_MEMORY. Where length is 0, bytes still points to a byte.

@@ -48,4 +48,4 @@ pub record IsLoaded (image : List ℕ) (made : Option Counted) : Type 0 where
   pub heap : Counted
   pub is_there : made ≡ Some heap
   pub content : heap.content ≡ described image
-  pub bound : heap.touches ≤ 16 * heap.content.records + 8 * classes
+  pub bound : heap.touches ≤ 5 * heap.content.records + 8 * classes

@@ -41,7 +41,7 @@ fn save_into(heap: &mut Heap, bytes: &mut [u8], count: &mut u64) -> u32
 }
 
 /// The heap that an image describes, which goes to `out`: blocks of the heap saved are live, slots included. It takes memory
-/// twice, for the table of records and for the heap itself, and none where a rule is broken. At most 16 touches a record and 8
+/// twice, for the table of records and for the heap itself, and none where a rule is broken. At most five touches a record and eight
 /// a class. What `out` held before is forgotten.
 ///
 /// The status is 0, or 9 where memory is refused. It is 101 to 112 where the bytes are no image: the first rule

@@ -94,7 +94,7 @@ impl Heap {
     }
 
     /// The heap that an image describes, slots included: pointers of the heap saved are live. It takes memory once, for
-    /// its table, and none where a rule is broken. At most 16 touches a record and 8 a class.
+    /// its table, and none where a rule is broken. At most five touches a record and eight a class.
     ///
     /// # Errors
     ///
@@ -103,7 +103,7 @@ impl Heap {
         ensures broken { (rule : Rule) → first_broken bytes.now ≡ Some rule → result ≡ Err (Broken rule) }
         ensures memory { IfErr result (λ fault. first_broken bytes.now ≡ None → fault ≡ ImageFault.OutOfMemory) }
         ensures content { IfOk result (λ heap. heap.content ≡ described bytes.now) }
-        ensures bound { IfOk result (λ heap. heap.touches ≤ 16 * heap.content.records + 8 * classes) }
+        ensures bound { IfOk result (λ heap. heap.touches ≤ 5 * heap.content.records + 8 * classes) }
     {
         let mut image = match Image::read(bytes) {
             Ok(image) => image,
