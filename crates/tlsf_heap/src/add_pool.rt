@@ -16,6 +16,7 @@ ghost use Rattle.tlsf_heap.specs.Inner.Entering.{pool_laid};
 use crate::Refusal;
 use crate::entries::{entries, entries_with, first_behind, is_apart, set_entries};
 use crate::free_lists::link;
+use crate::image::VACANT;
 use tlsf_class::class_of;
 use tlsf_store::{Pool, Record, State, Store, can_be_pool};
 
@@ -71,22 +72,13 @@ fn put_pool(store: &mut Store, entries: &[Pool], entry: Pool)
     let Pool { base, bytes, first } = entry;
     let place = first_behind(entries, base).unwrap_or(entries.len());
     let all = entries_with(entries, place, entry);
-    store.write(first, free_block(base, bytes));
+    let block = Record {
+        place: base,
+        size: bytes,
+        state: State::Free,
+        ..VACANT
+    };
+    store.write(first, block);
     set_entries(store, all.as_slice());
     link(store, class_of(bytes), first);
-}
-
-/// The record of a free block without neighbours.
-fn free_block(place: u32, size: u32) -> Record
-    ensures { result ≡ free_record place size }
-{
-    Record {
-        place,
-        size,
-        state: State::Free,
-        prev: None,
-        next: None,
-        prev_free: None,
-        next_free: None,
-    }
 }

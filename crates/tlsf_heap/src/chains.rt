@@ -9,6 +9,7 @@ ghost use Rattle.tlsf_heap.specs.Inner.Spans.{IsRead, split_by, merged_behind_by
 ghost use Rattle.tlsf_store.specs.CountedCells.{LeavesAfter};
 ghost use Rattle.tlsf_heap.specs.Inner.Answers.{Leaves};
 
+use crate::image::VACANT;
 use crate::span::Span;
 use tlsf_store::{Record, Slot, State, Store};
 
@@ -63,8 +64,7 @@ pub(crate) fn split(
         state: back,
         prev: Some(block.slot),
         next: block.next,
-        prev_free: None,
-        next_free: None,
+        ..VACANT
     };
     store.write(rest, left);
     store.set_block(block.slot, bytes, front, Some(rest));

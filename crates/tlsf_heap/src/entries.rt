@@ -20,26 +20,11 @@ pub(crate) fn entries(store: &mut Store) -> ArrayVec<Pool, MOST_POOLS>
 {
     let mut entries = ArrayVec::new();
     for number in 0..MOST_POOLS as u32 {
-        push_entry(&mut entries, store.pool(number));
+        if let Some(pool) = store.pool(number) {
+            entries.push(pool);
+        }
     }
     entries
-}
-
-/// Appends an entry, if there is one.
-fn push_entry(entries: &mut ArrayVec<Pool, MOST_POOLS>, pool: Option<Pool>)
-    requires { array_vec_len entries.old < most_pools }
-    ensures items { entries.new.items ≡ entries.old.items ++ entries_of (pool ∷ []) }
-{
-    if let Some(pool) = pool {
-        entries.push(pool);
-    }
-}
-
-/// The pool of this number; none behind the last entry.
-fn pool_at(entries: &[Pool], number: usize) -> Option<Pool>
-    ensures { result ≡ padded_at entries.now number }
-{
-    entries.get(number).copied()
 }
 
 /// Writes these entries, and none behind them. One touch an entry.
@@ -50,7 +35,7 @@ pub(crate) fn set_entries(store: &mut Store, entries: &[Pool])
     ensures { LeavesAfter (with_entries entries.now store.old.cells) most_pools store.old store.new }
 {
     for number in 0..MOST_POOLS {
-        store.set_pool(number as u32, pool_at(entries, number));
+        store.set_pool(number as u32, entries.get(number).copied());
     }
 }
 

@@ -1,10 +1,9 @@
 //! The heap.
 
 use crate::add_pool::add_pool;
-use crate::check::check;
 use crate::entries::{entries, pool_ranges};
 use crate::free::free;
-use crate::image::{Image, put_image};
+use crate::image::{Image, is_whole, put_image};
 use crate::load::stored;
 use crate::malloc::malloc;
 use crate::memalign::memalign;
@@ -351,7 +350,7 @@ impl Heap {
         ensures unchanged { IsUnchanged self.old self.new }
         ensures each_read { self.old.touches + self.old.content.records < self.new.touches }
     {
-        check(&mut self.store)
+        is_whole(&mut self.store)
     }
 
     /// Says what every heap keeps, and does nothing. Its pools are covered by their blocks end to end, and

@@ -96,13 +96,6 @@ fn unreadable(bytes: &[u8]) -> Option<Rule>
     None
 }
 
-/// The state of a block's code.
-fn state_of(code: u32) -> State
-    ensures { result ≡ state_of code }
-{
-    if code == 1 { State::Free } else { State::Live }
-}
-
 /// A vacant record.
 pub(crate) const VACANT: Record = Record {
     place: 0,
@@ -128,21 +121,16 @@ fn record_in(bytes: &[u8], slot: Slot) -> Record
     Record {
         place: four_at(bytes, at),
         size: word - word % UNIT,
-        state: state_of(word % UNIT),
+        state: if word % UNIT == 1 {
+            State::Free
+        } else {
+            State::Live
+        },
         prev: link_of(two_at(bytes, at + 8)),
         next: link_of(two_at(bytes, at + 10)),
         prev_free: link_of(two_at(bytes, at + 12)),
         next_free: link_of(two_at(bytes, at + 14)),
     }
-}
-
-/// The first block of the list of a class.
-fn head_in(bytes: &[u8], class: Class) -> Option<Slot>
-    requires { record_start 0 ≤ length bytes.now }
-    ensures value { result ≡ head_in bytes.now class }
-    ensures within { class < classes }
-{
-    link_of(two_at(bytes, HEADS_AT + HEAD_BYTES * class.number() as usize))
 }
 
 impl<'a> HasParts for Image<'a> {
@@ -165,14 +153,13 @@ impl<'a> HasParts for Image<'a> {
     }
 
     fn head(&mut self, class: Class) -> Option<Slot> {
-        head_in(self.bytes, class)
+        link_of(two_at(self.bytes, HEADS_AT + HEAD_BYTES * class.number() as usize))
     }
 
     fn pool(&mut self, number: u32) -> Option<Pool> {
-        if number < u32::from(two_at(self.bytes, POOLS_AT)) {
-            Some(pool_in(self.bytes, number as usize))
-        } else {
-            None
+        if number >= u32::from(two_at(self.bytes, POOLS_AT)) {
+            return None;
         }
+        Some(pool_in(self.bytes, number as usize))
     }
 }

@@ -65,9 +65,7 @@ pub(crate) fn pick(store: &mut Store, asked: u32) -> Option<(Class, Slot)>
     ensures found { MatchOption result (pick asked (content_of store.old.cells).lists ≡ None) (λ first. IsPick asked first.0 first.1 store.old.cells) }
     ensures left { Leaves store.old.cells 4 store.old store.new }
 {
-    let Some(class) = class_for(asked) else {
-        return None;
-    };
+    let class = class_for(asked)?;
     search(store, class)
 }
 

@@ -111,11 +111,7 @@ pub(crate) fn size_asked(align: u32, bytes: u32) -> u32
     requires is { is_alignment align ≡ true }
     ensures { result ≡ size_asked align bytes }
 {
-    if align <= UNIT {
-        bytes
-    } else {
-        bytes + (align - UNIT)
-    }
+    bytes + align.saturating_sub(UNIT)
 }
 
 /// The least multiple of the alignment at or above a place.

@@ -73,10 +73,7 @@ fn skip(store: &mut Store, base: u64, place: u32, width: u32) -> u32
 fn is_below(pool: Option<Pool>, base: u64) -> bool
     ensures { result ≡ begins_below base pool }
 {
-    match pool {
-        Some(pool) => u64::from(pool.base) < base,
-        None => false,
-    }
+    pool.is_some_and(|pool| u64::from(pool.base) < base)
 }
 
 /// The first block of the pool, if it begins at `base`.
@@ -84,14 +81,8 @@ fn first_if(pool: Option<Pool>, base: u64) -> Option<Slot>
     ensures { result ≡ slot_if base pool }
 {
     match pool {
-        Some(pool) => {
-            if u64::from(pool.base) == base {
-                Some(pool.first)
-            } else {
-                None
-            }
-        }
-        None => None,
+        Some(pool) if u64::from(pool.base) == base => Some(pool.first),
+        _ => None,
     }
 }
 
@@ -104,9 +95,7 @@ pub(crate) fn row(store: &mut Store, cursor: Cursor) -> Option<(Row, Cursor)>
     ensures cells { store.new.cells ≡ store.old.cells }
     ensures touched { TouchesForRow 1 result store.old.touches store.new.touches }
 {
-    let Some(next) = cursor.next else {
-        return None;
-    };
+    let next = cursor.next?;
     if next >= store.records() {
         return None;
     }
@@ -126,10 +115,7 @@ pub(crate) fn row(store: &mut Store, cursor: Cursor) -> Option<(Row, Cursor)>
 fn slot_number(slot: Option<Slot>) -> Option<u32>
     ensures { result ≡ slot }
 {
-    match slot {
-        Some(slot) => Some(u32::from(slot.0)),
-        None => None,
-    }
+    slot.map(|slot| u32::from(slot.0))
 }
 
 /// The size in bytes of the block that the pointer is of. At most one touch.

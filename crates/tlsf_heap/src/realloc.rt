@@ -112,9 +112,7 @@ fn free_behind(store: &mut Store, block: &Span) -> Option<u32>
     ensures value { (at : At) → StandsAt block.now.slot InUse store.old.cells at → result ≡ option_map (λ node. node.size) (listed_first at.nodes) }
     ensures left { Leaves store.old.cells 1 store.old store.new }
 {
-    let Some(next_slot) = block.next else {
-        return None;
-    };
+    let next_slot = block.next?;
     let next = store.read_used(next_slot);
     if !next.state.is_free() {
         return None;

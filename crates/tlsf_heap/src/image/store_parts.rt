@@ -7,21 +7,6 @@ use super::{HasParts, VACANT};
 use tlsf_class::Class;
 use tlsf_store::{Pool, Record, Slot, State, Store};
 
-/// What an image tells of a record: nothing of a vacant one, and of a live one no neighbours in a list.
-fn told(block: Record) -> Record
-    ensures { result ≡ told block }
-{
-    match block.state {
-        State::Vacant => VACANT,
-        State::Free => block,
-        State::Live => Record {
-            prev_free: None,
-            next_free: None,
-            ..block
-        },
-    }
-}
-
 impl HasParts for Store {
     ghost use Rattle.tlsf_heap.specs.Images.Told.{told_parts};
 
@@ -36,7 +21,16 @@ impl HasParts for Store {
     }
 
     fn record(&mut self, slot: Slot) -> Record {
-        told(self.read(slot))
+        let block = self.read(slot);
+        match block.state {
+            State::Vacant => VACANT,
+            State::Free => block,
+            State::Live => Record {
+                prev_free: None,
+                next_free: None,
+                ..block
+            },
+        }
     }
 
     fn head(&mut self, class: Class) -> Option<Slot> {

@@ -12,7 +12,7 @@ put c =
     let items : List StoredPool = c.args.entries.now in
     let all : c.as_slice.result.now ≡ with_entry c.args.entry (entries_of c.args.store.now.cells.pools) =
     rw (c.as_slice.ensures.value, c.entries_with-all.ensures, c.unwrap_or-place.ensures, c.first_behind.ensures.number, insert_is (λ (e : StoredPool). e.base) c.args.entry items, c.requires.entries) in
-    rw (c.set_entries.ensures.cells, c.write.ensures.left.cells, c.free_block.ensures, all)
+    rw (c.set_entries.ensures.cells, c.write.ensures.left.cells, all)
 
 enters : (c : goal.After-class_of) → Enters c.args.entry c.requires.taken.0 c.args.store.now.cells
 enters c = pool_is_laid c.args.store.now.cells c.args.entry c.requires.taken.0 c.requires.taken.1
