@@ -1,7 +1,7 @@
 -- The content that cells stand for, by following the links of their records; and when they stand.
 use Rattle.std.specs.Prelude.{◌≡◌, ℕ, List, [], length, map, count_by, Option, Some, None}
 use Rattle.tlsf_store.specs.declared.records.State.{State}
-use Rattle.tlsf_store.specs.declared.records.State.TheVariants.{Vacant, Free, Live}
+use Rattle.tlsf_store.specs.declared.records.State.TheVariants.{Live}
 use Rattle.tlsf_store.specs.declared.records.Record.{Record}
 use Rattle.tlsf_store.specs.Records.{record_at}
 use Rattle.tlsf_store.specs.Cells.{Cells}
@@ -16,9 +16,8 @@ use Rattle.tlsf_heap.specs.Inner.Represents.{Represents}
 
 -- a live block is known by its slot
 abbrev pub owner_in : State → ℕ → Option ℕ
-owner_in Vacant slot = None
-owner_in Free slot = None
 owner_in Live slot = Some slot
+owner_in other slot = None
 
 -- the block of a slot
 abbrev pub block_at : List Record → ℕ → Block ℕ

@@ -1,12 +1,11 @@
 -- A node and the free ones beside it in its pool, merged.
 use Rattle.std.specs.Prelude.{ℕ, ◌+◌, Bool, true, false, List, [], ◌∷◌, Option, Some, None, if◌then◌else◌}
-use Rattle.tlsf_heap.specs.Inner.Nodes.{NodeState, InUse, Listed, Loose, Node, Layout, turned, is_listed, left, entered}
+use Rattle.tlsf_heap.specs.Inner.Nodes.{NodeState, Listed, Loose, Node, Layout, turned, is_listed, left, entered}
 use Rattle.tlsf_heap.specs.Inner.Positions.{Position, laid}
 
 abbrev pub is_loose : NodeState → Bool
-is_loose InUse = false
-is_loose Listed = false
 is_loose Loose = true
+is_loose other = false
 
 -- the first of the nodes, where it is listed
 abbrev pub listed_first : List Node → Option Node

@@ -33,8 +33,7 @@ pub record Layout : Type 0 where
 -- a live block is known by its slot
 abbrev pub owner_of : NodeState → ℕ → Option ℕ
 owner_of InUse slot = Some slot
-owner_of Listed slot = None
-owner_of Loose slot = None
+owner_of other slot = None
 
 abbrev pub block_of : Node → Block ℕ
 block_of node = record { place = node.place; size = node.size; owner = owner_of node.state node.slot }
@@ -75,9 +74,8 @@ abbrev pub has_place : ℕ → Node → Bool
 has_place place node = node.place == place
 
 abbrev pub is_listed : NodeState → Bool
-is_listed InUse = false
 is_listed Listed = true
-is_listed Loose = false
+is_listed other = false
 
 -- whether the node is to stand in the list of the class
 abbrev pub is_listed_in : ℕ → Node → Bool

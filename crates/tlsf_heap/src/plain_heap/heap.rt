@@ -63,7 +63,7 @@ impl PlainHeap {
 /// It has no table to touch. Each call that changes it may lack memory.
 impl Heaped for PlainHeap {
     ghost use Rattle.std.specs.Prelude.{⊤};
-    ghost use Rattle.tlsf_heap.specs.PlainHeap.{cursor_rows};
+    ghost use Rattle.tlsf_heap.specs.PlainHeap.{rows_at};
 
     ghost content = { λ heap. heap };
 
@@ -73,7 +73,7 @@ impl Heaped for PlainHeap {
 
     ghost stands = { λ heap cursor. ⊤ };
 
-    ghost rest = { cursor_rows };
+    ghost rest = { λ heap cursor. rows_at cursor.next heap.pools };
 
     fn create(alloc: Global, records: u32) -> Result<Self, StoreError> {
         if records == 0 || records > MOST_RECORDS {
