@@ -7,11 +7,10 @@ ghost use Rattle.tlsf_heap.specs.Touches.{AtMost, add_pool_touches};
 ghost use Rattle.tlsf_heap.specs.Inner.Edits.{IsUsed};
 ghost use Rattle.tlsf_heap.specs.Pools.{can_be_pool, add_pool};
 ghost use Rattle.tlsf_heap.specs.Inner.Entries.{entries_of, is_entry_apart, free_record};
-ghost use Rattle.tlsf_heap.specs.Inner.Nodes.{Layout};
+ghost use Rattle.tlsf_heap.specs.Inner.Nodes.{Layout, pool_laid};
 ghost use Rattle.tlsf_heap.specs.Inner.Represents.{Represents};
 ghost use Rattle.tlsf_heap.specs.Inner.Following.{Stands};
 ghost use Rattle.tlsf_heap.specs.Inner.Answers.{AnswersOver};
-ghost use Rattle.tlsf_heap.specs.Inner.Entering.{pool_laid};
 
 use crate::Refusal;
 use crate::entries::{entries, entries_with, first_behind, is_apart, set_entries};

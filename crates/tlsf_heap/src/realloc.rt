@@ -11,7 +11,7 @@ ghost use Rattle.tlsf_heap.specs.Pointer.{realloc_ptr};
 ghost use Rattle.tlsf_heap.specs.Served.{IsMoved};
 ghost use Rattle.tlsf_heap.specs.Inner.Following.{Stands, content_of};
 ghost use Rattle.tlsf_heap.specs.Inner.Nodes.{InUse};
-ghost use Rattle.tlsf_heap.specs.Inner.Merging.{listed_first};
+ghost use Rattle.tlsf_heap.specs.Inner.Positions.{listed_first};
 ghost use Rattle.tlsf_heap.specs.Inner.At.{At, StandsAt};
 ghost use Rattle.tlsf_heap.specs.Inner.Spans.{IsRead};
 ghost use Rattle.tlsf_heap.specs.Inner.Answers.{AnswersOver, Leaves};

@@ -4,8 +4,7 @@ ghost use Rattle.std.specs.Prelude.{◌≡◌, MatchOption, ℕ, ◌+◌, ◌*�
 ghost use Rattle.tlsf_class.specs.Classes.{steps, levels, classes};
 ghost use Rattle.tlsf_store.specs.Cells.{head_at};
 ghost use Rattle.tlsf_store.specs.CountedCells.{LeavesAfter};
-ghost use Rattle.tlsf_heap.specs.Images.Bitmaps.{AreBitmapsOf};
-ghost use Rattle.tlsf_heap.specs.Inner.Bitmaps.{HasNoBit, IsLowestFrom, IsLastHead, first_head};
+ghost use Rattle.tlsf_heap.specs.Images.Bitmaps.{AreBitmapsOf, HasNoBit, IsLowestFrom, IsLastHead, first_head};
 ghost use Rattle.tlsf_heap.specs.Inner.Answers.{Leaves};
 
 use tlsf_class::{Class, STEPS};

@@ -9,7 +9,7 @@ use Rattle.tlsf_store.specs.Cells.{Cells}
 use Rattle.tlsf_heap.specs.Images.Rules.{is_used}
 use Rattle.tlsf_heap.specs.Inner.Represents.{pool_views, list_views, uses_in, Represents}
 use Rattle.tlsf_heap.specs.Inner.Following.{content_of, Stands}
-use Rattle.tlsf_heap.specs.Inner.Imaged.{AreAlike}
+use Rattle.tlsf_heap.specs.Inner.Loading.{AreAlike}
 use Rattle.tlsf_heap.proofs.Inner.Chains.{chains_same, index_same}
 use Rattle.tlsf_heap.proofs.Inner.Followed.{content_is, stood_for}
 use Rattle.tlsf_heap.proofs.Images.FoundNodes.{stands_used, listed_at}

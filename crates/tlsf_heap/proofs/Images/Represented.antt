@@ -21,7 +21,7 @@ use Rattle.tlsf_heap.specs.Images.Described.{parts_of}
 use Rattle.tlsf_heap.specs.Inner.Entries.{padded, entries_of}
 use Rattle.tlsf_heap.specs.Inner.Nodes.{Node, nodes_of, nodes_in, has_slot, is_listed_in}
 use Rattle.tlsf_heap.specs.Inner.Represents.{in_list, list_views, first_slot, AreLinked, uses_in, Represents}
-use Rattle.tlsf_heap.specs.Inner.Imaged.{AreImaged}
+use Rattle.tlsf_heap.specs.Inner.Loading.{AreImaged}
 use Rattle.tlsf_heap.proofs.Counts.{count-cons, count-filter, count_same, count-map}
 use Rattle.tlsf_heap.proofs.Images.ReadNodes.{node_at, layout_of, node_state_listed, first_followed, linked_followed, count_slots, nodes_of_areas, chains_are, entries_are}
 use Rattle.tlsf_heap.proofs.Images.ChainLemmas.{free_is_used}

@@ -1,4 +1,4 @@
--- What is found where chains and lists are followed.
+-- A table that is only read, and what is found where its chains and lists are followed.
 use Rattle.std.specs.Prelude.{ℕ, ◌+◌, ◌&&◌, ◌==◌, not, Bool, true, false, List, length, Option, Some, None, if◌then◌else◌, nat_eq, ◌≡◌, ◌<◌, ◌≤◌}
 use Rattle.tlsf_class.specs.Classes.{greatest_size, class}
 use Rattle.std.specs.Option.{option_eq}
@@ -12,6 +12,13 @@ use Rattle.tlsf_heap.specs.declared.image.links.Blocks.{Blocks}
 use Rattle.tlsf_heap.specs.Images.Image.{Parts}
 use Rattle.tlsf_heap.specs.Images.Rules.{has_record_links, has_links, at, is_used, is_chain, chain_of, covers, are_merged, is_list, are_lists, slots_in_list}
 use Rattle.tlsf_heap.specs.Inner.Entries.{entries_of}
+use Rattle.tlsf_store.specs.Cells.{Cells}
+
+-- what stands in it stays, and so do the cells behind it; its touches don't fall
+pub record OnlyReads {T : Type 0} (parts : T → Parts) (cells : T → Cells) (touches : T → ℕ) (old new : T) : Type 0 where
+  pub same : parts new ≡ parts old
+  pub kept : cells new ≡ cells old
+  pub floor : touches old ≤ touches new
 
 -- a pool's chain: how many blocks it has, whether they cover the pool, and whether no two free ones are neighbours
 abbrev pub chain_found : Parts → Pool → Option Tally

@@ -3,8 +3,7 @@
 ghost use Rattle.std.specs.Prelude.{◌≡◌, ◌<◌, ◌≤◌, IsTrue, length, IfSome, ◌+◌, ◌^◌};
 ghost use Rattle.tlsf_store.specs.Records.{most_records};
 ghost use Rattle.tlsf_heap.specs.Images.Rules.{has_links};
-ghost use Rattle.tlsf_heap.specs.Images.Findings.{chain_found, chains_found, no_tally, both, front_of, is_before, with_block};
-ghost use Rattle.tlsf_heap.specs.Images.HasParts.{OnlyReads};
+ghost use Rattle.tlsf_heap.specs.Images.Findings.{chain_found, chains_found, no_tally, both, front_of, is_before, with_block, OnlyReads};
 
 use super::HasParts;
 use tlsf_store::{MOST_POOLS, Pool, Record, Slot, State};

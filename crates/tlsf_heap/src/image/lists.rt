@@ -5,8 +5,7 @@ ghost use Rattle.tlsf_class.specs.Classes.{unit, classes, greatest_size};
 ghost use Rattle.tlsf_store.specs.Records.{most_records, is_free_state};
 ghost use Rattle.tlsf_store.specs.Cells.{head_at};
 ghost use Rattle.tlsf_heap.specs.Images.Rules.{has_links};
-ghost use Rattle.tlsf_heap.specs.Images.Findings.{list_found, lists_found, is_behind, HasSizes};
-ghost use Rattle.tlsf_heap.specs.Images.HasParts.{OnlyReads};
+ghost use Rattle.tlsf_heap.specs.Images.Findings.{list_found, lists_found, is_behind, HasSizes, OnlyReads};
 
 use super::HasParts;
 use tlsf_class::{CLASSES, Class, class_of};

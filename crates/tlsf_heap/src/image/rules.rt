@@ -2,7 +2,7 @@
 
 ghost use Rattle.std.specs.Prelude.{◌≡◌, true};
 ghost use Rattle.tlsf_heap.specs.Images.Rules.{first_of, has_ordered_pools, rules_of_parts, rules_of_table};
-ghost use Rattle.tlsf_heap.specs.Images.HasParts.{OnlyReads};
+ghost use Rattle.tlsf_heap.specs.Images.Findings.{OnlyReads};
 
 use super::chains::look_at_chains;
 use super::links::look_at_links;

@@ -1,14 +1,14 @@
 //! A store as its image tells it.
 
 ghost use Rattle.std.specs.Prelude.{◌≡◌};
-ghost use Rattle.tlsf_heap.specs.Images.Told.{told};
+ghost use Rattle.tlsf_heap.specs.Images.Described.{told};
 
 use super::{HasParts, VACANT};
 use tlsf_class::Class;
 use tlsf_store::{Pool, Record, Slot, State, Store};
 
 impl HasParts for Store {
-    ghost use Rattle.tlsf_heap.specs.Images.Told.{told_parts};
+    ghost use Rattle.tlsf_heap.specs.Images.Described.{told_parts};
 
     ghost parts = { λ store. told_parts store.cells };
 

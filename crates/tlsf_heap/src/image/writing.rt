@@ -8,7 +8,7 @@ ghost use Rattle.tlsf_store.specs.Records.{most_records};
 ghost use Rattle.tlsf_store.specs.Cells.{most_pools};
 ghost use Rattle.mtrace_log.specs.Output.{Puts};
 ghost use Rattle.tlsf_heap.specs.Images.Writing.{Appends, two, four, block_bytes, record_bytes, entry_bytes, head_bytes, header_bytes, image_of};
-ghost use Rattle.tlsf_heap.specs.Images.HasParts.{OnlyReads};
+ghost use Rattle.tlsf_heap.specs.Images.Findings.{OnlyReads};
 ghost use Rattle.tlsf_heap.specs.Inner.Entries.{entries_of};
 
 use super::HasParts;

@@ -1,6 +1,5 @@
 use Rattle.std.proofs.Common.{◌≡◌, ◌≤◌, length, drop}
-use Rattle.tlsf_heap.specs.Images.Findings.{blocks_with}
-use Rattle.tlsf_heap.specs.Images.HasParts.{OnlyReads}
+use Rattle.tlsf_heap.specs.Images.Findings.{blocks_with, OnlyReads}
 use Rattle.tlsf_heap.proofs.image.links.look_at_records.Given as goal
 
 -- what is found of the records up to here and those that are left is what is found of all

@@ -1,8 +1,7 @@
 use Rattle.std.proofs.Common.{◌≡◌, ◌*◌, ◌≤◌, ◌<◌, length, drop}
 use Rattle.tlsf_class.specs.Classes.{classes}
 use Rattle.tlsf_store.specs.Records.{most_records}
-use Rattle.tlsf_heap.specs.Images.Findings.{lists_with, lists_found}
-use Rattle.tlsf_heap.specs.Images.HasParts.{OnlyReads}
+use Rattle.tlsf_heap.specs.Images.Findings.{lists_with, lists_found, OnlyReads}
 use Rattle.tlsf_heap.proofs.image.lists.look_at_lists.Given as goal
 
 -- what is found of the lists up to here and those that are left is what is found of all
