@@ -3,7 +3,7 @@
 
 ghost use Rattle.std.specs.Prelude.{◌≡◌, ◌<◌, ◌≤◌, ◌^◌};
 ghost use Rattle.tlsf_class.specs.Classes.{levels};
-ghost use Rattle.tlsf_heap.specs.Inner.Edits.{with_bit, without_bit, with_class_bit, without_class_bit, with_level_cleared};
+ghost use Rattle.tlsf_heap.specs.Inner.Edits.{with_bit, without_bit, with_class_bit, without_class_bit};
 ghost use Rattle.tlsf_store.specs.CountedCells.{LeavesAfter};
 ghost use Rattle.tlsf_heap.specs.Inner.Answers.{Leaves};
 

@@ -107,15 +107,3 @@ pub(crate) fn pool_number(entries: &[Pool], base: u64) -> Option<usize>
         .iter()
         .position(|entry| u64::from(entry.base) == base)
 }
-
-/// Where the pools of the entries begin and how many bytes they have.
-pub(crate) fn pool_ranges(entries: &[Pool]) -> ArrayVec<(u64, u64), MOST_POOLS>
-    requires { length entries.now ≤ most_pools }
-    ensures { result.items ≡ map entry_range entries.now }
-{
-    let mut ranges = ArrayVec::new();
-    for entry in entries {
-        ranges.push((u64::from(entry.base), u64::from(entry.bytes)));
-    }
-    ranges
-}

@@ -4,7 +4,7 @@ ghost use Rattle.std.specs.Prelude.{◌≡◌, ◌<◌, length, IfSome, IfNone, 
 ghost use Rattle.tlsf_store.specs.Records.{IsBelow};
 ghost use Rattle.tlsf_store.specs.Cells.{with_head, head_at};
 ghost use Rattle.tlsf_heap.specs.Touches.{AtMost};
-ghost use Rattle.tlsf_heap.specs.Inner.Edits.{IsUsed, with_prev_free, with_free_links, with_class_bit, with_first, with_behind, linked, unlinked_by};
+ghost use Rattle.tlsf_heap.specs.Inner.Edits.{IsUsed, with_prev_free, with_free_links, with_class_bit, linked, unlinked_by};
 ghost use Rattle.tlsf_store.specs.CountedCells.{LeavesAfter};
 ghost use Rattle.tlsf_heap.specs.Inner.Answers.{Leaves};
 

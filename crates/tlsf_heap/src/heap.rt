@@ -1,7 +1,7 @@
 //! The heap.
 
 use crate::add_pool::add_pool;
-use crate::entries::{entries, pool_ranges};
+use crate::entries::entries;
 use crate::free::free;
 use crate::image::{Image, is_whole, put_image};
 use crate::load::stored;
@@ -281,7 +281,11 @@ impl Heap {
         ensures read { Reads 8 self.old self.new }
     {
         let entries = entries(&mut self.store);
-        pool_ranges(entries.as_slice())
+        let mut ranges = ArrayVec::new();
+        for entry in entries.as_slice() {
+            ranges.push((u64::from(entry.base), u64::from(entry.bytes)));
+        }
+        ranges
     }
 
     /// The cursor at the first row of the pool that begins at the place `base`. Four touches.

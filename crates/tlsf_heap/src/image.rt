@@ -62,8 +62,20 @@ impl<'a> Image<'a> {
         ensures whole { IfOk result (λ image. first_broken bytes.now ≡ None) }
         ensures bytes { IfOk result (λ image. image ≡ bytes.now) }
     {
-        if let Some(rule) = unreadable(bytes) {
-            return Err(rule);
+        if !has_magic(bytes) {
+            return Err(Rule::Magic);
+        }
+        if !has_length(bytes) {
+            return Err(Rule::Length);
+        }
+        if !has_pools(bytes) {
+            return Err(Rule::Pools);
+        }
+        if !has_unused_pools(bytes) {
+            return Err(Rule::UnusedPools);
+        }
+        if !has_states(bytes) {
+            return Err(Rule::States);
         }
         let mut image = Image { bytes };
         match first_behind_pools(&mut image) {
@@ -71,29 +83,6 @@ impl<'a> Image<'a> {
             None => Ok(Image { bytes }),
         }
     }
-}
-
-/// The first rule, of those up to that of states, that the bytes break.
-fn unreadable(bytes: &[u8]) -> Option<Rule>
-    ensures broken { IfSome result (λ rule. first_broken bytes.now ≡ Some rule) }
-    ensures readable { result ≡ None → IsReadable bytes.now }
-{
-    if !has_magic(bytes) {
-        return Some(Rule::Magic);
-    }
-    if !has_length(bytes) {
-        return Some(Rule::Length);
-    }
-    if !has_pools(bytes) {
-        return Some(Rule::Pools);
-    }
-    if !has_unused_pools(bytes) {
-        return Some(Rule::UnusedPools);
-    }
-    if !has_states(bytes) {
-        return Some(Rule::States);
-    }
-    None
 }
 
 /// A vacant record.

@@ -22,7 +22,7 @@ use tlsf_store::{MOST_POOLS, Pool, Slot, Store};
 /// Half of the pool entries.
 const HALF: u32 = MOST_POOLS as u32 / 2;
 
-/// The cursor at the first row of the pool that begins at `base`. Four touches.
+/// The cursor at the first row of the pool that begins at `base`, found by halving. Four touches.
 ///
 /// # Errors
 ///
@@ -32,24 +32,15 @@ pub(crate) fn first(store: &mut Store, base: u64) -> Result<Cursor, Refusal>
     ensures found { FindsRows result (rows_from base (content_of store.old.cells).pools) (rows_behind (rows_by store.old.cells.records)) (is_at_row (rows_by store.old.cells.records)) }
     ensures left { LeavesAfter store.old.cells 4 store.old store.new }
 {
-    match find(store, base) {
+    let place = skip(store, base, 0, HALF);
+    let place = skip(store, base, place, HALF / 2);
+    let place = skip(store, base, place, HALF / 4);
+    match first_if(store.pool(place), base) {
         Some(slot) => Ok(Cursor {
             next: Some(u32::from(slot.0)),
         }),
         None => Err(Refusal::NoPool),
     }
-}
-
-/// The first block of the pool that begins at `base`, found by halving. Four touches.
-fn find(store: &mut Store, base: u64) -> Option<Slot>
-    requires { Stands store.old.cells }
-    ensures value { result ≡ slot_for base (entries_of store.old.cells.pools) }
-    ensures left { LeavesAfter store.old.cells 4 store.old store.new }
-{
-    let place = skip(store, base, 0, HALF);
-    let place = skip(store, base, place, HALF / 2);
-    let place = skip(store, base, place, HALF / 4);
-    first_if(store.pool(place), base)
 }
 
 /// Passes the next `width` pools where the last of them begins below `base`. One touch.

@@ -23,7 +23,8 @@ use crate::{Ptr, Refusal};
 use tlsf_class::round;
 use tlsf_store::{Slot, State, Store};
 
-/// The block with another size, in its place or moved; without a pointer a new block. At most 58 touches.
+/// The block with another size, in its place or moved; without a pointer a new block. Where no byte is asked for it is
+/// freed. At most 58 touches.
 ///
 /// # Errors
 ///
@@ -32,22 +33,9 @@ pub(crate) fn realloc(store: &mut Store, ptr: Option<Ptr>, n: u64) -> Result<Opt
     requires { Stands store.old.cells }
     ensures { AnswersOver result (IsMoved (realloc_ptr ptr n) ptr) (λ refusal old. (owner : ℕ) → realloc_ptr ptr n owner old ≡ Err refusal) realloc_touches store.old store.new }
 {
-    match ptr {
-        Some(ptr) => reallocate(store, ptr, n),
-        None => Ok(Some(malloc(store, n)?)),
-    }
-}
-
-/// The block with another size; none where no byte is asked for, for then it is freed. At most 58
-/// touches.
-///
-/// # Errors
-///
-/// As `Heap::realloc`.
-fn reallocate(store: &mut Store, ptr: Ptr, n: u64) -> Result<Option<Ptr>, Refusal>
-    requires { Stands store.old.cells }
-    ensures { AnswersOver result (IsMoved (realloc_ptr (Some ptr) n) (Some ptr)) (λ refusal old. (owner : ℕ) → realloc_ptr (Some ptr) n owner old ≡ Err refusal) realloc_touches store.old store.new }
-{
+    let Some(ptr) = ptr else {
+        return Ok(Some(malloc(store, n)?));
+    };
     if n == 0 {
         free(store, ptr)?;
         return Ok(None);

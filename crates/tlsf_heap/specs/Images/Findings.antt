@@ -20,6 +20,11 @@ pub record OnlyReads {T : Type 0} (parts : T → Parts) (cells : T → Cells) (t
   pub kept : cells new ≡ cells old
   pub floor : touches old ≤ touches new
 
+-- what is found is this, and the table is only read
+pub record Finds {T R : Type 0} (found told : R) (parts : T → Parts) (cells : T → Cells) (touches : T → ℕ) (old new : T) : Type 0 where
+  pub value : found ≡ told
+  pub read : OnlyReads parts cells touches old new
+
 -- a pool's chain: how many blocks it has, whether they cover the pool, and whether no two free ones are neighbours
 abbrev pub chain_found : Parts → Pool → Option Tally
 chain_found parts pool =
