@@ -6,7 +6,7 @@ ghost use Rattle.tlsf_store.specs.Cells.{most_pools};
 ghost use Rattle.tlsf_heap.specs.Touches.{AtMost, add_pool_touches};
 ghost use Rattle.tlsf_heap.specs.Inner.Edits.{IsUsed};
 ghost use Rattle.tlsf_heap.specs.Pools.{can_be_pool, add_pool};
-ghost use Rattle.tlsf_heap.specs.Inner.Entries.{entries_of, is_entry_apart, free_record};
+ghost use Rattle.tlsf_heap.specs.Inner.Entries.{entries_of, is_entry_apart};
 ghost use Rattle.tlsf_heap.specs.Inner.Nodes.{Layout, pool_laid};
 ghost use Rattle.tlsf_heap.specs.Inner.Represents.{Represents};
 ghost use Rattle.tlsf_heap.specs.Inner.Following.{Stands};

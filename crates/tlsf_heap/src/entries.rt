@@ -1,11 +1,11 @@
 //! The pool entries of a store, in order of base.
 
-ghost use Rattle.std.specs.Prelude.{◌≡◌, ◌≢◌, ◌+◌, ◌<◌, ◌≤◌, ◌++◌, [], length, map, insert, remove, All, ◌∷◌, IfSome, IfNone, nat_lt, position, slice_index_or};
+ghost use Rattle.std.specs.Prelude.{◌≡◌, ◌≢◌, ◌+◌, ◌<◌, ◌≤◌, ◌++◌, length, insert, remove, All, IfSome, IfNone, nat_lt, position, slice_index_or};
 ghost use Rattle.std.specs.List.{list_all};
 ghost use Rattle.arrayvec.specs.ArrayVec.{array_vec_len};
 ghost use Rattle.tlsf_store.specs.Cells.{most_pools};
 ghost use Rattle.tlsf_heap.specs.Pools.{end_of_places};
-ghost use Rattle.tlsf_heap.specs.Inner.Entries.{entries_of, padded_at, with_entries, is_entry_apart, entry_range};
+ghost use Rattle.tlsf_heap.specs.Inner.Entries.{entries_of, with_entries, is_entry_apart};
 ghost use Rattle.tlsf_store.specs.CountedCells.{LeavesAfter};
 
 use arrayvec::ArrayVec;

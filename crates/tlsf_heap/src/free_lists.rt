@@ -1,10 +1,9 @@
 //! The free lists: for each class its free blocks, linked both ways.
 
-ghost use Rattle.std.specs.Prelude.{◌≡◌, ◌<◌, length, IfSome, IfNone, Some, None};
+ghost use Rattle.std.specs.Prelude.{◌<◌, length, Some, None};
 ghost use Rattle.tlsf_store.specs.Records.{IsBelow};
-ghost use Rattle.tlsf_store.specs.Cells.{with_head, head_at};
-ghost use Rattle.tlsf_heap.specs.Touches.{AtMost};
-ghost use Rattle.tlsf_heap.specs.Inner.Edits.{IsUsed, with_prev_free, with_free_links, with_class_bit, linked, unlinked_by};
+ghost use Rattle.tlsf_store.specs.Cells.{head_at};
+ghost use Rattle.tlsf_heap.specs.Inner.Edits.{IsUsed, with_free_links, linked, unlinked_by};
 ghost use Rattle.tlsf_store.specs.CountedCells.{LeavesAfter};
 ghost use Rattle.tlsf_heap.specs.Inner.Answers.{Leaves};
 

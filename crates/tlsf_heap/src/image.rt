@@ -1,8 +1,8 @@
 //! Images of a heap: what stands where in their bytes, the twelve rules that tell whether bytes are one, and how one is written.
 
-ghost use Rattle.std.specs.Prelude.{◌≡◌, ◌+◌, ◌%◌, ◌<◌, ◌≤◌, IfErr, IfOk, IfSome, None, Some, length};
-ghost use Rattle.tlsf_class.specs.Classes.{unit, classes};
-ghost use Rattle.tlsf_heap.specs.Images.Image.{parts_in, state_of, record_start, record_in, head_in};
+ghost use Rattle.std.specs.Prelude.{◌≡◌, ◌+◌, ◌%◌, ◌<◌, ◌≤◌, IfErr, IfOk, None, Some, length};
+ghost use Rattle.tlsf_class.specs.Classes.{unit};
+ghost use Rattle.tlsf_heap.specs.Images.Image.{parts_in, record_start, record_in};
 ghost use Rattle.tlsf_heap.specs.Images.Rules.{first_broken, IsReadable};
 
 mod bitmaps;

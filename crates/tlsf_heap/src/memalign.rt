@@ -1,9 +1,9 @@
 //! memalign: the block picked is split, so that a live block begins at a multiple of an alignment.
 
-ghost use Rattle.std.specs.Prelude.{◌≡◌, ℕ, true, ◌+◌, ◌-◌, ◌%◌, ◌^◌, ◌<◌, ◌≤◌, Some, Err, length};
+ghost use Rattle.std.specs.Prelude.{◌≡◌, ℕ, true, ◌+◌, ◌-◌, ◌%◌, ◌^◌, ◌<◌, ◌≤◌, Some, Err};
 ghost use Rattle.std.specs.Int.{next_multiple_of};
 ghost use Rattle.tlsf_class.specs.Classes.{unit, greatest_size};
-ghost use Rattle.tlsf_store.specs.Records.{blank, record_at, vacant_count};
+ghost use Rattle.tlsf_store.specs.Records.{vacant_count};
 ghost use Rattle.tlsf_heap.specs.Touches.{AtMost, memalign_touches};
 ghost use Rattle.tlsf_heap.specs.Content.{IsSize};
 ghost use Rattle.tlsf_heap.specs.Memalign.{is_alignment, size_asked, gap_records, memalign, memalign_rounded};

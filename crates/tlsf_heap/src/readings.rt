@@ -5,11 +5,10 @@ ghost use Rattle.tlsf_store.specs.Cells.{most_pools};
 ghost use Rattle.tlsf_heap.specs.Touches.{block_size_touches};
 ghost use Rattle.tlsf_heap.specs.Content.{used_records};
 ghost use Rattle.tlsf_heap.specs.Inner.Following.{Stands, content_of};
-ghost use Rattle.tlsf_heap.specs.Inner.Entries.{entries_of};
 ghost use Rattle.tlsf_heap.specs.Rows.{rows_from};
 ghost use Rattle.tlsf_heap.specs.Pointer.{block_size_ptr};
 ghost use Rattle.tlsf_heap.specs.Readings.{FindsRows, GivesRow, TouchesForRow, IsLargestRequest};
-ghost use Rattle.tlsf_heap.specs.Cursors.{rows_by, rows_behind, is_at_row, slot_for, begins_below, slot_if, AreInOrder, IsNarrowed};
+ghost use Rattle.tlsf_heap.specs.Cursors.{rows_by, rows_behind, is_at_row, begins_below, slot_if, AreInOrder, IsNarrowed};
 ghost use Rattle.tlsf_store.specs.CountedCells.{LeavesAfter};
 ghost use Rattle.tlsf_heap.specs.Inner.Answers.{Leaves};
 

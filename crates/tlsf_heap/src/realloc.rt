@@ -1,7 +1,6 @@
 //! realloc: the block gets another size in its place, or moves.
 
-ghost use Rattle.std.specs.Prelude.{◌≡◌, ◌≢◌, ℕ, true, ◌%◌, ◌<◌, ◌==◌, Some, None, Err, option_map};
-ghost use Rattle.tlsf_class.specs.Classes.{unit};
+ghost use Rattle.std.specs.Prelude.{◌≡◌, ◌≢◌, ℕ, true, ◌<◌, ◌==◌, Some, None, Err, option_map};
 ghost use Rattle.tlsf_heap.specs.Touches.{AtMost, realloc_touches};
 ghost use Rattle.tlsf_heap.specs.Content.{IsSize, blocks_of, size_at};
 ghost use Rattle.tlsf_heap.specs.Free.{is_live};

@@ -47,13 +47,9 @@ tally_with parts tally pools =
     })
     else None
 
--- nothing is seen yet
-abbrev pub no_tally : Tally
-no_tally = record { blocks = 0; covers = true; is_merged = true }
-
 -- all chains, where each is one
 abbrev pub chains_found : Parts → Option Tally
-chains_found parts = tally_with parts no_tally parts.pools
+chains_found parts = tally_with parts (record { blocks = 0; covers = true; is_merged = true }) parts.pools
 
 -- two tallies together
 abbrev pub both : Tally → Tally → Tally
@@ -82,10 +78,6 @@ list_found parts number first = if is_list parts number first then Some (length 
 -- the lists of the classes from this number on, where each is one, with this many blocks before
 abbrev pub lists_with : Parts → ℕ → ℕ → List (Option ℕ) → Option ℕ
 lists_with parts blocks number heads = if are_lists parts number heads then Some (blocks + length (flat_map (slots_in_list parts) heads)) else None
-
--- all lists, where each is one
-abbrev pub lists_found : Parts → Option ℕ
-lists_found parts = lists_with parts 0 0 parts.heads
 
 -- no block has more bytes than a block can have
 abbrev pub HasSizes : Parts → Type 0

@@ -1,10 +1,10 @@
 //! Whether the bitmaps agree with the heads of the lists.
 
-ghost use Rattle.std.specs.Prelude.{◌≡◌, ℕ, ◌<◌, ◌≤◌, ◌/◌, ◌%◌, ◌==◌, ◌↔◌, IsTrue, slice_index};
+ghost use Rattle.std.specs.Prelude.{◌≡◌, ℕ, ◌<◌, ◌/◌, ◌%◌, ◌==◌, ◌↔◌, IsTrue, slice_index};
 ghost use Rattle.tlsf_class.specs.Classes.{steps, levels, classes};
 ghost use Rattle.tlsf_store.specs.Cells.{head_at};
 ghost use Rattle.std.specs.Int.{bit_at};
-ghost use Rattle.tlsf_heap.specs.Images.Bitmaps.{AreBitmapsOf, head_bit, word_bit};
+ghost use Rattle.tlsf_heap.specs.Images.Bitmaps.{AreBitmapsOf, head_bit};
 
 use tlsf_class::{CLASSES, Class, LEVELS, STEPS};
 use tlsf_store::Store;

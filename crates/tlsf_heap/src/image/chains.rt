@@ -1,9 +1,9 @@
 //! The chains of the pools.
 
-ghost use Rattle.std.specs.Prelude.{◌≡◌, ◌<◌, ◌≤◌, IsTrue, length, IfSome, ◌+◌, ◌^◌};
+ghost use Rattle.std.specs.Prelude.{true, ◌≡◌, ◌<◌, ◌≤◌, IsTrue, length, IfSome, ◌+◌, ◌^◌};
 ghost use Rattle.tlsf_store.specs.Records.{most_records};
 ghost use Rattle.tlsf_heap.specs.Images.Rules.{has_links};
-ghost use Rattle.tlsf_heap.specs.Images.Findings.{chain_found, chains_found, no_tally, both, front_of, is_before, with_block, OnlyReads, Finds};
+ghost use Rattle.tlsf_heap.specs.Images.Findings.{chain_found, chains_found, both, front_of, is_before, with_block, OnlyReads, Finds};
 
 use super::HasParts;
 use tlsf_store::{MOST_POOLS, Pool, Record, Slot, State};
@@ -51,7 +51,7 @@ impl Front {
 impl Tally {
     /// Of no chain.
     fn new() -> Tally
-        ensures { result ≡ no_tally }
+        ensures { result ≡ record { blocks = 0; covers = true; is_merged = true } }
     {
         Tally {
             blocks: 0,

@@ -4,7 +4,7 @@ ghost use Rattle.std.specs.Prelude.{◌≡◌, ◌<◌, length};
 ghost use Rattle.std.specs.List.{list_all};
 ghost use Rattle.tlsf_store.specs.Records.{most_records};
 ghost use Rattle.tlsf_heap.specs.Images.Rules.{is_below, has_record_links};
-ghost use Rattle.tlsf_heap.specs.Images.Findings.{blocks_and, blocks_with, links_found, OnlyReads, Finds};
+ghost use Rattle.tlsf_heap.specs.Images.Findings.{blocks_and, blocks_with, links_found, Finds};
 
 use super::HasParts;
 use tlsf_class::{CLASSES, Class};

@@ -2,7 +2,7 @@
 
 ghost use Rattle.std.specs.Prelude.{◌≡◌};
 ghost use Rattle.tlsf_heap.specs.Images.Rules.{is_pool, has_packed_pools};
-ghost use Rattle.tlsf_heap.specs.Images.Findings.{OnlyReads, Finds};
+ghost use Rattle.tlsf_heap.specs.Images.Findings.{Finds};
 
 use super::HasParts;
 use tlsf_store::{MOST_POOLS, Pool, can_be_pool};

@@ -1,8 +1,5 @@
 //! A store as its image tells it.
 
-ghost use Rattle.std.specs.Prelude.{◌≡◌};
-ghost use Rattle.tlsf_heap.specs.Images.Described.{told};
-
 use super::{HasParts, VACANT};
 use tlsf_class::Class;
 use tlsf_store::{Pool, Record, Slot, State, Store};

@@ -1,7 +1,7 @@
 use Rattle.std.proofs.Common.{rules, ◌∙◌, sym, ap, subst}
 use Rattle.std.proofs.lemmas.Bool.{ne_eqb, eq-eqb, not-true, not-false}
 use Rattle.tlsf_heap.specs.Images.Image.{Parts}
-use Rattle.tlsf_heap.specs.Images.Findings.{chains_found, lists_found, HasSizes}
+use Rattle.tlsf_heap.specs.Images.Findings.{chains_found, lists_with, HasSizes}
 use Rattle.tlsf_heap.proofs.Images.RuleLemmas.{not_on_chains, not_merged, their_sizes, not_lists, not_on_lists, none_broken}
 use Rattle.tlsf_heap.proofs.image.rules.first_behind_pools.Goals as goal
 
@@ -39,7 +39,7 @@ returns-in_default-look_at_lists g c = record {
       let parts : Parts = g.T.HasParts.parts c.args.table.now in
       let linked = sym c.in-Some.ensures.value in
       let chained = sym (c.in-Some-look_at_chains.ensures.value ∙ ap chains_found c.look_at_links.ensures.read.same) in
-      let listed = sym (c.in_default-look_at_lists.ensures.value ∙ ap lists_found (c.look_at_chains.ensures.read.same ∙ c.look_at_links.ensures.read.same)) in
+      let listed = sym (c.in_default-look_at_lists.ensures.value ∙ ap (λ (p : Parts). lists_with p 0 0 p.heads) (c.look_at_chains.ensures.read.same ∙ c.look_at_links.ensures.read.same)) in
       sym (not_lists parts c.requires c.in-Some.blocks linked c.in-Some-look_at_chains.tally chained (not-false _ c.if-not-tally.false) (eq-eqb _ _ c.if-tally-blocks.false) (not-false _ c.if-not-tally-2.false) listed);
   read = search rules;
 }
@@ -50,7 +50,7 @@ returns-then-listed-blocks g c = record {
       let parts : Parts = g.T.HasParts.parts c.args.table.now in
       let linked = sym c.in-Some.ensures.value in
       let chained = sym (c.in-Some-look_at_chains.ensures.value ∙ ap chains_found c.look_at_links.ensures.read.same) in
-      let listed = sym (c.in-Some-look_at_lists.ensures.value ∙ ap lists_found (c.look_at_chains.ensures.read.same ∙ c.look_at_links.ensures.read.same)) in
+      let listed = sym (c.in-Some-look_at_lists.ensures.value ∙ ap (λ (p : Parts). lists_with p 0 0 p.heads) (c.look_at_chains.ensures.read.same ∙ c.look_at_links.ensures.read.same)) in
       sym (not_on_lists parts c.requires c.in-Some.blocks linked c.in-Some-look_at_chains.tally chained (not-false _ c.if-not-tally.false) (eq-eqb _ _ c.if-tally-blocks.false) (not-false _ c.if-not-tally-2.false) c.in-Some-look_at_lists.listed listed (ne_eqb _ _ c.if-listed-blocks.true));
   read = search rules;
 }
@@ -61,7 +61,7 @@ returns g c = record {
       let parts : Parts = g.T.HasParts.parts c.args.table.now in
       let linked = sym c.in-Some.ensures.value in
       let chained = sym (c.in-Some-look_at_chains.ensures.value ∙ ap chains_found c.look_at_links.ensures.read.same) in
-      let listed = sym (c.in-Some-look_at_lists.ensures.value ∙ ap lists_found (c.look_at_chains.ensures.read.same ∙ c.look_at_links.ensures.read.same)) in
+      let listed = sym (c.in-Some-look_at_lists.ensures.value ∙ ap (λ (p : Parts). lists_with p 0 0 p.heads) (c.look_at_chains.ensures.read.same ∙ c.look_at_links.ensures.read.same)) in
       sym (none_broken parts c.requires c.in-Some.blocks linked c.in-Some-look_at_chains.tally chained (not-false _ c.if-not-tally.false) (eq-eqb _ _ c.if-tally-blocks.false) (not-false _ c.if-not-tally-2.false) c.in-Some-look_at_lists.listed listed (eq-eqb _ _ c.if-listed-blocks.false));
   read = search rules;
 }
