@@ -40,8 +40,8 @@ HasFewRecords content = content.records ≤ 2 * live_blocks content + length con
 abbrev pub HasFewRecordsAndOne : {A : Type 0} → Content A → Type 0
 HasFewRecordsAndOne content = content.records ≤ 2 * live_blocks content + length content.pools + 1
 
--- Blocks are aligned, and each two disjoint. Each free one stands in its class's list once, and what stands in a class's list
--- is the place of a free block of that class.
+-- Blocks are aligned, and each two disjoint. Each free one stands in its class's list once. What stands in a class's list is
+-- the place of a free block of that class.
 pub record IsLaidOut {A : Type 0} (content : Content A) : Type 0 where
   pub aligned : All IsAligned (blocks_of content.pools)
   pub disjoint : AllPairs AreDisjoint (blocks_of content.pools)
