@@ -5,7 +5,7 @@ ghost use Rattle.std.specs.List.{list_all};
 ghost use Rattle.arrayvec.specs.ArrayVec.{array_vec_len};
 ghost use Rattle.tlsf_store.specs.Cells.{most_pools};
 ghost use Rattle.tlsf_heap.specs.Pools.{end_of_places};
-ghost use Rattle.tlsf_heap.specs.Inner.Entries.{entries_of, with_entries, is_entry_apart};
+ghost use Rattle.tlsf_heap.specs.Inner.Entries.{entries_of, padded_at, with_entries, is_entry_apart};
 ghost use Rattle.tlsf_store.specs.CountedCells.{LeavesAfter};
 
 use arrayvec::ArrayVec;
@@ -27,6 +27,13 @@ pub(crate) fn entries(store: &mut Store) -> ArrayVec<Pool, MOST_POOLS>
     entries
 }
 
+/// The pool of this number; none behind the last entry.
+fn pool_at(entries: &[Pool], number: usize) -> Option<Pool>
+    ensures { result ≡ padded_at entries.now number }
+{
+    entries.get(number).copied()
+}
+
 /// Writes these entries, and none behind them. One touch an entry.
 pub(crate) fn set_entries(store: &mut Store, entries: &[Pool])
     requires count { length store.old.cells.pools ≡ most_pools }
@@ -35,7 +42,7 @@ pub(crate) fn set_entries(store: &mut Store, entries: &[Pool])
     ensures { LeavesAfter (with_entries entries.now store.old.cells) most_pools store.old store.new }
 {
     for number in 0..MOST_POOLS {
-        store.set_pool(number as u32, entries.get(number).copied());
+        store.set_pool(number as u32, pool_at(entries, number));
     }
 }
 

@@ -1,14 +1,11 @@
 use Rattle.std.proofs.Common.{rules, ◌≡◌, length, ap, ◌∙◌, arith}
 use Rattle.tlsf_store.specs.Cells.{most_pools}
-use Rattle.std.proofs.lemmas.Grind.{common_steps}
-use Rattle.tlsf_heap.specs.Inner.Entries.{padded_at}
 use Rattle.tlsf_heap.proofs.Inner.EntryLists.{padded_at-below, written_is_padded}
 use Rattle.tlsf_heap.proofs.entries.set_entries.Goals as goal
 
 pub set_pool-requires-clause-below : goal.set_pool-requires-clause-below
 set_pool-requires-clause-below c =
-    let at : c.copied.result ≡ padded_at c.args.entries.now c.loop-number.number = grind (arith, common_steps) in
-    rw (c.loop-number.invariant.rest, at) (padded_at-below (length c.args.store.now.cells.records) c.args.entries.now c.loop-number.number c.requires.below)
+    rw (c.loop-number.invariant.rest, c.pool_at.ensures) (padded_at-below (length c.args.store.now.cells.records) c.args.entries.now c.loop-number.number c.requires.below)
 
 pub returns : goal.returns
 returns c = record {
