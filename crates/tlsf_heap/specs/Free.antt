@@ -20,14 +20,12 @@ module _ {A : Type 0} where
 
   -- the block before the one at the place, and the one after it
   abbrev pub previous_of : ℕ → List (Block A) → Option (Block A)
-  previous_of place [] = None
-  previous_of place (block ∷ []) = None
   previous_of place (block ∷ next ∷ blocks) = if is_at place next then Some block else previous_of place (next ∷ blocks)
+  previous_of place blocks = None
 
   abbrev pub next_of : ℕ → List (Block A) → Option (Block A)
-  next_of place [] = None
-  next_of place (block ∷ []) = None
   next_of place (block ∷ next ∷ blocks) = if is_at place block then Some next else next_of place (next ∷ blocks)
+  next_of place blocks = None
 
   -- the block, where it is free
   abbrev pub if_free : Option (Block A) → Option (Block A)

@@ -4,8 +4,5 @@ pub mod Links
 pub mod Rules
 pub mod Writing
 pub mod Findings
-pub mod Told
 pub mod Bitmaps
-pub mod Whole
-pub mod HasParts
 pub mod Described

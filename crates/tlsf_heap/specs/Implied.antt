@@ -15,22 +15,6 @@ IsAligned block = (block.place % unit ≡ 0) × (block.size % unit ≡ 0)
 abbrev pub AreDisjoint : {A : Type 0} → Block A → Block A → Type 0
 AreDisjoint block other = (block.place + block.size ≤ other.place) ⊎ (other.place + other.size ≤ block.place)
 
--- every block is aligned
-abbrev pub HasAlignedBlocks : {A : Type 0} → Content A → Type 0
-HasAlignedBlocks content = All IsAligned (blocks_of content.pools)
-
--- each two blocks are disjoint
-abbrev pub HasDisjointBlocks : {A : Type 0} → Content A → Type 0
-HasDisjointBlocks content = AllPairs AreDisjoint (blocks_of content.pools)
-
--- each free block stands in its class's list once
-abbrev pub ListsFreeBlocks : {A : Type 0} → Content A → Type 0
-ListsFreeBlocks content = All (λ block. IsTrue (is_free block) → times block.place (list_of (class block.size) content.lists) ≡ 1) (blocks_of content.pools)
-
--- what stands in a class's list is the place of a free block of that class
-abbrev pub ListsNothingElse : {A : Type 0} → Content A → Type 0
-ListsNothingElse content = (number place : ℕ) → number < classes → 0 < times place (list_of number content.lists) → Any (λ block. IsTrue (is_listed number place block)) (blocks_of content.pools)
-
 -- each free block is smaller than this many bytes
 abbrev pub AreFreeBelow : {A : Type 0} → ℕ → List (Block A) → Type 0
 AreFreeBelow bytes blocks = All (λ block. IsTrue (is_free block) → block.size < bytes) blocks
@@ -56,9 +40,10 @@ HasFewRecords content = content.records ≤ 2 * live_blocks content + length con
 abbrev pub HasFewRecordsAndOne : {A : Type 0} → Content A → Type 0
 HasFewRecordsAndOne content = content.records ≤ 2 * live_blocks content + length content.pools + 1
 
--- blocks are aligned and apart, and the lists have each free one once and nothing else
+-- Blocks are aligned, and each two disjoint. Each free one stands in its class's list once. What stands in a class's list is
+-- the place of a free block of that class.
 pub record IsLaidOut {A : Type 0} (content : Content A) : Type 0 where
-  pub aligned : HasAlignedBlocks content
-  pub disjoint : HasDisjointBlocks content
-  pub listed_once : ListsFreeBlocks content
-  pub listed_alone : ListsNothingElse content
+  pub aligned : All IsAligned (blocks_of content.pools)
+  pub disjoint : AllPairs AreDisjoint (blocks_of content.pools)
+  pub listed_once : All (λ block. IsTrue (is_free block) → times block.place (list_of (class block.size) content.lists) ≡ 1) (blocks_of content.pools)
+  pub listed_alone : (number place : ℕ) → number < classes → 0 < times place (list_of number content.lists) → Any (λ block. IsTrue (is_listed number place block)) (blocks_of content.pools)

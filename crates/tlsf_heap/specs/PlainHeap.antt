@@ -2,7 +2,6 @@
 use Rattle.std.specs.Prelude.{◌≡◌, ◌≢◌, ◌≤◌, ◌+◌, ◌-◌, ℕ, Result, Err, IfOk, IfErr, Option, None, Some, List, [], ◌∷◌, map, drop, length, option_map, Vec, if◌then◌else◌, ◌==◌, nat_lt}
 use Rattle.std.specs.List.{filter_map}
 use Rattle.std.specs.declared.alloc.Global.{Global}
-use Rattle.tlsf_heap.specs.declared.cursor.Cursor.{Cursor}
 use Rattle.tlsf_heap.specs.declared.row.Row.{Row}
 use Rattle.tlsf_heap.specs.declared.refusal.Refusal.{Refusal}
 use Rattle.tlsf_heap.specs.declared.refusal.Refusal.TheVariants.{OutOfMemory}
@@ -58,7 +57,3 @@ first_of base (pool ∷ pools) = if pool.base == base then Some 0 else option_ma
 abbrev pub rows_at : Option ℕ → List (Pool ℕ) → List Row
 rows_at None pools = []
 rows_at (Some number) pools = map row_of (blocks_from number pools)
-
--- the rows from the cursor on
-abbrev pub cursor_rows : Content ℕ → Cursor → List Row
-cursor_rows content cursor = rows_at cursor.next content.pools

@@ -1,57 +1,17 @@
 -- Requests and their answers, one after the other.
-use Rattle.std.specs.Prelude.{◌≡◌, ◌≢◌, ℕ, Bool, true, false, ◌+◌, ◌≤◌, List, [], ◌∷◌, Option, Ok, Err}
+use Rattle.std.specs.Prelude.{◌≡◌, ◌≢◌, ℕ, Bool, true, false, ◌+◌, ◌≤◌, List, [], ◌∷◌, Ok, Err}
 use Rattle.tlsf_heap.specs.declared.request.Request.{Request}
 use Rattle.tlsf_heap.specs.declared.request.Request.TheVariants.{AddPool, RemovePool, Malloc, Memalign, Free, Realloc, BlockSize}
 use Rattle.tlsf_heap.specs.declared.answer.Answer.{Answer}
 use Rattle.tlsf_heap.specs.declared.answer.Answer.TheVariants.{Done, Given, Moved, Size, Refused}
 use Rattle.tlsf_heap.specs.declared.refusal.Refusal.{Refusal}
 use Rattle.tlsf_heap.specs.declared.refusal.Refusal.TheVariants.{OutOfMemory}
-use Rattle.tlsf_heap.specs.Pointer.{Pointer, free_ptr, realloc_ptr, block_size_ptr}
+use Rattle.tlsf_heap.specs.Pointer.{free_ptr, realloc_ptr, block_size_ptr}
 use Rattle.tlsf_heap.specs.Content.{Content}
 use Rattle.tlsf_heap.specs.Served.{IsServed, IsMoved}
 use Rattle.tlsf_heap.specs.Malloc.{malloc}
 use Rattle.tlsf_heap.specs.Memalign.{memalign}
 use Rattle.tlsf_heap.specs.Pools.{add_pool, remove_pool}
-
--- the request is done, and answers nothing more
-abbrev pub Does : Request → Content ℕ → Content ℕ → Type 0
-Does (AddPool base bytes) old new = add_pool base bytes old ≡ Ok new
-Does (RemovePool base) old new = remove_pool base old ≡ Ok new
-Does (Malloc n) old new = ⊥
-Does (Memalign align n) old new = ⊥
-Does (Free pointer) old new = free_ptr pointer old ≡ Ok new
-Does (Realloc pointer n) old new = ⊥
-Does (BlockSize pointer) old new = ⊥
-
--- the request is given a block
-abbrev pub Gives : Request → Pointer → Content ℕ → Content ℕ → Type 0
-Gives (AddPool base bytes) pointer old new = ⊥
-Gives (RemovePool base) pointer old new = ⊥
-Gives (Malloc n) pointer old new = IsServed (λ slot. malloc slot n) pointer old new
-Gives (Memalign align n) pointer old new = IsServed (λ slot. memalign slot align n) pointer old new
-Gives (Free freed) pointer old new = ⊥
-Gives (Realloc of n) pointer old new = ⊥
-Gives (BlockSize of) pointer old new = ⊥
-
--- the request is told where the block is now
-abbrev pub Moves : Request → Option Pointer → Content ℕ → Content ℕ → Type 0
-Moves (AddPool base bytes) given old new = ⊥
-Moves (RemovePool base) given old new = ⊥
-Moves (Malloc n) given old new = ⊥
-Moves (Memalign align n) given old new = ⊥
-Moves (Free pointer) given old new = ⊥
-Moves (Realloc pointer n) given old new = IsMoved (realloc_ptr pointer n) pointer given old new
-Moves (BlockSize pointer) given old new = ⊥
-
--- the request is told a size
-abbrev pub Tells : Request → ℕ → Content ℕ → Content ℕ → Type 0
-Tells (AddPool base bytes) size old new = ⊥
-Tells (RemovePool base) size old new = ⊥
-Tells (Malloc n) size old new = ⊥
-Tells (Memalign align n) size old new = ⊥
-Tells (Free pointer) size old new = ⊥
-Tells (Realloc pointer n) size old new = ⊥
-Tells (BlockSize pointer) size old new = (block_size_ptr pointer old ≡ Ok size) × (new ≡ old)
 
 -- the request is to be refused, whatever slot a block were given
 abbrev pub IsRefused : Request → Refusal → Content ℕ → Type 0
@@ -65,23 +25,22 @@ IsRefused (BlockSize pointer) refusal content = block_size_ptr pointer content �
 
 -- whether the request changes nothing, and so needs no memory
 abbrev pub is_reading : Request → Bool
-is_reading (AddPool base bytes) = false
-is_reading (RemovePool base) = false
-is_reading (Malloc n) = false
-is_reading (Memalign align n) = false
-is_reading (Free pointer) = false
-is_reading (Realloc pointer n) = false
 is_reading (BlockSize pointer) = true
+is_reading request = false
 
--- one request and its answer. A refusal changes nothing. Each but OutOfMemory is the one that the
--- request has on the content. OutOfMemory comes only where memory may be lacking, and never for a
--- reading
+-- one request and its answer: it is done, is given a block, is told where the block is now, or its size. A refusal changes
+-- nothing. Each but OutOfMemory is the one that the request has on the content. OutOfMemory comes only where memory may be
+-- lacking, and never for a reading
 abbrev pub Step : (lacks : Type 0) → Request → Answer → Content ℕ → Content ℕ → Type 0
-Step lacks request Done old new = Does request old new
-Step lacks request (Given pointer) old new = Gives request pointer old new
-Step lacks request (Moved given) old new = Moves request given old new
-Step lacks request (Size bytes) old new = Tells request bytes old new
 Step lacks request (Refused refusal) old new = (new ≡ old) × (refusal ≢ OutOfMemory → IsRefused request refusal old) × (refusal ≡ OutOfMemory → lacks × (is_reading request ≡ false))
+Step lacks (AddPool base bytes) Done old new = add_pool base bytes old ≡ Ok new
+Step lacks (RemovePool base) Done old new = remove_pool base old ≡ Ok new
+Step lacks (Malloc n) (Given pointer) old new = IsServed (λ slot. malloc slot n) pointer old new
+Step lacks (Memalign align n) (Given pointer) old new = IsServed (λ slot. memalign slot align n) pointer old new
+Step lacks (Free pointer) Done old new = free_ptr pointer old ≡ Ok new
+Step lacks (Realloc pointer n) (Moved given) old new = IsMoved (realloc_ptr pointer n) pointer given old new
+Step lacks (BlockSize pointer) (Size bytes) old new = (block_size_ptr pointer old ≡ Ok bytes) × (new ≡ old)
+Step lacks request answer old new = ⊥
 
 -- how often the table is touched for a request, at most
 abbrev pub most_touches : Request → ℕ
@@ -97,8 +56,7 @@ most_touches (BlockSize pointer) = 4
 -- falls, and rises by no more than the request may
 abbrev pub Run : (lacks : Type 0) → List Request → List Answer → (old new : Content ℕ) → (before after : ℕ) → Type 0
 Run lacks [] [] old new before after = (new ≡ old) × (after ≡ before)
-Run lacks [] (answer ∷ answers) old new before after = ⊥
-Run lacks (request ∷ requests) [] old new before after = ⊥
 Run lacks (request ∷ requests) (answer ∷ answers) old new before after =
     (mid : Content ℕ) × (count : ℕ) × Step lacks request answer old mid × (before ≤ count) × (count ≤ before + most_touches request)
     × Run lacks requests answers mid new count after
+Run lacks requests answers old new before after = ⊥

@@ -23,12 +23,9 @@ sure_records blocks = 2 * blocks + 3
 abbrev pub table_bytes : ℕ → ℕ
 table_bytes records = 16 * records + 1696
 
--- one pool of a unit more than may refuse; none above the greatest pool, or where there can't be as many records
-abbrev pub sure_pool_of : (blocks bytes size : ℕ) → Option ℕ
-sure_pool_of blocks bytes size =
+-- one pool of a unit more than may refuse; none above the greatest pool, where there can't be as many records, or no class
+abbrev pub sure_pool : (blocks bytes : ℕ) → Option ℕ → Option ℕ
+sure_pool blocks bytes None = None
+sure_pool blocks bytes (Some size) =
     if nat_le (sure_records blocks) most_records && nat_le (most_refusing 1 blocks bytes size + unit) greatest_size
     then Some (most_refusing 1 blocks bytes size + unit) else None
-
--- the same, where there is a class
-abbrev pub sure_pool : (blocks bytes : ℕ) → Option ℕ → Option ℕ
-sure_pool blocks bytes size = option_and_then (sure_pool_of blocks bytes) size

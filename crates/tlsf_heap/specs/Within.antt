@@ -1,9 +1,9 @@
 -- Runs that stay within bounds told beforehand: of live blocks, of the bytes in them, and of what a request asks the lists for.
-use Rattle.std.specs.Prelude.{◌≡◌, ◌≢◌, ℕ, ◌+◌, ◌*◌, ◌<◌, ◌≤◌, List, [], ◌∷◌, length, Some, ⊤}
+use Rattle.std.specs.Prelude.{◌≡◌, ◌≢◌, ℕ, ◌+◌, ◌*◌, ◌<◌, ◌≤◌, List, ◌∷◌, length, Some, ⊤}
 use Rattle.tlsf_class.specs.Classes.{low, need}
 use Rattle.tlsf_class.specs.Rounding.{round}
 use Rattle.tlsf_heap.specs.declared.request.Request.{Request}
-use Rattle.tlsf_heap.specs.declared.request.Request.TheVariants.{AddPool, RemovePool, Malloc, Memalign, Free, Realloc, BlockSize}
+use Rattle.tlsf_heap.specs.declared.request.Request.TheVariants.{AddPool, RemovePool, Malloc, Memalign, Realloc}
 use Rattle.tlsf_heap.specs.declared.answer.Answer.{Answer}
 use Rattle.tlsf_heap.specs.declared.answer.Answer.TheVariants.{Refused}
 use Rattle.tlsf_heap.specs.declared.refusal.Refusal.TheVariants.{NoFit, TableFull}
@@ -35,17 +35,14 @@ IsWithin blocks bytes size (AddPool base pool) content = ⊥
 IsWithin blocks bytes size (RemovePool base) content = ⊥
 IsWithin blocks bytes size (Malloc n) content = n ≢ 0 → TakesWithin blocks bytes size (λ m. m) n content
 IsWithin blocks bytes size (Memalign align n) content = n ≢ 0 → TakesWithin blocks bytes size (size_asked align) n content
-IsWithin blocks bytes size (Free pointer) content = ⊤
 IsWithin blocks bytes size (Realloc pointer n) content = n ≢ 0 → TakesWithin blocks bytes size (λ m. m) n content
-IsWithin blocks bytes size (BlockSize pointer) content = ⊤
+IsWithin blocks bytes size request content = ⊤
 
 -- each request of the run keeps to the bounds, on the content that the one before left
 abbrev pub StaysWithin : (blocks bytes size : ℕ) (lacks : Type 0) (requests : List Request) (answers : List Answer) (old new : Content ℕ) (before after : ℕ) → Run lacks requests answers old new before after → Type 0
-StaysWithin blocks bytes size lacks [] [] old new before after run = ⊤
-StaysWithin blocks bytes size lacks [] (answer ∷ answers) old new before after run = ⊤
-StaysWithin blocks bytes size lacks (request ∷ requests) [] old new before after run = ⊤
 StaysWithin blocks bytes size lacks (request ∷ requests) (answer ∷ answers) old new before after run =
     IsWithin blocks bytes size request old × StaysWithin blocks bytes size lacks requests answers run.0 new run.1 after run.5
+StaysWithin blocks bytes size lacks requests answers old new before after run = ⊤
 
 -- The pools have more bytes than may refuse. There are more records than two for each of the `blocks`, one for each pool, and
 -- one.

@@ -6,16 +6,16 @@ ghost use Rattle.tlsf_store.specs.Cells.{most_pools};
 ghost use Rattle.tlsf_heap.specs.Touches.{AtMost, add_pool_touches};
 ghost use Rattle.tlsf_heap.specs.Inner.Edits.{IsUsed};
 ghost use Rattle.tlsf_heap.specs.Pools.{can_be_pool, add_pool};
-ghost use Rattle.tlsf_heap.specs.Inner.Entries.{entries_of, is_entry_apart, free_record};
-ghost use Rattle.tlsf_heap.specs.Inner.Nodes.{Layout};
+ghost use Rattle.tlsf_heap.specs.Inner.Entries.{entries_of, is_entry_apart};
+ghost use Rattle.tlsf_heap.specs.Inner.Nodes.{Layout, pool_laid};
 ghost use Rattle.tlsf_heap.specs.Inner.Represents.{Represents};
 ghost use Rattle.tlsf_heap.specs.Inner.Following.{Stands};
 ghost use Rattle.tlsf_heap.specs.Inner.Answers.{AnswersOver};
-ghost use Rattle.tlsf_heap.specs.Inner.Entering.{pool_laid};
 
 use crate::Refusal;
 use crate::entries::{entries, entries_with, first_behind, is_apart, set_entries};
 use crate::free_lists::link;
+use crate::image::VACANT;
 use tlsf_class::class_of;
 use tlsf_store::{Pool, Record, State, Store, can_be_pool};
 
@@ -71,22 +71,13 @@ fn put_pool(store: &mut Store, entries: &[Pool], entry: Pool)
     let Pool { base, bytes, first } = entry;
     let place = first_behind(entries, base).unwrap_or(entries.len());
     let all = entries_with(entries, place, entry);
-    store.write(first, free_block(base, bytes));
+    let block = Record {
+        place: base,
+        size: bytes,
+        state: State::Free,
+        ..VACANT
+    };
+    store.write(first, block);
     set_entries(store, all.as_slice());
     link(store, class_of(bytes), first);
-}
-
-/// The record of a free block without neighbours.
-fn free_block(place: u32, size: u32) -> Record
-    ensures { result ≡ free_record place size }
-{
-    Record {
-        place,
-        size,
-        state: State::Free,
-        prev: None,
-        next: None,
-        prev_free: None,
-        next_free: None,
-    }
 }

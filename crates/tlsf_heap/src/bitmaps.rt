@@ -3,7 +3,7 @@
 
 ghost use Rattle.std.specs.Prelude.{◌≡◌, ◌<◌, ◌≤◌, ◌^◌};
 ghost use Rattle.tlsf_class.specs.Classes.{levels};
-ghost use Rattle.tlsf_heap.specs.Inner.Edits.{with_bit, without_bit, with_class_bit, without_class_bit, with_level_cleared};
+ghost use Rattle.tlsf_heap.specs.Inner.Edits.{with_bit, without_bit, with_class_bit, without_class_bit};
 ghost use Rattle.tlsf_store.specs.CountedCells.{LeavesAfter};
 ghost use Rattle.tlsf_heap.specs.Inner.Answers.{Leaves};
 
@@ -47,14 +47,6 @@ pub(crate) fn clear_class_bit(store: &mut Store, class: Class)
     let level = class.number() / STEPS;
     let word = clear_bit(store.step_word(level), class.number() % STEPS);
     store.set_step_word(level, word);
-    clear_level(store, level, word);
-}
-
-/// Clears the bit of a first level where its step word is 0. At most two touches.
-fn clear_level(store: &mut Store, level: u32, word: u32)
-    requires { level < levels }
-    ensures { Leaves (with_level_cleared level word store.old.cells) 2 store.old store.new }
-{
     if word == 0 {
         let levels = store.level_word();
         store.set_level_word(clear_bit(levels, level));

@@ -1,14 +1,15 @@
 //! The chain of a pool: its blocks in order of place, linked both ways.
 
-ghost use Rattle.std.specs.Prelude.{◌≡◌, ◌≢◌, ◌+◌, ◌%◌, ◌<◌, ◌≤◌, length, Some, None};
+ghost use Rattle.std.specs.Prelude.{◌≡◌, ◌≢◌, ◌+◌, ◌%◌, ◌<◌, ◌≤◌, length, Some};
 ghost use Rattle.tlsf_class.specs.Classes.{unit};
 ghost use Rattle.tlsf_store.specs.declared.records.State.TheVariants.{Vacant};
 ghost use Rattle.tlsf_heap.specs.Pools.{end_of_places};
 ghost use Rattle.tlsf_heap.specs.Inner.Edits.{IsUsed, with_prev, with_state};
-ghost use Rattle.tlsf_heap.specs.Inner.Spans.{IsRead, split_by, merged_behind_by};
+ghost use Rattle.tlsf_heap.specs.Inner.Spans.{IsRead, split_by};
 ghost use Rattle.tlsf_store.specs.CountedCells.{LeavesAfter};
 ghost use Rattle.tlsf_heap.specs.Inner.Answers.{Leaves};
 
+use crate::image::VACANT;
 use crate::span::Span;
 use tlsf_store::{Record, Slot, State, Store};
 
@@ -25,7 +26,7 @@ pub(crate) fn turn(store: &mut Store, block: &Span, state: State)
 }
 
 /// Links a block, if there is one, to the one in front of it in its pool. At most one touch.
-fn set_prev(store: &mut Store, slot: Option<Slot>, prev: Slot)
+pub(crate) fn set_prev(store: &mut Store, slot: Option<Slot>, prev: Slot)
     requires used { IsUsed store.old.cells.records slot }
     requires below { prev < length store.old.cells.records }
     ensures { Leaves (with_prev slot (Some prev) store.old.cells) 1 store.old store.new }
@@ -63,25 +64,9 @@ pub(crate) fn split(
         state: back,
         prev: Some(block.slot),
         next: block.next,
-        prev_free: None,
-        next_free: None,
+        ..VACANT
     };
     store.write(rest, left);
     store.set_block(block.slot, bytes, front, Some(rest));
     set_prev(store, block.next, rest);
-}
-
-/// A block in this state is merged with the one behind it, whose slot becomes vacant. It is then what `merged`
-/// says. At most five touches.
-pub(crate) fn merge_behind(store: &mut Store, merged: &Span, state: State, behind: Slot)
-    requires slot_used { IsUsed store.old.cells.records (Some merged.now.slot) }
-    requires behind_used { IsUsed store.old.cells.records (Some behind) }
-    requires next_used { IsUsed store.old.cells.records merged.now.next }
-    requires new_used { state ≢ Vacant }
-    requires in_units { merged.now.size % unit ≡ 0 }
-    ensures { Leaves (merged_behind_by merged.now state behind store.old.cells) 5 store.old store.new }
-{
-    store.set_block(merged.slot, merged.size, state, merged.next);
-    set_prev(store, merged.next, merged.slot);
-    store.give_vacant(behind);
 }

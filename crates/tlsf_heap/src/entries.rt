@@ -1,11 +1,11 @@
 //! The pool entries of a store, in order of base.
 
-ghost use Rattle.std.specs.Prelude.{◌≡◌, ◌≢◌, ◌+◌, ◌<◌, ◌≤◌, ◌++◌, [], length, map, insert, remove, All, ◌∷◌, IfSome, IfNone, nat_lt, position, slice_index_or};
+ghost use Rattle.std.specs.Prelude.{◌≡◌, ◌≢◌, ◌+◌, ◌<◌, ◌≤◌, ◌++◌, length, insert, remove, All, IfSome, IfNone, nat_lt, position, slice_index_or};
 ghost use Rattle.std.specs.List.{list_all};
 ghost use Rattle.arrayvec.specs.ArrayVec.{array_vec_len};
 ghost use Rattle.tlsf_store.specs.Cells.{most_pools};
 ghost use Rattle.tlsf_heap.specs.Pools.{end_of_places};
-ghost use Rattle.tlsf_heap.specs.Inner.Entries.{entries_of, padded_at, with_entries, is_entry_apart, entry_range};
+ghost use Rattle.tlsf_heap.specs.Inner.Entries.{entries_of, padded_at, with_entries, is_entry_apart};
 ghost use Rattle.tlsf_store.specs.CountedCells.{LeavesAfter};
 
 use arrayvec::ArrayVec;
@@ -20,19 +20,11 @@ pub(crate) fn entries(store: &mut Store) -> ArrayVec<Pool, MOST_POOLS>
 {
     let mut entries = ArrayVec::new();
     for number in 0..MOST_POOLS as u32 {
-        push_entry(&mut entries, store.pool(number));
+        if let Some(pool) = store.pool(number) {
+            entries.push(pool);
+        }
     }
     entries
-}
-
-/// Appends an entry, if there is one.
-fn push_entry(entries: &mut ArrayVec<Pool, MOST_POOLS>, pool: Option<Pool>)
-    requires { array_vec_len entries.old < most_pools }
-    ensures items { entries.new.items ≡ entries.old.items ++ entries_of (pool ∷ []) }
-{
-    if let Some(pool) = pool {
-        entries.push(pool);
-    }
 }
 
 /// The pool of this number; none behind the last entry.
@@ -121,16 +113,4 @@ pub(crate) fn pool_number(entries: &[Pool], base: u64) -> Option<usize>
     entries
         .iter()
         .position(|entry| u64::from(entry.base) == base)
-}
-
-/// Where the pools of the entries begin and how many bytes they have.
-pub(crate) fn pool_ranges(entries: &[Pool]) -> ArrayVec<(u64, u64), MOST_POOLS>
-    requires { length entries.now ≤ most_pools }
-    ensures { result.items ≡ map entry_range entries.now }
-{
-    let mut ranges = ArrayVec::new();
-    for entry in entries {
-        ranges.push((u64::from(entry.base), u64::from(entry.bytes)));
-    }
-    ranges
 }

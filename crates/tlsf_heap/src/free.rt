@@ -15,7 +15,7 @@ ghost use Rattle.tlsf_heap.specs.Inner.At.{At, StandsAt, previous_merged, next_m
 ghost use Rattle.tlsf_heap.specs.Inner.Spans.{IsRead, IsRecordOf, CanMerge, merged_by};
 ghost use Rattle.tlsf_heap.specs.Inner.Answers.{AnswersOver, Leaves};
 
-use crate::chains::{merge_behind, turn};
+use crate::chains::{set_prev, turn};
 use crate::free_lists::{link, unlink};
 use crate::span::Span;
 use crate::{Ptr, Refusal};
@@ -146,7 +146,9 @@ fn merge(store: &mut Store, merged: &Span, state: State, behind: Slot, listed: &
     ensures { Leaves (merged_by merged.now state behind listed.now store.old.cells) 10 store.old store.new }
 {
     unlink(store, class_of(listed.size), listed);
-    merge_behind(store, merged, state, behind);
+    store.set_block(merged.slot, merged.size, state, merged.next);
+    set_prev(store, merged.next, merged.slot);
+    store.give_vacant(behind);
 }
 
 /// The block of `size` bytes, which is free and in no list, enters its class's list. At most eight

@@ -1,10 +1,9 @@
 //! The heap.
 
 use crate::add_pool::add_pool;
-use crate::check::check;
-use crate::entries::{entries, pool_ranges};
+use crate::entries::entries;
 use crate::free::free;
-use crate::image::{Image, put_image};
+use crate::image::{Image, is_whole, put_image};
 use crate::load::stored;
 use crate::malloc::malloc;
 use crate::memalign::memalign;
@@ -282,7 +281,11 @@ impl Heap {
         ensures read { Reads 8 self.old self.new }
     {
         let entries = entries(&mut self.store);
-        pool_ranges(entries.as_slice())
+        let mut ranges = ArrayVec::new();
+        for entry in entries.as_slice() {
+            ranges.push((u64::from(entry.base), u64::from(entry.bytes)));
+        }
+        ranges
     }
 
     /// The cursor at the first row of the pool that begins at the place `base`. Four touches.
@@ -351,7 +354,7 @@ impl Heap {
         ensures unchanged { IsUnchanged self.old self.new }
         ensures each_read { self.old.touches + self.old.content.records < self.new.touches }
     {
-        check(&mut self.store)
+        is_whole(&mut self.store)
     }
 
     /// Says what every heap keeps, and does nothing. Its pools are covered by their blocks end to end, and

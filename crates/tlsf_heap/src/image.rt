@@ -1,8 +1,8 @@
 //! Images of a heap: what stands where in their bytes, the twelve rules that tell whether bytes are one, and how one is written.
 
-ghost use Rattle.std.specs.Prelude.{◌≡◌, ◌+◌, ◌%◌, ◌<◌, ◌≤◌, IfErr, IfOk, IfSome, None, Some, length};
-ghost use Rattle.tlsf_class.specs.Classes.{unit, classes};
-ghost use Rattle.tlsf_heap.specs.Images.Image.{parts_in, state_of, record_start, record_in, head_in};
+ghost use Rattle.std.specs.Prelude.{◌≡◌, ◌+◌, ◌%◌, ◌<◌, ◌≤◌, IfErr, IfOk, None, Some, length};
+ghost use Rattle.tlsf_class.specs.Classes.{unit};
+ghost use Rattle.tlsf_heap.specs.Images.Image.{parts_in, record_start, record_in};
 ghost use Rattle.tlsf_heap.specs.Images.Rules.{first_broken, IsReadable};
 
 mod bitmaps;
@@ -62,8 +62,20 @@ impl<'a> Image<'a> {
         ensures whole { IfOk result (λ image. first_broken bytes.now ≡ None) }
         ensures bytes { IfOk result (λ image. image ≡ bytes.now) }
     {
-        if let Some(rule) = unreadable(bytes) {
-            return Err(rule);
+        if !has_magic(bytes) {
+            return Err(Rule::Magic);
+        }
+        if !has_length(bytes) {
+            return Err(Rule::Length);
+        }
+        if !has_pools(bytes) {
+            return Err(Rule::Pools);
+        }
+        if !has_unused_pools(bytes) {
+            return Err(Rule::UnusedPools);
+        }
+        if !has_states(bytes) {
+            return Err(Rule::States);
         }
         let mut image = Image { bytes };
         match first_behind_pools(&mut image) {
@@ -71,36 +83,6 @@ impl<'a> Image<'a> {
             None => Ok(Image { bytes }),
         }
     }
-}
-
-/// The first rule, of those up to that of states, that the bytes break.
-fn unreadable(bytes: &[u8]) -> Option<Rule>
-    ensures broken { IfSome result (λ rule. first_broken bytes.now ≡ Some rule) }
-    ensures readable { result ≡ None → IsReadable bytes.now }
-{
-    if !has_magic(bytes) {
-        return Some(Rule::Magic);
-    }
-    if !has_length(bytes) {
-        return Some(Rule::Length);
-    }
-    if !has_pools(bytes) {
-        return Some(Rule::Pools);
-    }
-    if !has_unused_pools(bytes) {
-        return Some(Rule::UnusedPools);
-    }
-    if !has_states(bytes) {
-        return Some(Rule::States);
-    }
-    None
-}
-
-/// The state of a block's code.
-fn state_of(code: u32) -> State
-    ensures { result ≡ state_of code }
-{
-    if code == 1 { State::Free } else { State::Live }
 }
 
 /// A vacant record.
@@ -128,21 +110,16 @@ fn record_in(bytes: &[u8], slot: Slot) -> Record
     Record {
         place: four_at(bytes, at),
         size: word - word % UNIT,
-        state: state_of(word % UNIT),
+        state: if word % UNIT == 1 {
+            State::Free
+        } else {
+            State::Live
+        },
         prev: link_of(two_at(bytes, at + 8)),
         next: link_of(two_at(bytes, at + 10)),
         prev_free: link_of(two_at(bytes, at + 12)),
         next_free: link_of(two_at(bytes, at + 14)),
     }
-}
-
-/// The first block of the list of a class.
-fn head_in(bytes: &[u8], class: Class) -> Option<Slot>
-    requires { record_start 0 ≤ length bytes.now }
-    ensures value { result ≡ head_in bytes.now class }
-    ensures within { class < classes }
-{
-    link_of(two_at(bytes, HEADS_AT + HEAD_BYTES * class.number() as usize))
 }
 
 impl<'a> HasParts for Image<'a> {
@@ -165,14 +142,13 @@ impl<'a> HasParts for Image<'a> {
     }
 
     fn head(&mut self, class: Class) -> Option<Slot> {
-        head_in(self.bytes, class)
+        link_of(two_at(self.bytes, HEADS_AT + HEAD_BYTES * class.number() as usize))
     }
 
     fn pool(&mut self, number: u32) -> Option<Pool> {
-        if number < u32::from(two_at(self.bytes, POOLS_AT)) {
-            Some(pool_in(self.bytes, number as usize))
-        } else {
-            None
+        if number >= u32::from(two_at(self.bytes, POOLS_AT)) {
+            return None;
         }
+        Some(pool_in(self.bytes, number as usize))
     }
 }

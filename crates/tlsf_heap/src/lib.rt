@@ -6,7 +6,6 @@ mod add_pool;
 mod answer;
 mod bitmaps;
 mod chains;
-mod check;
 mod cursor;
 mod entries;
 mod free;

@@ -13,16 +13,6 @@ use std::alloc::Global;
 use tlsf_class::{CLASSES, Class};
 use tlsf_store::{MOST_POOLS, Slot, State, Store, StoreError};
 
-/// Takes each vacant record for a free block to come. Two touches each, and two more.
-fn take_all(store: &mut Store)
-    ensures none { vacant_count store.new.cells.records ≡ 0 }
-    ensures count { length store.new.cells.records ≡ length store.old.cells.records }
-    ensures others { store.new.cells ≡ with_records store.new.cells.records store.old.cells }
-    ensures touches { store.new.touches ≤ store.old.touches + 2 * vacant_count store.old.cells.records + 2 }
-{
-    while store.take_vacant().is_some() {}
-}
-
 /// Writes the records of a table over those of a store, none of which is vacant. At most three touches each.
 fn fill_records<T: HasParts>(store: &mut Store, table: &mut T)
     requires none { vacant_count store.old.cells.records ≡ 0 }
@@ -84,7 +74,7 @@ pub(crate) fn stored<T: HasParts>(alloc: Global, table: &mut T) -> Result<Store,
     ensures memory { IfErr result (λ error. error ≡ OutOfMemory) }
 {
     let mut store = Store::create(alloc, table.count())?;
-    take_all(&mut store);
+    while store.take_vacant().is_some() {}
     fill_records(&mut store, table);
     fill_heads(&mut store, table);
     fill_pools(&mut store, table);

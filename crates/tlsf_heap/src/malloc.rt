@@ -65,9 +65,7 @@ pub(crate) fn pick(store: &mut Store, asked: u32) -> Option<(Class, Slot)>
     ensures found { MatchOption result (pick asked (content_of store.old.cells).lists ≡ None) (λ first. IsPick asked first.0 first.1 store.old.cells) }
     ensures left { Leaves store.old.cells 4 store.old store.new }
 {
-    let Some(class) = class_for(asked) else {
-        return None;
-    };
+    let class = class_for(asked)?;
     search(store, class)
 }
 
@@ -90,26 +88,9 @@ fn take(store: &mut Store, class: Class, slot: Slot, asked: u32) -> Result<Ptr, 
     let Some(rest) = store.take_vacant() else {
         return Err(Refusal::TableFull);
     };
-    take_split(store, class, slot, rest, asked, &block);
+    unlink(store, class, &block);
+    split_off(store, &Span::of(slot, &block), rest, asked);
     Ok(Ptr::new(block.place, slot.0))
-}
-
-/// The first bytes of a free block of this record, which leaves the list of its class, are a live block. What
-/// is left is a free block of the slot `rest`, first in its class's list. At most 16 touches.
-fn take_split(store: &mut Store, class: Class, slot: Slot, rest: Slot, bytes: u32, block: &Record)
-    requires stands { (at : At) × StandsAt slot Listed store.old.cells (with_slot rest at) }
-    requires read { block.now ≡ record_at store.old.cells.records slot }
-    requires of_class { IsOfClass class block.now }
-    requires in_units { block.now.place % unit ≡ 0 }
-    requires some { 0 < bytes }
-    requires less { bytes < block.now.size }
-    requires whole { bytes % unit ≡ 0 }
-    ensures leads { (at : At) → StandsAt slot Listed store.old.cells (with_slot rest at) → StandsAt rest Listed store.new.cells (at_split_off rest bytes (at_taken at)) }
-    ensures touches { AtMost 16 store.old.touches store.new.touches }
-{
-    unlink(store, class, block);
-    let whole = Span::of(slot, block);
-    split_off(store, &whole, rest, bytes);
 }
 
 /// A free block of this record leaves the list of its class and is live. At most six touches.

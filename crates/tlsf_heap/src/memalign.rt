@@ -1,9 +1,9 @@
 //! memalign: the block picked is split, so that a live block begins at a multiple of an alignment.
 
-ghost use Rattle.std.specs.Prelude.{◌≡◌, ℕ, true, ◌+◌, ◌-◌, ◌%◌, ◌^◌, ◌<◌, ◌≤◌, Some, Err, length};
+ghost use Rattle.std.specs.Prelude.{◌≡◌, ℕ, true, ◌+◌, ◌-◌, ◌%◌, ◌^◌, ◌<◌, ◌≤◌, Some, Err};
 ghost use Rattle.std.specs.Int.{next_multiple_of};
 ghost use Rattle.tlsf_class.specs.Classes.{unit, greatest_size};
-ghost use Rattle.tlsf_store.specs.Records.{blank, record_at, vacant_count};
+ghost use Rattle.tlsf_store.specs.Records.{vacant_count};
 ghost use Rattle.tlsf_heap.specs.Touches.{AtMost, memalign_touches};
 ghost use Rattle.tlsf_heap.specs.Content.{IsSize};
 ghost use Rattle.tlsf_heap.specs.Memalign.{is_alignment, size_asked, gap_records, memalign, memalign_rounded};
@@ -111,11 +111,7 @@ pub(crate) fn size_asked(align: u32, bytes: u32) -> u32
     requires is { is_alignment align ≡ true }
     ensures { result ≡ size_asked align bytes }
 {
-    if align <= UNIT {
-        bytes
-    } else {
-        bytes + (align - UNIT)
-    }
+    bytes + align.saturating_sub(UNIT)
 }
 
 /// The least multiple of the alignment at or above a place.

@@ -5,11 +5,10 @@ ghost use Rattle.tlsf_store.specs.Cells.{most_pools};
 ghost use Rattle.tlsf_heap.specs.Touches.{block_size_touches};
 ghost use Rattle.tlsf_heap.specs.Content.{used_records};
 ghost use Rattle.tlsf_heap.specs.Inner.Following.{Stands, content_of};
-ghost use Rattle.tlsf_heap.specs.Inner.Entries.{entries_of};
 ghost use Rattle.tlsf_heap.specs.Rows.{rows_from};
 ghost use Rattle.tlsf_heap.specs.Pointer.{block_size_ptr};
 ghost use Rattle.tlsf_heap.specs.Readings.{FindsRows, GivesRow, TouchesForRow, IsLargestRequest};
-ghost use Rattle.tlsf_heap.specs.Cursors.{rows_by, rows_behind, is_at_row, slot_for, begins_below, slot_if, AreInOrder, IsNarrowed};
+ghost use Rattle.tlsf_heap.specs.Cursors.{rows_by, rows_behind, is_at_row, begins_below, slot_if, AreInOrder, IsNarrowed};
 ghost use Rattle.tlsf_store.specs.CountedCells.{LeavesAfter};
 ghost use Rattle.tlsf_heap.specs.Inner.Answers.{Leaves};
 
@@ -22,7 +21,7 @@ use tlsf_store::{MOST_POOLS, Pool, Slot, Store};
 /// Half of the pool entries.
 const HALF: u32 = MOST_POOLS as u32 / 2;
 
-/// The cursor at the first row of the pool that begins at `base`. Four touches.
+/// The cursor at the first row of the pool that begins at `base`, found by halving. Four touches.
 ///
 /// # Errors
 ///
@@ -32,24 +31,15 @@ pub(crate) fn first(store: &mut Store, base: u64) -> Result<Cursor, Refusal>
     ensures found { FindsRows result (rows_from base (content_of store.old.cells).pools) (rows_behind (rows_by store.old.cells.records)) (is_at_row (rows_by store.old.cells.records)) }
     ensures left { LeavesAfter store.old.cells 4 store.old store.new }
 {
-    match find(store, base) {
+    let place = skip(store, base, 0, HALF);
+    let place = skip(store, base, place, HALF / 2);
+    let place = skip(store, base, place, HALF / 4);
+    match first_if(store.pool(place), base) {
         Some(slot) => Ok(Cursor {
             next: Some(u32::from(slot.0)),
         }),
         None => Err(Refusal::NoPool),
     }
-}
-
-/// The first block of the pool that begins at `base`, found by halving. Four touches.
-fn find(store: &mut Store, base: u64) -> Option<Slot>
-    requires { Stands store.old.cells }
-    ensures value { result ≡ slot_for base (entries_of store.old.cells.pools) }
-    ensures left { LeavesAfter store.old.cells 4 store.old store.new }
-{
-    let place = skip(store, base, 0, HALF);
-    let place = skip(store, base, place, HALF / 2);
-    let place = skip(store, base, place, HALF / 4);
-    first_if(store.pool(place), base)
 }
 
 /// Passes the next `width` pools where the last of them begins below `base`. One touch.
@@ -73,10 +63,7 @@ fn skip(store: &mut Store, base: u64, place: u32, width: u32) -> u32
 fn is_below(pool: Option<Pool>, base: u64) -> bool
     ensures { result ≡ begins_below base pool }
 {
-    match pool {
-        Some(pool) => u64::from(pool.base) < base,
-        None => false,
-    }
+    pool.is_some_and(|pool| u64::from(pool.base) < base)
 }
 
 /// The first block of the pool, if it begins at `base`.
@@ -84,14 +71,8 @@ fn first_if(pool: Option<Pool>, base: u64) -> Option<Slot>
     ensures { result ≡ slot_if base pool }
 {
     match pool {
-        Some(pool) => {
-            if u64::from(pool.base) == base {
-                Some(pool.first)
-            } else {
-                None
-            }
-        }
-        None => None,
+        Some(pool) if u64::from(pool.base) == base => Some(pool.first),
+        _ => None,
     }
 }
 
@@ -104,9 +85,7 @@ pub(crate) fn row(store: &mut Store, cursor: Cursor) -> Option<(Row, Cursor)>
     ensures cells { store.new.cells ≡ store.old.cells }
     ensures touched { TouchesForRow 1 result store.old.touches store.new.touches }
 {
-    let Some(next) = cursor.next else {
-        return None;
-    };
+    let next = cursor.next?;
     if next >= store.records() {
         return None;
     }
@@ -126,10 +105,7 @@ pub(crate) fn row(store: &mut Store, cursor: Cursor) -> Option<(Row, Cursor)>
 fn slot_number(slot: Option<Slot>) -> Option<u32>
     ensures { result ≡ slot }
 {
-    match slot {
-        Some(slot) => Some(u32::from(slot.0)),
-        None => None,
-    }
+    slot.map(|slot| u32::from(slot.0))
 }
 
 /// The size in bytes of the block that the pointer is of. At most one touch.

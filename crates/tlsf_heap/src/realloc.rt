@@ -1,7 +1,6 @@
 //! realloc: the block gets another size in its place, or moves.
 
-ghost use Rattle.std.specs.Prelude.{◌≡◌, ◌≢◌, ℕ, true, ◌%◌, ◌<◌, ◌==◌, Some, None, Err, option_map};
-ghost use Rattle.tlsf_class.specs.Classes.{unit};
+ghost use Rattle.std.specs.Prelude.{◌≡◌, ◌≢◌, ℕ, true, ◌<◌, ◌==◌, Some, None, Err, option_map};
 ghost use Rattle.tlsf_heap.specs.Touches.{AtMost, realloc_touches};
 ghost use Rattle.tlsf_heap.specs.Content.{IsSize, blocks_of, size_at};
 ghost use Rattle.tlsf_heap.specs.Free.{is_live};
@@ -11,7 +10,7 @@ ghost use Rattle.tlsf_heap.specs.Pointer.{realloc_ptr};
 ghost use Rattle.tlsf_heap.specs.Served.{IsMoved};
 ghost use Rattle.tlsf_heap.specs.Inner.Following.{Stands, content_of};
 ghost use Rattle.tlsf_heap.specs.Inner.Nodes.{InUse};
-ghost use Rattle.tlsf_heap.specs.Inner.Merging.{listed_first};
+ghost use Rattle.tlsf_heap.specs.Inner.Positions.{listed_first};
 ghost use Rattle.tlsf_heap.specs.Inner.At.{At, StandsAt};
 ghost use Rattle.tlsf_heap.specs.Inner.Spans.{IsRead};
 ghost use Rattle.tlsf_heap.specs.Inner.Answers.{AnswersOver, Leaves};
@@ -23,7 +22,8 @@ use crate::{Ptr, Refusal};
 use tlsf_class::round;
 use tlsf_store::{Slot, State, Store};
 
-/// The block with another size, in its place or moved; without a pointer a new block. At most 58 touches.
+/// The block with another size, in its place or moved; without a pointer a new block. Where no byte is asked for it is
+/// freed. At most 58 touches.
 ///
 /// # Errors
 ///
@@ -32,22 +32,9 @@ pub(crate) fn realloc(store: &mut Store, ptr: Option<Ptr>, n: u64) -> Result<Opt
     requires { Stands store.old.cells }
     ensures { AnswersOver result (IsMoved (realloc_ptr ptr n) ptr) (λ refusal old. (owner : ℕ) → realloc_ptr ptr n owner old ≡ Err refusal) realloc_touches store.old store.new }
 {
-    match ptr {
-        Some(ptr) => reallocate(store, ptr, n),
-        None => Ok(Some(malloc(store, n)?)),
-    }
-}
-
-/// The block with another size; none where no byte is asked for, for then it is freed. At most 58
-/// touches.
-///
-/// # Errors
-///
-/// As `Heap::realloc`.
-fn reallocate(store: &mut Store, ptr: Ptr, n: u64) -> Result<Option<Ptr>, Refusal>
-    requires { Stands store.old.cells }
-    ensures { AnswersOver result (IsMoved (realloc_ptr (Some ptr) n) (Some ptr)) (λ refusal old. (owner : ℕ) → realloc_ptr (Some ptr) n owner old ≡ Err refusal) realloc_touches store.old store.new }
-{
+    let Some(ptr) = ptr else {
+        return Ok(Some(malloc(store, n)?));
+    };
     if n == 0 {
         free(store, ptr)?;
         return Ok(None);
@@ -112,9 +99,7 @@ fn free_behind(store: &mut Store, block: &Span) -> Option<u32>
     ensures value { (at : At) → StandsAt block.now.slot InUse store.old.cells at → result ≡ option_map (λ node. node.size) (listed_first at.nodes) }
     ensures left { Leaves store.old.cells 1 store.old store.new }
 {
-    let Some(next_slot) = block.next else {
-        return None;
-    };
+    let next_slot = block.next?;
     let next = store.read_used(next_slot);
     if !next.state.is_free() {
         return None;

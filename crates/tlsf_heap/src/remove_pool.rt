@@ -1,14 +1,13 @@
 //! remove_pool: a pool that is one free block leaves.
 
-ghost use Rattle.std.specs.Prelude.{◌≡◌, ◌%◌, ◌<◌, ◌≤◌, ◌&&◌, [], length, is_none, All, Ok, Err};
+ghost use Rattle.std.specs.Prelude.{◌≡◌, ◌%◌, ◌<◌, ◌≤◌, ◌&&◌, length, is_none, All, Ok, Err, []};
 ghost use Rattle.tlsf_class.specs.Classes.{unit};
 ghost use Rattle.tlsf_store.specs.Cells.{most_pools};
 ghost use Rattle.tlsf_store.specs.Records.{record_at, is_free_state};
 ghost use Rattle.tlsf_heap.specs.Touches.{AtMost, remove_pool_touches};
 ghost use Rattle.tlsf_heap.specs.Pools.{remove_pool};
-ghost use Rattle.tlsf_heap.specs.Inner.Nodes.{Listed};
+ghost use Rattle.tlsf_heap.specs.Inner.Nodes.{Listed, entries_in};
 ghost use Rattle.tlsf_heap.specs.Inner.Positions.{plug};
-ghost use Rattle.tlsf_heap.specs.Inner.Entering.{entries_in};
 ghost use Rattle.tlsf_heap.specs.Inner.Represents.{Represents};
 ghost use Rattle.tlsf_heap.specs.Inner.At.{At, StandsAt, without_area};
 ghost use Rattle.tlsf_heap.specs.Inner.Following.{Stands};

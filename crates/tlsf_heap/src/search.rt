@@ -4,8 +4,7 @@ ghost use Rattle.std.specs.Prelude.{◌≡◌, MatchOption, ℕ, ◌+◌, ◌*�
 ghost use Rattle.tlsf_class.specs.Classes.{steps, levels, classes};
 ghost use Rattle.tlsf_store.specs.Cells.{head_at};
 ghost use Rattle.tlsf_store.specs.CountedCells.{LeavesAfter};
-ghost use Rattle.tlsf_heap.specs.Images.Bitmaps.{AreBitmapsOf};
-ghost use Rattle.tlsf_heap.specs.Inner.Bitmaps.{HasNoBit, IsLowestFrom, IsLastHead, first_head};
+ghost use Rattle.tlsf_heap.specs.Images.Bitmaps.{AreBitmapsOf, HasNoBit, IsLowestFrom, IsLastHead, first_head};
 ghost use Rattle.tlsf_heap.specs.Inner.Answers.{Leaves};
 
 use tlsf_class::{Class, STEPS};
@@ -31,10 +30,7 @@ fn first_of(store: &mut Store, class: Class) -> Option<(Class, Slot)>
     ensures head { IfSome result (λ first. head_at store.old.cells.heads first.0 ≡ Some first.1) }
     ensures left { LeavesAfter store.old.cells 1 store.old store.new }
 {
-    let Some(slot) = store.head(class) else {
-        return None;
-    };
-    Some((class, slot))
+    Some((class, store.head(class)?))
 }
 
 /// The first block of the first class, from this one on, whose list isn't empty, with that class. At most four touches.
@@ -64,13 +60,8 @@ fn search_levels(store: &mut Store, from: u32) -> Option<(Class, Slot)>
     ensures left { Leaves store.old.cells 3 store.old store.new }
 {
     let word = store.level_word();
-    let Some(level) = lowest_from(word, from) else {
-        return None;
-    };
-    let word = store.step_word(level);
-    let Some(step) = lowest_from(word, 0) else {
-        return None;
-    };
+    let level = lowest_from(word, from)?;
+    let step = lowest_from(store.step_word(level), 0)?;
     first_of(store, Class::new(level * STEPS + step))
 }
 
@@ -82,13 +73,7 @@ pub(crate) fn last_class(store: &mut Store) -> Option<Class>
     ensures none { IfNone result ((class : ℕ) → class < classes → head_at store.old.cells.heads class ≡ None) }
     ensures left { Leaves store.old.cells 2 store.old store.new }
 {
-    let word = store.level_word();
-    let Some(level) = word.checked_ilog2() else {
-        return None;
-    };
-    let word = store.step_word(level);
-    let Some(step) = word.checked_ilog2() else {
-        return None;
-    };
+    let level = store.level_word().checked_ilog2()?;
+    let step = store.step_word(level).checked_ilog2()?;
     Some(Class::new(level * STEPS + step))
 }

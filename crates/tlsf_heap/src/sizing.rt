@@ -16,10 +16,7 @@ pub fn class_size(align: u64, n: u64) -> Option<u32>
     if !is_alignment(align) {
         return None;
     }
-    let Some(bytes) = round(n) else {
-        return None;
-    };
-    let class = class_for(size_asked(align as u32, bytes))?;
+    let class = class_for(size_asked(align as u32, round(n)?))?;
     Some(low(class))
 }
 

@@ -7,8 +7,7 @@ use Rattle.std.proofs.lemmas.Nat.{shr-shr, shr_le}
 use Rattle.std.proofs.lemmas.Nat.Bits.{bit_at-zero, bit_at-trailing_zeros, bit_at_above, same_from_bits_below}
 use Rattle.tlsf_class.specs.Classes.{steps, levels, classes}
 use Rattle.tlsf_store.specs.Cells.{head_at}
-use Rattle.tlsf_heap.specs.Images.Bitmaps.{head_bit, word_bit, AreBitmapsOf}
-use Rattle.tlsf_heap.specs.Inner.Bitmaps.{HasNoBit, IsLowestFrom, first_head}
+use Rattle.tlsf_heap.specs.Images.Bitmaps.{head_bit, word_bit, AreBitmapsOf, HasNoBit, IsLowestFrom, first_head}
 
 -- the bits from a place on are those of the number shifted
 shifted : (word from bit : ℕ) → from ≤ bit → bit_at word bit ≡ bit_at (word / 2 ^ from) (bit - from)

@@ -1,6 +1,6 @@
 -- A good content's blocks are aligned, disjoint and listed once where they are free; and what a refusal implies of them.
 use Rattle.std.proofs.Common.{◌≡◌, ℕ, zero, suc, ◌+◌, ◌-◌, ◌*◌, ◌%◌, ◌<◌, ◌≤◌, Bool, true, false, ◌&&◌, not, List, [], ◌∷◌, length, get_or, refl, sym, ap, ◌∙◌, arith, count_by, Some, None, drop, option_and_then, inl, inr, length-append}
-use Rattle.std.specs.Prelude.{Err, All, AllPairs, IsTrue}
+use Rattle.std.specs.Prelude.{Err, Any, All, AllPairs, IsTrue}
 use Rattle.std.specs.List.{AllByRecursion}
 use Rattle.std.proofs.lemmas.Bool.{cases_lt, eq-eqb}
 use Rattle.std.proofs.lemmas.List.{get_or-drop}
@@ -15,7 +15,7 @@ use Rattle.tlsf_heap.specs.Lists.{list_of, first_of_lists, pick}
 use Rattle.tlsf_heap.specs.Malloc.{malloc}
 use Rattle.tlsf_heap.specs.Pools.{add_pool}
 use Rattle.tlsf_heap.specs.Good.{Covers, NoFreeNeighbours, AreGoodPools, IsGood, times, is_listed}
-use Rattle.tlsf_heap.specs.Implied.{IsAligned, AreDisjoint, HasAlignedBlocks, HasDisjointBlocks, ListsFreeBlocks, ListsNothingElse, AreFreeBelow, NoneFits, HasFewRecords}
+use Rattle.tlsf_heap.specs.Implied.{IsAligned, AreDisjoint, AreFreeBelow, NoneFits, HasFewRecords}
 use Rattle.tlsf_heap.proofs.Counts.{count-cons, count-append, one_if}
 use Rattle.tlsf_heap.proofs.Content.Blocks.{Ascends, Ascends-higher, Ascends-pools, found_listed}
 use Rattle.tlsf_heap.proofs.Meaning.FreeFirst.{listed_once}
@@ -96,7 +96,7 @@ module _ {A : Type 0} where
       AllPairs-cons AreDisjoint block blocks (λ k d within. inl (All-from_recursion (λ (other : Block A). next ≤ other.place) blocks (begins_from next blocks a.2) k d within)) (disjoint next blocks a.2)
 
   -- a good content's blocks are disjoint
-  pub has_disjoint_blocks : (content : Content A) → IsGood content → HasDisjointBlocks content
+  pub has_disjoint_blocks : (content : Content A) → IsGood content → AllPairs AreDisjoint (blocks_of content.pools)
   has_disjoint_blocks content good = disjoint 0 (blocks_of content.pools) (Ascends-pools 0 content.pools good.pools_good)
 
   aligned : (from to : ℕ) (blocks : List (Block A)) → from % unit ≡ 0 → Covers from to blocks → AllByRecursion IsAligned blocks
@@ -113,7 +113,7 @@ module _ {A : Type 0} where
       (aligned_in (pool.base + pool.bytes) pools g.2)
 
   -- a good content's blocks are aligned
-  pub has_aligned_blocks : (content : Content A) → IsGood content → HasAlignedBlocks content
+  pub has_aligned_blocks : (content : Content A) → IsGood content → All IsAligned (blocks_of content.pools)
   has_aligned_blocks content good = aligned_in 0 content.pools good.pools_good
 
   -- an element that passes is counted
@@ -123,7 +123,7 @@ module _ {A : Type 0} where
   counted_at test (block ∷ blocks) (suc k) d within passes = omega (arith, count-cons test block blocks, counted_at test blocks k d (omega (arith, within)) passes)
 
   -- a good content's free blocks are each listed once
-  pub lists_free_blocks : (content : Content A) → IsGood content → ListsFreeBlocks content
+  pub lists_free_blocks : (content : Content A) → IsGood content → All (λ block. IsTrue (is_free block) → times block.place (list_of (class block.size) content.lists) ≡ 1) (blocks_of content.pools)
   lists_free_blocks content good k d within free =
       let blocks : List (Block A) = blocks_of content.pools in
       let block : Block A = get_or blocks k d in
@@ -132,7 +132,7 @@ module _ {A : Type 0} where
       listed_once content good number block.place (class-lt block.size) some
 
   -- and nothing else is
-  pub lists_nothing_else : (content : Content A) → IsGood content → ListsNothingElse content
+  pub lists_nothing_else : (content : Content A) → IsGood content → (number place : ℕ) → number < classes → 0 < times place (list_of number content.lists) → Any (λ block. IsTrue (is_listed number place block)) (blocks_of content.pools)
   lists_nothing_else content good number place below some =
       let blocks : List (Block A) = blocks_of content.pools in
       let found = found_listed number place 0 blocks (Ascends-pools 0 content.pools good.pools_good) (omega (arith, some, good.listed number place below)) in

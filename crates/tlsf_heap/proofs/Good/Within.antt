@@ -19,12 +19,12 @@ use Rattle.tlsf_heap.specs.Pools.{created, add_pool}
 use Rattle.tlsf_heap.specs.Free.{free, is_live, after_free, free_previous, free_next, without_block}
 use Rattle.tlsf_heap.specs.Realloc.{given_anew, realloc}
 use Rattle.tlsf_heap.specs.BlockSize.{block_size}
-use Rattle.tlsf_heap.specs.Pointer.{Pointer, place_and_slot, slot_of}
+use Rattle.tlsf_heap.specs.Pointer.{place_and_slot, slot_of}
 use Rattle.tlsf_heap.specs.Good.{IsGood}
 use Rattle.tlsf_heap.specs.Implied.{live_blocks}
 use Rattle.tlsf_heap.specs.Room.{pool_bytes, HasRoomFor}
 use Rattle.tlsf_heap.specs.Sizing.{most_refusing, sure_records}
-use Rattle.tlsf_heap.specs.Run.{Does, Gives, Moves, Tells, IsRefused, Step, Run}
+use Rattle.tlsf_heap.specs.Run.{IsRefused, Step, Run}
 use Rattle.tlsf_heap.specs.Within.{TakesWithin, IsWithin, StaysWithin, IsLargeEnough, IsNotFull}
 use Rattle.tlsf_heap.proofs.Content.Given.{malloc_gave, realloc_gave, free_gave}
 use Rattle.tlsf_heap.proofs.Content.MemalignCases.{memalign_given}
@@ -214,38 +214,23 @@ module _ (blocks bytes size : ℕ) where
       )
 
   -- what a request leaves is large enough still
-  does_enough : (request : Request) (old new : Content ℕ) → IsEnough old → IsWithin blocks bytes size request old → Does request old new → IsEnough new
-  does_enough (AddPool base pool) old new enough within does = absurd within
-  does_enough (RemovePool base) old new enough within does = absurd within
-  does_enough (Free pointer) old new enough within does =
-      let gave = free_gave (λ slot. slot == pointer.slot) pointer.place old new does in
-      subst IsEnough gave.1 (still_enough old (after_free pointer.place old) enough (freed_is_good (λ slot. slot == pointer.slot) pointer.place old enough.good gave.0) (freed_keeps pointer.place old))
-  does_enough _ old new enough within does = absurd does
-
-  gives_enough : (request : Request) (pointer : Pointer) (old new : Content ℕ) → IsEnough old → Gives request pointer old new → IsEnough new
-  gives_enough (Malloc n) pointer old new enough gives =
-      still_enough old new enough (malloc_is_good pointer.slot n old (pointer.place, new) enough.good gives.ok) (malloc_keeps pointer.slot n old (pointer.place, new) gives.ok)
-  gives_enough (Memalign align n) pointer old new enough gives =
-      still_enough old new enough (memalign_is_good pointer.slot align n old (pointer.place, new) enough.good gives.ok) (memalign_keeps pointer.slot align n old (pointer.place, new) gives.ok)
-  gives_enough _ pointer old new enough gives = absurd gives
-
-  moves_enough : (request : Request) (given : Option Pointer) (old new : Content ℕ) → IsEnough old → Moves request given old new → IsEnough new
-  moves_enough (Realloc pointer n) given old new enough moves =
-      still_enough old new enough
-      (realloc_is_good (λ a b. a == b) (slot_of given) (place_and_slot pointer) n old (place_and_slot given, new) enough.good moves.ok)
-      (realloc_keeps (λ a b. a == b) (slot_of given) (place_and_slot pointer) n old (place_and_slot given, new) moves.ok)
-  moves_enough _ given old new enough moves = absurd moves
-
-  tells_enough : (request : Request) (told : ℕ) (old new : Content ℕ) → IsEnough old → Tells request told old new → IsEnough new
-  tells_enough (BlockSize pointer) told old new enough tells = subst IsEnough (sym tells.1) enough
-  tells_enough _ told old new enough tells = absurd tells
-
   step_enough : (lacks : Type 0) (request : Request) (answer : Answer) (old new : Content ℕ) → IsEnough old → IsWithin blocks bytes size request old → Step lacks request answer old new → IsEnough new
-  step_enough lacks request Done old new enough within step = does_enough request old new enough within step
-  step_enough lacks request (Given pointer) old new enough within step = gives_enough request pointer old new enough step
-  step_enough lacks request (Moved given) old new enough within step = moves_enough request given old new enough step
-  step_enough lacks request (Size told) old new enough within step = tells_enough request told old new enough step
   step_enough lacks request (Refused refusal) old new enough within step = subst IsEnough (sym step.0) enough
+  step_enough lacks (AddPool base pool) Done old new enough within step = absurd within
+  step_enough lacks (RemovePool base) Done old new enough within step = absurd within
+  step_enough lacks (Malloc n) (Given pointer) old new enough within step =
+      still_enough old new enough (malloc_is_good pointer.slot n old (pointer.place, new) enough.good step.ok) (malloc_keeps pointer.slot n old (pointer.place, new) step.ok)
+  step_enough lacks (Memalign align n) (Given pointer) old new enough within step =
+      still_enough old new enough (memalign_is_good pointer.slot align n old (pointer.place, new) enough.good step.ok) (memalign_keeps pointer.slot align n old (pointer.place, new) step.ok)
+  step_enough lacks (Free pointer) Done old new enough within step =
+      let gave = free_gave (λ slot. slot == pointer.slot) pointer.place old new step in
+      subst IsEnough gave.1 (still_enough old (after_free pointer.place old) enough (freed_is_good (λ slot. slot == pointer.slot) pointer.place old enough.good gave.0) (freed_keeps pointer.place old))
+  step_enough lacks (Realloc pointer n) (Moved given) old new enough within step =
+      still_enough old new enough
+      (realloc_is_good (λ a b. a == b) (slot_of given) (place_and_slot pointer) n old (place_and_slot given, new) enough.good step.ok)
+      (realloc_keeps (λ a b. a == b) (slot_of given) (place_and_slot pointer) n old (place_and_slot given, new) step.ok)
+  step_enough lacks (BlockSize pointer) (Size told) old new enough within step = subst IsEnough (sym step.1) enough
+  step_enough lacks _ _ old new enough within step = absurd step
 
   run_fits : (lacks : Type 0) (requests : List Request) (answers : List Answer) (old new : Content ℕ) (before after : ℕ) (run : Run lacks requests answers old new before after)
       → IsEnough old → StaysWithin blocks bytes size lacks requests answers old new before after run → All IsNotFull answers

@@ -8,8 +8,7 @@ use Rattle.tlsf_store.specs.Records.{record_at, IsBelow}
 use Rattle.tlsf_store.specs.Cells.{Cells}
 use Rattle.tlsf_heap.specs.Good.{times}
 use Rattle.tlsf_heap.specs.Inner.Nodes.{NodeState, InUse, Listed, Loose, Node, Area, block_of, pool_of, nodes_of, nodes_in, has_slot, is_listed, is_listed_in}
-use Rattle.tlsf_heap.specs.Inner.Positions.{Position, filled}
-use Rattle.tlsf_heap.specs.Inner.Merging.{is_loose}
+use Rattle.tlsf_heap.specs.Inner.Positions.{Position, filled, is_loose}
 use Rattle.tlsf_heap.specs.Inner.Represents.{InPool, in_pool, pool_views, state_of, first_slot, uses_in, AreChains}
 use Rattle.tlsf_heap.specs.Inner.At.{AreCovered}
 use Rattle.tlsf_heap.specs.Inner.Following.{Stands}

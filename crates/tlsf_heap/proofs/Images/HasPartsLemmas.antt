@@ -2,7 +2,7 @@
 use Rattle.std.proofs.Common.{ℕ, ◌∙◌, refl, arith}
 use Rattle.tlsf_store.specs.Cells.{Cells}
 use Rattle.tlsf_heap.specs.Images.Image.{Parts}
-use Rattle.tlsf_heap.specs.Images.HasParts.{OnlyReads}
+use Rattle.tlsf_heap.specs.Images.Findings.{OnlyReads}
 
 module _ {T : Type 0} {parts : T → Parts} {cells : T → Cells} {touches : T → ℕ} where
   pub not_read : (table : T) → OnlyReads parts cells touches table table

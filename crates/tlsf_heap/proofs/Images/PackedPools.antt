@@ -6,7 +6,7 @@ use Rattle.std.proofs.lemmas.Bool.{and_from}
 use Rattle.tlsf_store.specs.declared.pools.Pool.{Pool}
 use Rattle.tlsf_store.specs.Cells.{Cells, most_pools}
 use Rattle.tlsf_heap.specs.Images.Rules.{are_packed, has_ordered_pools, has_packed_pools}
-use Rattle.tlsf_heap.specs.Images.Told.{told_parts}
+use Rattle.tlsf_heap.specs.Images.Described.{told_parts}
 use Rattle.tlsf_heap.specs.Inner.Nodes.{Area}
 use Rattle.tlsf_heap.specs.Inner.Following.{Stands}
 use Rattle.tlsf_heap.proofs.Images.Saved.{told_ordered}

@@ -1,16 +1,16 @@
 -- Cells whose parts break no rule represent the layout that they have by their links.
-use Rattle.std.proofs.Common.{◌≡◌, ℕ, ◌+◌, ◌≤◌, Bool, true, false, cond, ◌&&◌, eqb, List, [], ◌∷◌, length, map, refl, sym, ap, ◌∙◌, subst, arith, count_by, filter, Option, None, inl, inr}
+use Rattle.std.proofs.Common.{◌≡◌, ℕ, ◌+◌, ◌≤◌, ◌%◌, Bool, true, false, cond, ◌&&◌, eqb, List, [], ◌∷◌, length, map, refl, sym, ap, ◌∙◌, subst, arith, count_by, filter, Option, None, inl, inr}
 use Rattle.std.specs.List.{flat_map}
 use Rattle.std.proofs.lemmas.Bool.{cases_Bool, cases_lt, eqb-true, and_parts, and_right}
 use Rattle.std.proofs.lemmas.List.{get_or-map, get_or_past, length-map}
 use Rattle.std.proofs.lemmas.List.Sums.{length-filter}
-use Rattle.tlsf_class.specs.Classes.{class}
+use Rattle.tlsf_class.specs.Classes.{class, unit, classes, levels}
 use Rattle.tlsf_store.specs.declared.records.State.{State}
 use Rattle.tlsf_store.specs.declared.records.State.TheVariants.{Vacant, Free, Live}
-use Rattle.tlsf_store.specs.Cells.{Cells, head_at}
-use Rattle.tlsf_store.specs.Records.{is_free_state}
+use Rattle.tlsf_store.specs.Cells.{Cells, head_at, most_pools}
+use Rattle.tlsf_store.specs.Records.{is_free_state, record_at}
 use Rattle.tlsf_heap.specs.Images.Image.{Parts}
-use Rattle.tlsf_heap.specs.Images.Rules.{at, is_used, chain_of, are_lists, slots_in_list}
+use Rattle.tlsf_heap.specs.Images.Rules.{are_pools, first_of, rules_of_parts, at, is_used, chain_of, are_lists, slots_in_list}
 use Rattle.tlsf_heap.proofs.Images.LinkLemmas.{follow_none}
 use Rattle.tlsf_heap.proofs.Images.Counting.{one_if, same_length}
 use Rattle.tlsf_heap.specs.Good.{times}
@@ -18,13 +18,24 @@ use Rattle.tlsf_heap.proofs.Images.Totals.{is_block, used_below, is_listed as is
 use Rattle.tlsf_heap.proofs.Images.Once.{linked_ends, on_chain_once, list_of_class, in_list_once}
 use Rattle.tlsf_heap.proofs.Images.UnbrokenRules.{IsUnbroken, unbroken}
 use Rattle.tlsf_heap.specs.Images.Described.{parts_of}
+use Rattle.tlsf_heap.specs.Images.Bitmaps.{AreBitmapsOf}
 use Rattle.tlsf_heap.specs.Inner.Entries.{padded, entries_of}
 use Rattle.tlsf_heap.specs.Inner.Nodes.{Node, nodes_of, nodes_in, has_slot, is_listed_in}
 use Rattle.tlsf_heap.specs.Inner.Represents.{in_list, list_views, first_slot, AreLinked, uses_in, Represents}
-use Rattle.tlsf_heap.specs.Inner.Imaged.{AreImaged}
 use Rattle.tlsf_heap.proofs.Counts.{count-cons, count-filter, count_same, count-map}
 use Rattle.tlsf_heap.proofs.Images.ReadNodes.{node_at, layout_of, node_state_listed, first_followed, linked_followed, count_slots, nodes_of_areas, chains_are, entries_are}
 use Rattle.tlsf_heap.proofs.Images.ChainLemmas.{free_is_used}
+
+-- their parts break no rule, and the bitmaps are those of the heads
+pub record AreImaged (cells : Cells) : Type 0 where
+  pub unbroken : first_of (rules_of_parts (parts_of cells)) ≡ None
+  pub ordered : are_pools (length cells.records) 0 (entries_of cells.pools) ≡ true
+  pub packed : cells.pools ≡ padded (entries_of cells.pools)
+  pub pools_count : length cells.pools ≡ most_pools
+  pub heads_count : length cells.heads ≡ classes
+  pub words_count : length cells.step_words ≡ levels
+  pub bitmaps : AreBitmapsOf cells.heads cells.step_words cells.level_word
+  pub in_units : (slot : ℕ) → (record_at cells.records slot).size % unit ≡ 0
 
 -- how often a slot stands among those that pass a test
 times-filter : (test : ℕ → Bool) (slot : ℕ) (slots : List ℕ) → times slot (filter test slots) ≡ cond (test slot) (times slot slots) 0

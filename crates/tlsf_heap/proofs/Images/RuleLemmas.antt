@@ -8,7 +8,7 @@ use Rattle.tlsf_heap.specs.declared.image.chains.Tally.{Tally}
 use Rattle.tlsf_heap.specs.declared.image.links.Blocks.{Blocks}
 use Rattle.tlsf_heap.specs.Images.Image.{Parts}
 use Rattle.tlsf_heap.specs.Images.Rules.{is_used, chain_of, slots_in_list, has_links, has_chains, has_cover, has_merged, has_lists, has_all_on_chains, has_all_on_lists, are_pools, first_of, rules_of_parts}
-use Rattle.tlsf_heap.specs.Images.Findings.{links_found, chains_found, lists_found, HasSizes}
+use Rattle.tlsf_heap.specs.Images.Findings.{links_found, chains_found, lists_with, HasSizes}
 use Rattle.tlsf_heap.proofs.Images.Totals.{was_found, was_missed, chains_counted, lists_counted}
 use Rattle.tlsf_heap.proofs.Images.SizeLemmas.{sizes}
 use Rattle.tlsf_heap.specs.Inner.Entries.{entries_of}
@@ -28,13 +28,13 @@ module _ (parts : Parts) where
       let none : 0 + length (flat_map (chain_of parts) (entries_of parts.pools)) ≡ length (flat_map (chain_of parts) (entries_of parts.pools)) = omega arith in
       (there.0, (ap (λ (t : Tally). t.blocks) (sym there.1) ∙ none, (ap (λ (t : Tally). t.covers) (sym there.1), ap (λ (t : Tally). t.is_merged) (sym there.1))))
 
-  pub lists_are : (listed : ℕ) → lists_found parts ≡ Some listed → (has_lists parts ≡ true) × (listed ≡ length (flat_map (slots_in_list parts) parts.heads))
+  pub lists_are : (listed : ℕ) → lists_with parts 0 0 parts.heads ≡ Some listed → (has_lists parts ≡ true) × (listed ≡ length (flat_map (slots_in_list parts) parts.heads))
   lists_are listed is =
       let there = was_found (has_lists parts) (0 + length (flat_map (slots_in_list parts) parts.heads)) listed is in
       let none : 0 + length (flat_map (slots_in_list parts) parts.heads) ≡ length (flat_map (slots_in_list parts) parts.heads) = omega arith in
       (there.0, sym there.1 ∙ none)
 
-  pub lists_arent : lists_found parts ≡ None → has_lists parts ≡ false
+  pub lists_arent : lists_with parts 0 0 parts.heads ≡ None → has_lists parts ≡ false
   lists_arent is = was_missed (has_lists parts) (0 + length (flat_map (slots_in_list parts) parts.heads)) is
 
   -- the way through the rules, as far as it is gone
@@ -68,10 +68,10 @@ module _ (parts : Parts) where
         merged : has_merged parts ≡ true
         merged = sym (chains_are tally chained).1.1.1 ∙ are_merged
 
-        pub not_lists : lists_found parts ≡ None → first_of (rules_of_parts parts) ≡ Some Lists
+        pub not_lists : lists_with parts 0 0 parts.heads ≡ None → first_of (rules_of_parts parts) ≡ Some Lists
         not_lists other = rw (links, chains, cover, on_chains ∙ all, merged, lists_arent other) refl
 
-        module _ (listed : ℕ) (found : lists_found parts ≡ Some listed) where
+        module _ (listed : ℕ) (found : lists_with parts 0 0 parts.heads ≡ Some listed) where
           lists : has_lists parts ≡ true
           lists = (lists_are listed found).0
 

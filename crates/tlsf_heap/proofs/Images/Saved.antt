@@ -4,12 +4,10 @@ use Rattle.tlsf_store.specs.declared.records.Record.{Record}
 use Rattle.tlsf_store.specs.Cells.{Cells}
 use Rattle.tlsf_heap.specs.Images.Rules.{are_pools, first_of, rules_of_parts}
 use Rattle.tlsf_heap.proofs.Images.UnbrokenRules.{none_broken}
-use Rattle.tlsf_heap.specs.Images.Told.{told, told_parts}
-use Rattle.tlsf_heap.specs.Images.Described.{parts_of}
+use Rattle.tlsf_heap.specs.Images.Described.{parts_of, told, told_parts}
 use Rattle.tlsf_heap.specs.Inner.Entries.{entries_of}
 use Rattle.tlsf_heap.specs.Inner.Following.{content_from, content_of, Stands}
-use Rattle.tlsf_heap.specs.Inner.Imaged.{AreAlike, LiveAlone}
-use Rattle.tlsf_heap.proofs.Images.Alike.{alike_stand, alike_content}
+use Rattle.tlsf_heap.proofs.Images.Alike.{AreAlike, LiveAlone, alike_stand, alike_content}
 use Rattle.tlsf_heap.proofs.Images.Told.{told_alike, told_alone}
 use Rattle.tlsf_heap.proofs.Images.Unbroken.{stand_unbroken, pools_ordered}
 

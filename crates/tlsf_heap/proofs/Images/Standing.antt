@@ -20,14 +20,13 @@ use Rattle.tlsf_heap.specs.Content.{blocks_of}
 use Rattle.tlsf_heap.specs.Good.{Covers, NoFreeNeighbours, AreGoodPools, times, is_listed, AreLists, IsGood}
 use Rattle.tlsf_heap.specs.Inner.Entries.{entries_of}
 use Rattle.tlsf_heap.specs.Inner.Nodes.{Node, Area, block_of, pool_of, owner_of, content_by, nodes_of, nodes_in, has_place, is_listed as is_listed_state, is_listed_in}
-use Rattle.tlsf_heap.specs.Inner.Merging.{is_loose}
+use Rattle.tlsf_heap.specs.Inner.Positions.{is_loose}
 use Rattle.tlsf_heap.specs.Inner.Following.{Stands}
-use Rattle.tlsf_heap.specs.Inner.Imaged.{AreImaged}
 use Rattle.tlsf_heap.proofs.Counts.{one_if, count-cons, count-map, count_same}
 use Rattle.tlsf_heap.proofs.Inner.Sums.{all_records}
 use Rattle.tlsf_heap.proofs.Meaning.Places.{blocks_of_areas}
 use Rattle.tlsf_heap.proofs.Images.ReadNodes.{node_state_in, node_at, area_from, layout_of, node_state_free, nodes_of_areas, entries_are}
-use Rattle.tlsf_heap.proofs.Images.Represented.{represents, agreed}
+use Rattle.tlsf_heap.proofs.Images.Represented.{AreImaged, represents, agreed}
 
 module _ (cells : Cells) (imaged : AreImaged cells) where
   abbrev parts : Parts

@@ -7,9 +7,9 @@ use Rattle.tlsf_store.specs.declared.records.State.TheVariants.{Vacant, Free, Li
 use Rattle.tlsf_store.specs.declared.records.Record.{Record}
 use Rattle.tlsf_store.specs.Records.{blank, record_at, is_free_state}
 use Rattle.tlsf_heap.specs.Images.Rules.{is_used}
-use Rattle.tlsf_heap.specs.Images.Told.{told_in, told}
+use Rattle.tlsf_heap.specs.Images.Described.{told_in, told}
 use Rattle.tlsf_heap.specs.Inner.Represents.{pool_view, list_view}
-use Rattle.tlsf_heap.specs.Inner.Imaged.{AreAlike, LiveAlone}
+use Rattle.tlsf_heap.proofs.Images.Alike.{AreAlike, LiveAlone}
 
 told_state : (state : State) (r : Record) → r.state ≡ state → (told_in state r).state ≡ state
 told_state Vacant r is = refl

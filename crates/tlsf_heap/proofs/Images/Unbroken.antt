@@ -29,7 +29,7 @@ use Rattle.tlsf_heap.specs.Inner.Entries.{entries_of}
 use Rattle.tlsf_heap.specs.Inner.Nodes.{NodeState, InUse, Listed, Loose, Node, Area, owner_of, block_of, pool_of, nodes_of, nodes_in, has_slot}
 use Rattle.tlsf_heap.specs.Inner.Represents.{InPool, InList, in_pool, in_list, pool_views, list_views, state_of, first_slot, AreLinked, IsChain, uses_in}
 use Rattle.tlsf_heap.specs.Inner.Following.{Stands}
-use Rattle.tlsf_heap.specs.Inner.Imaged.{LiveAlone}
+use Rattle.tlsf_heap.proofs.Images.Alike.{LiveAlone}
 use Rattle.tlsf_heap.proofs.Counts.{one_if, count-cons, count-plug, count-map, FirstPassing, first_passing}
 use Rattle.tlsf_heap.proofs.Inner.Plugs.{count-nodes}
 use Rattle.tlsf_heap.proofs.Inner.Links.{first_stands, linked_parts}

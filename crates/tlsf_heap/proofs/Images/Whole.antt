@@ -4,8 +4,7 @@ use Rattle.std.specs.Prelude.{if◌then◌else◌}
 use Rattle.tlsf_store.specs.Cells.{Cells}
 use Rattle.tlsf_heap.specs.declared.image.rule.Rule.TheVariants.{Pools}
 use Rattle.tlsf_heap.specs.Images.Rules.{first_of, rules_of_parts}
-use Rattle.tlsf_heap.specs.Images.Told.{told_parts}
-use Rattle.tlsf_heap.specs.Images.Whole.{IsWholeStore}
+use Rattle.tlsf_heap.specs.Images.Described.{told_parts, IsWholeStore}
 use Rattle.tlsf_heap.specs.Inner.Following.{Stands}
 use Rattle.tlsf_heap.proofs.Images.PackedPools.{stand_packed}
 use Rattle.tlsf_heap.proofs.Images.Saved.{told_unbroken}

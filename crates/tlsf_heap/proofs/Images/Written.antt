@@ -12,7 +12,6 @@ use Rattle.tlsf_store.specs.Records.{blank, record_at, most_records}
 use Rattle.tlsf_store.specs.Cells.{Cells, pool_at, head_at, most_pools}
 use Rattle.tlsf_heap.specs.Images.Image.{Parts}
 use Rattle.tlsf_heap.specs.Images.Rules.{is_used, is_below, has_record_links, first_broken}
-use Rattle.tlsf_heap.specs.Images.Told.{told, told_in, told_parts}
 use Rattle.tlsf_heap.specs.Images.Writing.{image_of}
 use Rattle.tlsf_heap.proofs.Images.UnbrokenRules.{IsUnbroken, unbroken}
 use Rattle.tlsf_heap.proofs.Images.ReadBack.{IsWritten}
@@ -20,7 +19,7 @@ use Rattle.tlsf_heap.proofs.Images.Writable.{below_written, block_written}
 use Rattle.tlsf_heap.proofs.Images.ImageBack.{AreWritable, parts_back}
 use Rattle.tlsf_heap.proofs.Images.RulesBack.{written_first}
 use Rattle.tlsf_store.specs.declared.pools.Pool.{Pool as StoredPool}
-use Rattle.tlsf_heap.specs.Images.Described.{described}
+use Rattle.tlsf_heap.specs.Images.Described.{described, told, told_in, told_parts}
 use Rattle.tlsf_heap.specs.Inner.Entries.{entries_of}
 use Rattle.tlsf_heap.specs.Inner.Nodes.{has_slot}
 use Rattle.tlsf_heap.specs.Inner.Represents.{InPool, pool_views, first_slot}

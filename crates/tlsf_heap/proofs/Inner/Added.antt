@@ -13,11 +13,10 @@ use Rattle.tlsf_store.specs.declared.pools.Pool.{Pool as StoredPool}
 use Rattle.tlsf_heap.specs.Content.{used_records}
 use Rattle.tlsf_heap.specs.Pools.{add_pool, with_pool, can_be_pool, is_apart}
 use Rattle.tlsf_heap.specs.Inner.Entries.{is_entry_apart, entries_of}
-use Rattle.tlsf_heap.specs.Inner.Nodes.{Node, Listed, turned, content_by}
+use Rattle.tlsf_heap.specs.Inner.Nodes.{Node, Listed, turned, content_by, pool_node, pool_laid}
 use Rattle.tlsf_heap.specs.Inner.Represents.{Represents}
-use Rattle.tlsf_heap.specs.Inner.Merging.{is_loose}
+use Rattle.tlsf_heap.specs.Inner.Positions.{is_loose}
 use Rattle.tlsf_heap.specs.Inner.Following.{content_of, Stands}
-use Rattle.tlsf_heap.specs.Inner.Entering.{pool_node, pool_laid}
 use Rattle.tlsf_heap.proofs.Good.MallocIsGood.{add_pool_is_good}
 use Rattle.tlsf_heap.proofs.Inner.Followed.{records_are, content_is, stood_for}
 use Rattle.tlsf_heap.proofs.Inner.Standing.{apart_is, pools_length, used_are, content_is_good}

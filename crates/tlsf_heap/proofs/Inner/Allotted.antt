@@ -12,7 +12,6 @@ use Rattle.tlsf_heap.specs.declared.span.Span.{Span}
 use Rattle.tlsf_heap.specs.Inner.Edits.{IsUsed, unlinked_by}
 use Rattle.tlsf_heap.specs.Inner.Spans.{IsRead, span_at, split_by}
 use Rattle.tlsf_heap.specs.Inner.Nodes.{NodeState, InUse, Listed, Loose, Node, turned, rest_node, block_of, is_listed, Layout, pool_of, nodes_of}
-use Rattle.tlsf_heap.specs.Inner.Merging.{is_loose}
 use Rattle.tlsf_heap.specs.Inner.Represents.{Represents}
 use Rattle.tlsf_heap.specs.Inner.At.{At, layout_at, StandsAt, at_unlisted, with_slot, at_turned, at_split, AreCovered, at_split_off, at_split_rest}
 use Rattle.tlsf_heap.proofs.Counts.{one_if, count-cons}
@@ -26,7 +25,7 @@ use Rattle.tlsf_heap.proofs.Inner.Steps.{size_read, whole_at, covered_turned}
 use Rattle.tlsf_heap.proofs.Inner.Spans.{span_is}
 use Rattle.tlsf_heap.proofs.Meaning.Covered.{covered_refilled}
 use Rattle.std.specs.Prelude.{◌==◌}
-use Rattle.tlsf_heap.specs.Inner.Positions.{filled}
+use Rattle.tlsf_heap.specs.Inner.Positions.{filled, is_loose}
 
 module _ (cells : Cells) (slot : ℕ) (at : At) (stands : StandsAt slot Listed cells at) where
   listed_was : Represents cells (layout_at (record at { node = turned Listed at.node }))

@@ -8,9 +8,8 @@ use Rattle.std.specs.List.{list_all}
 use Rattle.std.proofs.lemmas.Bool.{ne_eqb}
 use Rattle.tlsf_heap.specs.Content.{Block, is_free}
 use Rattle.tlsf_heap.specs.Pools.{is_unused}
-use Rattle.tlsf_heap.specs.Inner.Nodes.{NodeState, InUse, Listed, Loose, Node, Area, block_of, pool_of}
+use Rattle.tlsf_heap.specs.Inner.Nodes.{NodeState, InUse, Listed, Loose, Node, Area, block_of, pool_of, entries_in}
 use Rattle.tlsf_heap.specs.Inner.Positions.{plug}
-use Rattle.tlsf_heap.specs.Inner.Entering.{entries_in}
 use Rattle.tlsf_heap.specs.Inner.Represents.{InPool, state_of, pool_views, first_slot, IsChain}
 
 -- one more in front of all

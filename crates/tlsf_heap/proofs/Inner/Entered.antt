@@ -10,12 +10,10 @@ use Rattle.tlsf_store.specs.Cells.{Cells, head_at}
 use Rattle.tlsf_class.specs.Classes.{class}
 use Rattle.tlsf_store.specs.declared.pools.Pool.{Pool as StoredPool}
 use Rattle.tlsf_heap.specs.Inner.Edits.{IsUsed}
-use Rattle.tlsf_heap.specs.Inner.Entries.{entries_of, with_entry, free_record, pool_entered}
-use Rattle.tlsf_heap.specs.Inner.Nodes.{Node, Area, Layout, Listed, turned, entered}
+use Rattle.tlsf_heap.specs.Inner.Entries.{entries_of, with_entry, free_record, pool_entered, pool_put}
+use Rattle.tlsf_heap.specs.Inner.Nodes.{Node, Area, Layout, Listed, turned, entered, pool_node, area_of_one, entries_in, with_area, pool_laid}
 use Rattle.tlsf_heap.specs.Inner.Positions.{plug, Position}
 use Rattle.tlsf_heap.specs.Inner.Represents.{Represents}
-use Rattle.tlsf_heap.specs.Inner.CellEdits.{pool_put}
-use Rattle.tlsf_heap.specs.Inner.Entering.{pool_node, area_of_one, entries_in, with_area, pool_laid}
 use Rattle.tlsf_heap.proofs.Inner.EntryLists.{entries_of-padded}
 use Rattle.tlsf_heap.proofs.Counts.{one_if}
 use Rattle.tlsf_heap.proofs.Inserted.{map-inserted}

@@ -4,7 +4,7 @@ use Rattle.std.specs.Prelude.{◌==◌}
 use Rattle.std.proofs.lemmas.Bool.{ne_eqb}
 use Rattle.tlsf_store.specs.Cells.{Cells}
 use Rattle.tlsf_heap.specs.Inner.Nodes.{NodeState, InUse, Listed, Loose, Node, turned, rest_node, entered}
-use Rattle.tlsf_heap.specs.Inner.Merging.{is_loose}
+use Rattle.tlsf_heap.specs.Inner.Positions.{is_loose}
 use Rattle.tlsf_heap.specs.Inner.At.{At, StandsAt, at_turned, at_listed, at_gapped}
 use Rattle.tlsf_heap.proofs.Counts.{one_if, count-cons}
 use Rattle.tlsf_heap.proofs.Inner.Plugs.{count-filled}

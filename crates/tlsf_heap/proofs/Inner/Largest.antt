@@ -13,7 +13,7 @@ use Rattle.tlsf_heap.specs.declared.refusal.Refusal.TheVariants.{NoFit}
 use Rattle.tlsf_heap.specs.Lists.{first_of_lists, pick}
 use Rattle.tlsf_heap.specs.Malloc.{malloc}
 use Rattle.tlsf_heap.specs.Readings.{IsLargestRequest}
-use Rattle.tlsf_heap.specs.Inner.Bitmaps.{first_head}
+use Rattle.tlsf_heap.specs.Images.Bitmaps.{first_head}
 use Rattle.tlsf_heap.specs.Inner.Following.{content_of, Stands}
 use Rattle.tlsf_heap.proofs.Bits.Search.{first_head_passes}
 use Rattle.tlsf_heap.proofs.Content.MallocCases.{IsPicked, malloc_cases}

@@ -10,9 +10,8 @@ use Rattle.tlsf_heap.specs.Content.{Block, Content, blocks_of, is_at, size_at}
 use Rattle.tlsf_heap.specs.Good.{times, IsGood}
 use Rattle.tlsf_heap.specs.Free.{is_owned_by, is_live, after_free}
 use Rattle.tlsf_heap.specs.Inner.Nodes.{NodeState, InUse, Listed, Loose, Node, Layout, turned, owner_of, block_of, pool_of, content_by, nodes_of, has_slot, has_place}
-use Rattle.tlsf_heap.specs.Inner.Positions.{filled}
+use Rattle.tlsf_heap.specs.Inner.Positions.{filled, is_loose}
 use Rattle.tlsf_heap.specs.Inner.Represents.{state_of, uses_in, Represents}
-use Rattle.tlsf_heap.specs.Inner.Merging.{is_loose}
 use Rattle.tlsf_heap.specs.Inner.Following.{content_of, Stands}
 use Rattle.tlsf_heap.specs.Inner.At.{At, areas_at, layout_at, StandsAt, at_freed}
 use Rattle.tlsf_heap.proofs.Counts.{one_if, count-cons, any_counts, counts_any, any-map}

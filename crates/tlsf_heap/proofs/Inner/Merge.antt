@@ -7,7 +7,6 @@ use Rattle.tlsf_store.specs.Records.{blank, record_at}
 use Rattle.tlsf_store.specs.Cells.{Cells}
 use Rattle.tlsf_store.proofs.RecordLaws.{record_at-set_same, record_at-set_other}
 use Rattle.tlsf_heap.specs.Inner.Edits.{edited_in}
-use Rattle.tlsf_heap.specs.Inner.Spans.{node_span, merged_behind_by}
 use Rattle.tlsf_heap.specs.Inner.Nodes.{Node, has_slot, nodes_in, is_listed, is_listed_in}
 use Rattle.tlsf_heap.specs.Inner.Positions.{Position, laid}
 use Rattle.tlsf_heap.specs.Inner.Represents.{InPool, pool_view, list_view, pool_views, list_views, in_pool, first_slot, state_of, uses_in, Represents}
@@ -98,7 +97,7 @@ module _ (cells : Cells) (count : ℕ) (position : Position) (node behind : Node
       let P : ℕ → Type 0 = λ n. 1 ≤ count_by (has_slot n) (nodes_in number lists) in
       omega (arith, subst P e h, unlisted_nowhere (pool_views cells.records) beyond behind nodes lists taken was.chains was.agree behind_not number))
 
-  pub merge_laid : Represents (merged_behind_by (node_span both nodes) (state_of node.state) behind.slot cells) (laid count position (both ∷ nodes) lists taken)
+  pub merge_laid : Represents (record cells { records = new }) (laid count position (both ∷ nodes) lists taken)
   merge_laid =
       refilled cells count position (node ∷ behind ∷ nodes) (both ∷ nodes) lists taken taken new was (length-set two behind.slot blank ∙ same_count)
       (λ q h. others q (here.outside_apart q h) (there.outside_apart q (omega (arith, h, count-cons (has_slot q) node position.before))) (not_first q (omega (arith, h, here.most q, count-cons (has_slot q) node (behind ∷ nodes), count-cons (has_slot q) behind nodes))))

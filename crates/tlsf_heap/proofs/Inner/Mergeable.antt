@@ -12,8 +12,7 @@ use Rattle.tlsf_heap.specs.declared.span.Span.{Span}
 use Rattle.tlsf_heap.specs.Inner.Edits.{IsUsed, unlinked_by}
 use Rattle.tlsf_heap.specs.Inner.Spans.{IsRead, node_span, span_at, merged_by, CanMerge}
 use Rattle.tlsf_heap.specs.Inner.Nodes.{NodeState, InUse, Listed, Loose, Node, Area, nodes_of, turned, block_of, pool_of, is_listed, left}
-use Rattle.tlsf_heap.specs.Inner.Positions.{Position, laid, filled}
-use Rattle.tlsf_heap.specs.Inner.Merging.{is_loose, past, listed_first, left_by, merged_with_front, merged_with_behind}
+use Rattle.tlsf_heap.specs.Inner.Positions.{Position, laid, filled, is_loose, past, listed_first, left_by, merged_with_front, merged_with_behind}
 use Rattle.tlsf_heap.specs.Inner.Represents.{InPool, in_pool, pool_views, state_of, first_slot, AreChains, Represents}
 use Rattle.tlsf_heap.specs.Inner.At.{At, StandsAt, AreCovered, previous_merged, next_merged}
 use Rattle.tlsf_heap.proofs.Good.MallocIsGood.{IsWholeBlock}

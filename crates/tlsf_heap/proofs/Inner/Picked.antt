@@ -9,7 +9,7 @@ use Rattle.tlsf_store.specs.Records.{record_at}
 use Rattle.tlsf_store.specs.Cells.{Cells, head_at}
 use Rattle.tlsf_heap.specs.Content.{Content}
 use Rattle.tlsf_heap.specs.Lists.{first_of_lists, pick}
-use Rattle.tlsf_heap.specs.Inner.Bitmaps.{first_head}
+use Rattle.tlsf_heap.specs.Images.Bitmaps.{first_head}
 use Rattle.tlsf_heap.specs.Inner.Nodes.{Node, nodes_in, has_slot}
 use Rattle.tlsf_heap.specs.Inner.Represents.{first_slot}
 use Rattle.tlsf_heap.specs.Inner.Answers.{IsPick}

@@ -7,13 +7,11 @@ use Rattle.tlsf_store.specs.Records.{blank, record_at}
 use Rattle.tlsf_store.specs.Cells.{Cells}
 use Rattle.tlsf_store.proofs.RecordLaws.{record_at-set_same, record_at-set_other}
 use Rattle.tlsf_store.specs.declared.pools.Pool.{Pool as StoredPool}
-use Rattle.tlsf_heap.specs.Inner.Entries.{free_record}
+use Rattle.tlsf_heap.specs.Inner.Entries.{free_record, pool_put, pool_dropped}
 use Rattle.tlsf_heap.specs.Good.{times}
-use Rattle.tlsf_heap.specs.Inner.Nodes.{Node, Area, has_slot, nodes_of, nodes_in, is_listed, is_listed_in}
+use Rattle.tlsf_heap.specs.Inner.Nodes.{Node, Area, has_slot, nodes_of, nodes_in, is_listed, is_listed_in, pool_node, area_of_one, entries_in}
 use Rattle.tlsf_heap.specs.Inner.Positions.{plug, Position}
 use Rattle.tlsf_heap.specs.Inner.Represents.{pool_view, list_view, pool_views, list_views, IsChain, uses_in, Represents}
-use Rattle.tlsf_heap.specs.Inner.CellEdits.{pool_put, pool_dropped}
-use Rattle.tlsf_heap.specs.Inner.Entering.{pool_node, area_of_one, entries_in}
 use Rattle.tlsf_heap.proofs.Counts.{one_if, count-cons}
 use Rattle.tlsf_heap.proofs.Inner.Plugs.{all_parts, all_plugged, count-nodes, count-nodes-plug}
 use Rattle.tlsf_heap.proofs.Content.FreeLists.{times-cons}

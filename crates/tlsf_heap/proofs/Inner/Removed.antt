@@ -15,14 +15,11 @@ use Rattle.tlsf_heap.specs.Content.{Block, Pool, Content}
 use Rattle.tlsf_heap.specs.Lists.{unlink}
 use Rattle.tlsf_heap.specs.Good.{AreGoodPools, IsGood}
 use Rattle.tlsf_heap.specs.Pools.{is_based, is_unused, without_pool, remove_found, remove_pool}
-use Rattle.tlsf_heap.specs.Inner.Entries.{entries_of, padded}
-use Rattle.tlsf_heap.specs.Inner.Nodes.{InUse, Listed, Node, Area, turned, left, has_slot, nodes_of, block_of, pool_of, content_by}
-use Rattle.tlsf_heap.specs.Inner.Positions.{plug, Position, filled}
-use Rattle.tlsf_heap.specs.Inner.Entering.{entries_in}
-use Rattle.tlsf_heap.specs.Inner.Merging.{is_loose}
+use Rattle.tlsf_heap.specs.Inner.Entries.{entries_of, padded, pool_dropped}
+use Rattle.tlsf_heap.specs.Inner.Nodes.{InUse, Listed, Node, Area, turned, left, has_slot, nodes_of, block_of, pool_of, content_by, entries_in}
+use Rattle.tlsf_heap.specs.Inner.Positions.{plug, Position, filled, is_loose}
 use Rattle.tlsf_heap.specs.Inner.Represents.{IsChain, pool_views, first_slot, Represents}
 use Rattle.tlsf_heap.specs.Inner.At.{At, layout_at, StandsAt, at_taken, without_area}
-use Rattle.tlsf_heap.specs.Inner.CellEdits.{pool_dropped}
 use Rattle.tlsf_heap.specs.Inner.Following.{Stands, content_of}
 use Rattle.tlsf_heap.proofs.Good.RemovedPool.{others, found_among, none_found, one_block, without_pool_is_good, removed}
 use Rattle.tlsf_heap.proofs.Inner.Plugs.{map-plug, all_parts, count-nodes, count-nodes-plug}

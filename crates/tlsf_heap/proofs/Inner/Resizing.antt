@@ -10,8 +10,7 @@ use Rattle.tlsf_heap.specs.Content.{Block, Content, blocks_of, size_at, used_rec
 use Rattle.tlsf_heap.specs.Free.{is_live, if_free, free_next, size_of}
 use Rattle.tlsf_heap.specs.Realloc.{fits_in_place, resized}
 use Rattle.tlsf_heap.specs.Inner.Nodes.{InUse, Node, Layout, turned, block_of, content_by, nodes_of, is_listed}
-use Rattle.tlsf_heap.specs.Inner.Positions.{filled}
-use Rattle.tlsf_heap.specs.Inner.Merging.{is_loose, listed_first, past, merged_with_behind}
+use Rattle.tlsf_heap.specs.Inner.Positions.{filled, is_loose, listed_first, past, merged_with_behind}
 use Rattle.tlsf_heap.specs.Inner.Following.{content_of, Stands}
 use Rattle.tlsf_heap.specs.Inner.At.{areas_at, layout_at, StandsAt, next_merged, at_split_rest}
 use Rattle.tlsf_heap.proofs.Counts.{count_all}

@@ -18,7 +18,7 @@ use Rattle.tlsf_heap.specs.Inner.Nodes.{NodeState, InUse, Listed, Node, Layout, 
 use Rattle.tlsf_heap.specs.Inner.Following.{content_of, Stands}
 use Rattle.tlsf_heap.specs.Inner.At.{At, areas_at, layout_at, StandsAt, at_taken, at_split_off, at_split_rest}
 use Rattle.tlsf_heap.proofs.Good.MallocIsGood.{picked, allocated_is_good}
-use Rattle.tlsf_heap.specs.Inner.Merging.{is_loose}
+use Rattle.tlsf_heap.specs.Inner.Positions.{is_loose}
 use Rattle.tlsf_heap.proofs.Counts.{one_if, count-cons, count-map}
 use Rattle.tlsf_heap.proofs.Inner.Plugs.{count-filled}
 use Rattle.tlsf_heap.proofs.Inner.Followed.{stood_for, records_are}

@@ -9,7 +9,7 @@ use Rattle.tlsf_store.specs.Records.{record_at}
 use Rattle.tlsf_store.specs.Cells.{Cells, with_head, with_level_word, with_step_word, head_at}
 use Rattle.tlsf_heap.specs.Images.Bitmaps.{AreBitmapsOf, head_bit}
 use Rattle.tlsf_heap.specs.Inner.Entries.{padded}
-use Rattle.tlsf_heap.specs.Inner.Edits.{edited_in, without_bit, IsUsed, with_prev_free, with_behind, with_level_cleared, unlinked_by}
+use Rattle.tlsf_heap.specs.Inner.Edits.{edited_in, without_bit, IsUsed, with_prev_free, with_behind, unlinked_by}
 use Rattle.tlsf_heap.specs.Inner.Nodes.{Node, Area, Listed, Loose, turned, nodes_of, has_slot, nodes_in, is_listed_in, without_slot, left}
 use Rattle.tlsf_heap.specs.Inner.Positions.{plug, Position, laid, filled}
 use Rattle.tlsf_heap.specs.Inner.Represents.{InList, pool_view, list_view, pool_views, list_views, in_list, first_slot, AreLinked, AreChains, Agree, Represented, Represents}
@@ -23,7 +23,7 @@ use Rattle.tlsf_heap.proofs.Inner.Chains.{uses_most, used_below, listed_within, 
 use Rattle.tlsf_heap.proofs.Inner.Linked.{chains_turned}
 use Rattle.tlsf_heap.proofs.Inner.Used.{listed_used}
 
-pub cleared_is : (level word : ℕ) (cells : Cells) → with_level_cleared level word cells ≡ record cells { level_word = cond (eqb word 0) (without_bit cells.level_word level) cells.level_word }
+pub cleared_is : (level word : ℕ) (cells : Cells) → cond (eqb word 0) (with_level_word cells (without_bit cells.level_word level)) cells ≡ record cells { level_word = cond (eqb word 0) (without_bit cells.level_word level) cells.level_word }
 cleared_is level word cells = elim (eqb word 0) as (λ b. cond b (with_level_word cells (without_bit cells.level_word level)) cells ≡ record cells { level_word = cond b (without_bit cells.level_word level) cells.level_word }) [
   | true ↦ refl
   | false ↦ refl

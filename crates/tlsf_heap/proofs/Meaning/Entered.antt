@@ -7,8 +7,7 @@ use Rattle.tlsf_heap.specs.Content.{Block, Pool}
 use Rattle.tlsf_heap.specs.Malloc.{gap}
 use Rattle.tlsf_heap.specs.Lists.{link}
 use Rattle.tlsf_heap.specs.Pools.{in_order_of_base, with_pool}
-use Rattle.tlsf_heap.specs.Inner.Nodes.{Node, Area, Layout, Listed, turned, pool_of, content_by, nodes_of, entered}
-use Rattle.tlsf_heap.specs.Inner.Entering.{pool_node, area_of_one, with_area, pool_laid}
+use Rattle.tlsf_heap.specs.Inner.Nodes.{Node, Area, Layout, Listed, turned, pool_of, content_by, nodes_of, entered, pool_node, area_of_one, with_area, pool_laid}
 use Rattle.tlsf_heap.proofs.Counts.{one_if, count-cons}
 use Rattle.tlsf_heap.proofs.Inserted.{map-inserted}
 use Rattle.tlsf_heap.proofs.Inner.Plugs.{count-nodes, count-nodes-plug}

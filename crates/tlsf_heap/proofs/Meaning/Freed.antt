@@ -8,8 +8,7 @@ use Rattle.tlsf_heap.specs.Lists.{link}
 use Rattle.tlsf_heap.specs.Free.{if_free, unlink_block, size_of, start_of, free_block, after_free}
 use Rattle.tlsf_heap.specs.Good.{IsGood}
 use Rattle.tlsf_heap.specs.Inner.Nodes.{NodeState, InUse, Listed, Loose, Node, turned, owner_of, block_of, pool_of, content_by, is_listed}
-use Rattle.tlsf_heap.specs.Inner.Positions.{Position, filled, laid}
-use Rattle.tlsf_heap.specs.Inner.Merging.{is_loose, listed_first, past, left_by, merged_with_front, merged_with_behind, position_past, merged_node, freed_layout}
+use Rattle.tlsf_heap.specs.Inner.Positions.{Position, filled, laid, is_loose, listed_first, past, left_by, merged_with_front, merged_with_behind, position_past, merged_node, freed_layout}
 use Rattle.tlsf_heap.proofs.Counts.{one_if, count-cons}
 use Rattle.tlsf_heap.proofs.Inner.Lists.{length-left}
 use Rattle.tlsf_heap.proofs.Meaning.BlockPositions.{filled_pools}

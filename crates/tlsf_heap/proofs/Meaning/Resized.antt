@@ -8,8 +8,7 @@ use Rattle.tlsf_heap.specs.Free.{unlink_block, size_of}
 use Rattle.tlsf_heap.specs.Realloc.{resized}
 use Rattle.tlsf_heap.specs.Good.{IsGood}
 use Rattle.tlsf_heap.specs.Inner.Nodes.{InUse, Listed, Node, turned, block_of, content_by, entered, gap_nodes, entered_gap}
-use Rattle.tlsf_heap.specs.Inner.Positions.{Position, filled, laid}
-use Rattle.tlsf_heap.specs.Inner.Merging.{listed_first, past, left_by, merged_with_behind}
+use Rattle.tlsf_heap.specs.Inner.Positions.{Position, filled, laid, listed_first, past, left_by, merged_with_behind}
 use Rattle.tlsf_heap.proofs.Meaning.BlockPositions.{filled_pools}
 use Rattle.tlsf_heap.proofs.Meaning.FreeFirst.{past_free}
 use Rattle.tlsf_heap.proofs.Meaning.Places.{block_position, pools_are, AgreeOnce, by_places, places-entered}

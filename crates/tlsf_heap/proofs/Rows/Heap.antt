@@ -16,7 +16,7 @@ use Rattle.tlsf_heap.specs.Realloc.{realloc}
 use Rattle.tlsf_heap.specs.BlockSize.{block_size}
 use Rattle.tlsf_heap.specs.Pools.{created, add_pool, remove_pool}
 use Rattle.tlsf_heap.specs.Good.{times}
-use Rattle.tlsf_heap.specs.Implied.{IsAligned, AreDisjoint, HasAlignedBlocks, HasDisjointBlocks, AreFreeBelow, live_blocks, HasFewRecords}
+use Rattle.tlsf_heap.specs.Implied.{IsAligned, AreDisjoint, AreFreeBelow, live_blocks, HasFewRecords}
 
 -- a request of the rows
 data Request : Type 0 where
@@ -134,12 +134,12 @@ first_split-blocks : blocks_of first_split.content.pools ≡ two_blocks
 unfolding class need low rounded
 first_split-blocks = refl
 
-first_split-aligned : HasAlignedBlocks first_split.content
+first_split-aligned : All IsAligned (blocks_of first_split.content.pools)
 first_split-aligned =
     let P : List (Block ℕ) → Type 0 = λ blocks. All IsAligned blocks in
     subst P (sym first_split-blocks) (All-from_recursion IsAligned two_blocks ((refl, refl), ((refl, refl), tt)))
 
-first_split-disjoint : HasDisjointBlocks first_split.content
+first_split-disjoint : AllPairs AreDisjoint (blocks_of first_split.content.pools)
 first_split-disjoint =
     let P : List (Block ℕ) → Type 0 = λ blocks. AllPairs AreDisjoint blocks in
     let last : Block ℕ = record { place = 112; size = 912; owner = None } in

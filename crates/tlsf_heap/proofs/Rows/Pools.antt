@@ -6,9 +6,8 @@ use Rattle.tlsf_store.specs.declared.pools.Pool.{Pool as StoredPool}
 use Rattle.tlsf_heap.specs.Inner.Entries.{pool_entered}
 use Rattle.tlsf_heap.specs.Pools.{created, with_pool}
 use Rattle.tlsf_heap.specs.Cursors.{rows_by, rest_of}
-use Rattle.tlsf_heap.specs.Inner.Nodes.{Layout, content_by, entered}
+use Rattle.tlsf_heap.specs.Inner.Nodes.{Layout, content_by, entered, pool_node, entries_in, pool_laid}
 use Rattle.tlsf_heap.specs.Inner.Represents.{pool_views, in_pool, AreLinked}
-use Rattle.tlsf_heap.specs.Inner.Entering.{pool_node, entries_in, pool_laid}
 use Rattle.tlsf_heap.proofs.Inner.Empty.{empty}
 
 abbrev pool : ℕ → ℕ → ℕ → StoredPool

@@ -1,13 +1,18 @@
--- What an image of a heap describes, the parts that cells have for one, and what saving a heap writes.
-use Rattle.std.specs.Prelude.{◌≡◌, ℕ, List, None, Result}
+-- What an image of a heap describes, what it tells of a store, and what saving a heap writes.
+use Rattle.std.specs.Prelude.{◌≡◌, ℕ, List, None, Result, map}
 use Rattle.mtrace_log.specs.Shown.{WriterState}
 use Rattle.mtrace_log.specs.Output.{Puts}
 use Rattle.tlsf_store.specs.Cells.{Cells}
 use Rattle.tlsf_heap.specs.Images.Image.{Parts, parts_in}
-use Rattle.tlsf_heap.specs.Images.Rules.{first_broken}
+use Rattle.tlsf_heap.specs.Images.Rules.{first_broken, first_of, rules_of_table}
 use Rattle.tlsf_heap.specs.Content.{Content}
 use Rattle.tlsf_heap.specs.Inner.Entries.{entries_of}
 use Rattle.tlsf_heap.specs.Inner.Following.{content_from}
+use Rattle.tlsf_store.specs.declared.records.State.{State}
+use Rattle.tlsf_store.specs.declared.records.State.TheVariants.{Vacant, Free, Live}
+use Rattle.tlsf_store.specs.declared.records.Record.{Record}
+use Rattle.tlsf_store.specs.Records.{blank}
+use Rattle.tlsf_heap.specs.Images.Bitmaps.{AreBitmapsOf}
 
 -- the content that the parts of an image stand for
 abbrev pub described : List ℕ → Content ℕ
@@ -27,3 +32,21 @@ pub record Saves {T E : Type 0} (result : Result T E) (content : Content ℕ) (o
   pub image : List ℕ
   pub is_image : IsImageOf content image
   pub put : Puts result image old new
+
+-- what is told of a record in this state: nothing of a vacant one, and of a live one no neighbours in a list
+abbrev pub told_in : State → Record → Record
+told_in Vacant r = blank
+told_in Free r = r
+told_in Live r = record r { prev_free = None; next_free = None }
+
+abbrev pub told : Record → Record
+told r = told_in r.state r
+
+-- the parts that the image of a store's cells is to have
+abbrev pub told_parts : Cells → Parts
+told_parts cells = record { pools = cells.pools; heads = cells.heads; records = map told cells.records }
+
+-- the cells' image would break no rule, and the bitmaps agree with the heads
+pub record IsWholeStore (cells : Cells) : Type 0 where
+  pub rules : first_of (rules_of_table (told_parts cells)) ≡ None
+  pub bitmaps : AreBitmapsOf cells.heads cells.step_words cells.level_word

@@ -1,4 +1,4 @@
--- What is found where chains and lists are followed.
+-- A table that is only read, and what is found where its chains and lists are followed.
 use Rattle.std.specs.Prelude.{ℕ, ◌+◌, ◌&&◌, ◌==◌, not, Bool, true, false, List, length, Option, Some, None, if◌then◌else◌, nat_eq, ◌≡◌, ◌<◌, ◌≤◌}
 use Rattle.tlsf_class.specs.Classes.{greatest_size, class}
 use Rattle.std.specs.Option.{option_eq}
@@ -12,6 +12,18 @@ use Rattle.tlsf_heap.specs.declared.image.links.Blocks.{Blocks}
 use Rattle.tlsf_heap.specs.Images.Image.{Parts}
 use Rattle.tlsf_heap.specs.Images.Rules.{has_record_links, has_links, at, is_used, is_chain, chain_of, covers, are_merged, is_list, are_lists, slots_in_list}
 use Rattle.tlsf_heap.specs.Inner.Entries.{entries_of}
+use Rattle.tlsf_store.specs.Cells.{Cells}
+
+-- what stands in it stays, and so do the cells behind it; its touches don't fall
+pub record OnlyReads {T : Type 0} (parts : T → Parts) (cells : T → Cells) (touches : T → ℕ) (old new : T) : Type 0 where
+  pub same : parts new ≡ parts old
+  pub kept : cells new ≡ cells old
+  pub floor : touches old ≤ touches new
+
+-- what is found is this, and the table is only read
+pub record Finds {T R : Type 0} (found told : R) (parts : T → Parts) (cells : T → Cells) (touches : T → ℕ) (old new : T) : Type 0 where
+  pub value : found ≡ told
+  pub read : OnlyReads parts cells touches old new
 
 -- a pool's chain: how many blocks it has, whether they cover the pool, and whether no two free ones are neighbours
 abbrev pub chain_found : Parts → Pool → Option Tally
@@ -35,13 +47,9 @@ tally_with parts tally pools =
     })
     else None
 
--- nothing is seen yet
-abbrev pub no_tally : Tally
-no_tally = record { blocks = 0; covers = true; is_merged = true }
-
 -- all chains, where each is one
 abbrev pub chains_found : Parts → Option Tally
-chains_found parts = tally_with parts no_tally parts.pools
+chains_found parts = tally_with parts (record { blocks = 0; covers = true; is_merged = true }) parts.pools
 
 -- two tallies together
 abbrev pub both : Tally → Tally → Tally
@@ -70,10 +78,6 @@ list_found parts number first = if is_list parts number first then Some (length 
 -- the lists of the classes from this number on, where each is one, with this many blocks before
 abbrev pub lists_with : Parts → ℕ → ℕ → List (Option ℕ) → Option ℕ
 lists_with parts blocks number heads = if are_lists parts number heads then Some (blocks + length (flat_map (slots_in_list parts) heads)) else None
-
--- all lists, where each is one
-abbrev pub lists_found : Parts → Option ℕ
-lists_found parts = lists_with parts 0 0 parts.heads
 
 -- no block has more bytes than a block can have
 abbrev pub HasSizes : Parts → Type 0

@@ -90,8 +90,7 @@ has_links_in Live count r = is_none r.prev_free && is_none r.next_free
 -- whether a record in this state is of a block
 abbrev pub is_used : State → Bool
 is_used Vacant = false
-is_used Free = true
-is_used Live = true
+is_used other = true
 
 -- a block has bytes and links of records, a live one no links in a list
 abbrev pub has_record_links : ℕ → Record → Bool

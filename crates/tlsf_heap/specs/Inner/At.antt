@@ -6,8 +6,7 @@ use Rattle.tlsf_heap.specs.Content.{Pool}
 use Rattle.tlsf_heap.specs.Good.{Covers}
 use Rattle.tlsf_heap.specs.Pools.{end_of_places}
 use Rattle.tlsf_heap.specs.Inner.Nodes.{NodeState, InUse, Listed, Loose, Node, Area, Layout, turned, rest_node, pool_of, nodes_of, left, entered, gap_nodes, entered_gap}
-use Rattle.tlsf_heap.specs.Inner.Positions.{Position, plug, filled, laid}
-use Rattle.tlsf_heap.specs.Inner.Merging.{is_loose, listed_first, past, left_by, merged_with_front, merged_with_behind, position_past}
+use Rattle.tlsf_heap.specs.Inner.Positions.{Position, plug, filled, laid, is_loose, listed_first, past, left_by, merged_with_front, merged_with_behind, position_past}
 use Rattle.tlsf_heap.specs.Inner.Represents.{Represents}
 
 -- the blocks of the pool cover it

@@ -31,10 +31,6 @@ with_state slot state cells = edited (λ r. record r { state = state }) (Some sl
 abbrev pub with_prev_free : Option ℕ → Option ℕ → Cells → Cells
 with_prev_free slot prev cells = edited (λ r. record r { prev_free = prev }) slot cells
 
--- the block behind the slot in its class's list
-abbrev pub with_next_free : Option ℕ → Option ℕ → Cells → Cells
-with_next_free slot next cells = edited (λ r. record r { next_free = next }) slot cells
-
 -- both neighbours of the slot in its class's list
 abbrev pub with_free_links : ℕ → Option ℕ → Option ℕ → Cells → Cells
 with_free_links slot prev next cells = edited (λ r. record r { prev_free = prev; next_free = next }) (Some slot) cells
@@ -52,15 +48,12 @@ abbrev pub with_class_bit : ℕ → Cells → Cells
 with_class_bit class cells =
     with_level_word (with_step_word cells (class / steps) (with_bit (slice_index cells.step_words (class / steps)) (class % steps))) (with_bit cells.level_word (class / steps))
 
--- the first level's bit is cleared where its step word is 0
-abbrev pub with_level_cleared : ℕ → ℕ → Cells → Cells
-with_level_cleared level word cells = if word == 0 then with_level_word cells (without_bit cells.level_word level) else cells
-
 -- the class's bit is cleared, and that of its first level where no other class of it has a bit
 abbrev pub without_class_bit : ℕ → Cells → Cells
 without_class_bit class cells =
     let word = without_bit (slice_index cells.step_words (class / steps)) (class % steps) in
-    with_level_cleared (class / steps) word (with_step_word cells (class / steps) word)
+    let cleared = with_step_word cells (class / steps) word in
+    if word == 0 then with_level_word cleared (without_bit cleared.level_word (class / steps)) else cleared
 
 -- the class's bit is set, and that of its first level, where its list was empty
 abbrev pub with_bit_before : Option ℕ → ℕ → Cells → Cells
@@ -78,15 +71,11 @@ abbrev pub IsUsed : List Record → Option ℕ → Type 0
 IsUsed records None = Unit {0}
 IsUsed records (Some slot) = (slot < length records) × ((record_at records slot).state ≢ Vacant)
 
--- the first of the class's list; where there is none the class's bit is cleared
-abbrev pub with_first : ℕ → Option ℕ → Cells → Cells
-with_first class None cells = without_class_bit class (with_head cells class None)
-with_first class (Some slot) cells = with_head cells class (Some slot)
-
--- what stands behind the block in front, or first where none is in front
+-- what stands behind the block in front, or first where none is in front; where there is no first the class's bit is cleared
 abbrev pub with_behind : ℕ → Option ℕ → Option ℕ → Cells → Cells
-with_behind class None next cells = with_first class next cells
-with_behind class (Some slot) next cells = with_next_free (Some slot) next cells
+with_behind class (Some slot) next cells = edited (λ r. record r { next_free = next }) (Some slot) cells
+with_behind class None (Some first) cells = with_head cells class (Some first)
+with_behind class None None cells = without_class_bit class (with_head cells class None)
 
 -- the free block of this record leaves its class's list, wherever it stands in it
 abbrev pub unlinked_by : ℕ → Record → Cells → Cells

@@ -1,4 +1,4 @@
--- The pool entries of a store, and a pool that enters it.
+-- The pool entries of a store, a pool that enters it, and one that leaves.
 use Rattle.std.specs.Prelude.{ℕ, ◌+◌, ◌-◌, ◌||◌, nat_le, Bool, List, ◌++◌, length, map, replicate, slice_index_or, Option, Some, None}
 use Rattle.std.specs.List.{filter_map}
 use Rattle.tlsf_class.specs.Classes.{class}
@@ -8,6 +8,7 @@ use Rattle.tlsf_store.specs.declared.pools.Pool.{Pool as StoredPool}
 use Rattle.tlsf_store.specs.Cells.{Cells, with_record, most_pools}
 use Rattle.tlsf_heap.specs.Pools.{inserted}
 use Rattle.tlsf_heap.specs.Inner.Edits.{linked}
+use Rattle.tlsf_store.specs.Records.{blank}
 
 -- the entries, and none behind them
 abbrev pub padded : List StoredPool → List (Option StoredPool)
@@ -45,3 +46,11 @@ free_record place size = record { place = place; size = size; state = Free; prev
 abbrev pub pool_entered : StoredPool → Cells → Cells
 pool_entered entry cells =
     linked (class entry.bytes) entry.first (with_entries (with_entry entry (entries_of cells.pools)) (with_record cells entry.first (free_record entry.base entry.bytes)))
+
+-- these are the entries, and the entry's first slot is of the pool's one free block, which is in no list
+abbrev pub pool_put : StoredPool → List StoredPool → Cells → Cells
+pool_put entry entries cells = with_entries entries (with_record cells entry.first (free_record entry.base entry.bytes))
+
+-- these are the entries, and the slot is vacant
+abbrev pub pool_dropped : ℕ → List StoredPool → Cells → Cells
+pool_dropped slot entries cells = with_entries entries (with_record cells slot blank)

@@ -1,7 +1,7 @@
 -- The content that cells stand for, by following the links of their records; and when they stand.
 use Rattle.std.specs.Prelude.{◌≡◌, ℕ, List, [], length, map, count_by, Option, Some, None}
 use Rattle.tlsf_store.specs.declared.records.State.{State}
-use Rattle.tlsf_store.specs.declared.records.State.TheVariants.{Vacant, Free, Live}
+use Rattle.tlsf_store.specs.declared.records.State.TheVariants.{Live}
 use Rattle.tlsf_store.specs.declared.records.Record.{Record}
 use Rattle.tlsf_store.specs.Records.{record_at}
 use Rattle.tlsf_store.specs.Cells.{Cells}
@@ -11,14 +11,13 @@ use Rattle.tlsf_heap.specs.Content.{Block, Pool, Content}
 use Rattle.tlsf_heap.specs.Good.{IsGood}
 use Rattle.tlsf_heap.specs.Inner.Entries.{entries_of}
 use Rattle.tlsf_heap.specs.Inner.Nodes.{Layout, content_by, nodes_of}
-use Rattle.tlsf_heap.specs.Inner.Merging.{is_loose}
+use Rattle.tlsf_heap.specs.Inner.Positions.{is_loose}
 use Rattle.tlsf_heap.specs.Inner.Represents.{Represents}
 
 -- a live block is known by its slot
 abbrev pub owner_in : State → ℕ → Option ℕ
-owner_in Vacant slot = None
-owner_in Free slot = None
 owner_in Live slot = Some slot
+owner_in other slot = None
 
 -- the block of a slot
 abbrev pub block_at : List Record → ℕ → Block ℕ

@@ -3,6 +3,7 @@ use Rattle.std.specs.Prelude.{ℕ, ◌+◌, ◌-◌, Bool, true, false, not, ◌
 use Rattle.tlsf_class.specs.Classes.{class}
 use Rattle.tlsf_store.specs.declared.pools.Pool.{Pool as StoredPool}
 use Rattle.tlsf_heap.specs.Content.{Block, Pool, Content}
+use Rattle.tlsf_heap.specs.Pools.{inserted}
 
 -- live; free and in its class's list; or free and on its way, in no list
 pub data NodeState : Type 0 where
@@ -33,8 +34,7 @@ pub record Layout : Type 0 where
 -- a live block is known by its slot
 abbrev pub owner_of : NodeState → ℕ → Option ℕ
 owner_of InUse slot = Some slot
-owner_of Listed slot = None
-owner_of Loose slot = None
+owner_of other slot = None
 
 abbrev pub block_of : Node → Block ℕ
 block_of node = record { place = node.place; size = node.size; owner = owner_of node.state node.slot }
@@ -75,9 +75,8 @@ abbrev pub has_place : ℕ → Node → Bool
 has_place place node = node.place == place
 
 abbrev pub is_listed : NodeState → Bool
-is_listed InUse = false
 is_listed Listed = true
-is_listed Loose = false
+is_listed other = false
 
 -- whether the node is to stand in the list of the class
 abbrev pub is_listed_in : ℕ → Node → Bool
@@ -102,3 +101,24 @@ gap_nodes slot place size = if size == 0 then [] else record { slot = slot; plac
 -- it enters its class's list
 abbrev pub entered_gap : (slot place size : ℕ) → List (List Node) → List (List Node)
 entered_gap slot place size lists = if size == 0 then lists else entered (record { slot = slot; place = place; size = size; state = Listed }) lists
+
+-- the one node of the entry's pool
+abbrev pub pool_node : StoredPool → Node
+pool_node entry = record { slot = entry.first; place = entry.base; size = entry.bytes; state = Loose }
+
+abbrev pub area_of_one : StoredPool → Node → Area
+area_of_one entry node = record { entry = entry; nodes = node ∷ [] }
+
+-- the entries of areas
+abbrev pub entries_in : List Area → List StoredPool
+entries_in areas = map (λ area. area.entry) areas
+
+-- the area among the others, in order of base
+abbrev pub with_area : Area → List Area → List Area
+with_area area areas = inserted (λ other. other.entry.base) area areas
+
+-- the layout with the entry's pool, whose node is in its list
+abbrev pub pool_laid : StoredPool → Layout → Layout
+pool_laid entry layout =
+    let node = turned Listed (pool_node entry) in
+    record layout { areas = with_area (area_of_one entry node) layout.areas; lists = entered node layout.lists }

@@ -1,7 +1,8 @@
--- A position in a layout: what stands in front of it and behind it, the nearest first.
-use Rattle.std.specs.Prelude.{ℕ, List, [], ◌∷◌}
+-- A position in a layout: what stands in front of it and behind it, the nearest first. A node there, and the free ones beside
+-- it, merged.
+use Rattle.std.specs.Prelude.{ℕ, List, [], ◌∷◌, ◌+◌, Bool, true, false, Option, Some, None, if◌then◌else◌}
 use Rattle.tlsf_store.specs.declared.pools.Pool.{Pool as StoredPool}
-use Rattle.tlsf_heap.specs.Inner.Nodes.{Node, Area, Layout}
+use Rattle.tlsf_heap.specs.Inner.Nodes.{Node, Area, Layout, NodeState, Listed, Loose, turned, is_listed, left, entered}
 
 -- the items in front, nearest first, and then those behind
 abbrev pub plug : {A : Type 0} → List A → List A → List A
@@ -26,3 +27,46 @@ filled position nodes = plug position.areas_before (record { entry = position.en
 -- the layout with these nodes at the position
 abbrev pub laid : ℕ → Position → List Node → List (List Node) → List ℕ → Layout
 laid count position nodes lists taken = record { count = count; areas = filled position nodes; lists = lists; taken = taken }
+
+abbrev pub is_loose : NodeState → Bool
+is_loose Loose = true
+is_loose other = false
+
+-- the first of the nodes, where it is listed
+abbrev pub listed_first : List Node → Option Node
+listed_first [] = None
+listed_first (node ∷ nodes) = if is_listed node.state then Some node else None
+
+-- the nodes without it
+abbrev pub past : List Node → List Node
+past [] = []
+past (node ∷ nodes) = if is_listed node.state then nodes else node ∷ nodes
+
+-- a node, where there is one, leaves its list
+abbrev pub left_by : Option Node → List (List Node) → List (List Node)
+left_by None lists = lists
+left_by (Some node) lists = left node lists
+
+-- a node in front, where there is one, is merged with the node
+abbrev pub merged_with_front : Option Node → Node → Node
+merged_with_front None node = node
+merged_with_front (Some front) node = record front { size = front.size + node.size; state = Loose }
+
+-- the node is merged with one behind, where there is one
+abbrev pub merged_with_behind : Option Node → Node → Node
+merged_with_behind None node = node
+merged_with_behind (Some behind) node = record node { size = node.size + behind.size }
+
+-- the position without a listed node in front
+abbrev pub position_past : Position → Position
+position_past position = record position { before = past position.before }
+
+-- the loose node that is left of a node and those beside it
+abbrev pub merged_node : Position → Node → List Node → Node
+merged_node position node nodes = merged_with_behind (listed_first nodes) (merged_with_front (listed_first position.before) (turned Loose node))
+
+-- the layout after the node at the position was freed: one listed node is left of it and those beside it
+abbrev pub freed_layout : ℕ → Position → Node → List Node → List (List Node) → List ℕ → Layout
+freed_layout count position node nodes lists taken =
+    let merged = turned Listed (merged_node position node nodes) in
+    laid count (position_past position) (merged ∷ past nodes) (entered merged (left_by (listed_first nodes) (left_by (listed_first position.before) lists))) taken

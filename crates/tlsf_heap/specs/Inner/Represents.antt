@@ -12,7 +12,7 @@ use Rattle.tlsf_store.specs.Cells.{Cells}
 use Rattle.tlsf_heap.specs.Good.{times}
 use Rattle.tlsf_heap.specs.Images.Bitmaps.{AreBitmapsOf}
 use Rattle.tlsf_heap.specs.Inner.Entries.{padded}
-use Rattle.tlsf_heap.specs.Inner.Nodes.{NodeState, InUse, Listed, Loose, Node, Area, Layout, nodes_of, nodes_in, has_slot, is_listed_in}
+use Rattle.tlsf_heap.specs.Inner.Nodes.{NodeState, InUse, Node, Area, Layout, nodes_of, nodes_in, has_slot, is_listed_in}
 
 -- what a record says of its block, and of the blocks in front and behind in its pool
 pub record InPool : Type 0 where
@@ -43,8 +43,7 @@ list_views records slot = list_view (record_at records slot)
 -- the state of a node's record
 abbrev pub state_of : NodeState → State
 state_of InUse = Live
-state_of Listed = Free
-state_of Loose = Free
+state_of other = Free
 
 -- what a node's record is to say between these neighbours
 abbrev pub in_pool : Option ℕ → Node → Option ℕ → InPool
@@ -72,8 +71,7 @@ pub record IsChain (at : ℕ → InPool) (area : Area) : Type 0 where
 -- how many nodes and taken slots a record in this state has
 abbrev pub uses_in : State → ℕ
 uses_in Vacant = 0
-uses_in Free = 1
-uses_in Live = 1
+uses_in other = 1
 
 -- each area is a chain, and each slot is of one node, or taken, exactly where its record isn't vacant
 pub record AreChains (at : ℕ → InPool) (areas : List Area) (taken : List ℕ) : Type 0 where

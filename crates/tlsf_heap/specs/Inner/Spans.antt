@@ -59,13 +59,11 @@ abbrev pub split_by : Span → State → ℕ → State → ℕ → Cells → Cel
 split_by span front rest back bytes cells =
     with_prev span.next (Some rest) (with_block span.slot bytes front (Some rest) (with_record cells rest (rest_of back span bytes)))
 
--- the block, in this state, is merged with the one behind it, whose slot becomes vacant; the span says what it is then
-abbrev pub merged_behind_by : Span → State → ℕ → Cells → Cells
-merged_behind_by span state behind cells = with_record (with_prev span.next (Some span.slot) (with_block span.slot span.size state span.next cells)) behind blank
-
--- one of two neighbours, of this record, left its list, and the two are merged
+-- One of two neighbours, of this record, left its list. The first, in this state, is merged with the one behind it, whose slot
+-- becomes vacant; the span says what it is then.
 abbrev pub merged_by : Span → State → ℕ → Record → Cells → Cells
-merged_by span state behind listed cells = merged_behind_by span state behind (unlinked_by (class listed.size) listed cells)
+merged_by span state behind listed cells =
+    with_record (with_prev span.next (Some span.slot) (with_block span.slot span.size state span.next (unlinked_by (class listed.size) listed cells))) behind blank
 
 -- one of two neighbours, the listed one of this record, can leave its list. The two can then be merged.
 -- out: the records once the listed one left

@@ -1,10 +1,10 @@
 //! Whether the bitmaps agree with the heads of the lists.
 
-ghost use Rattle.std.specs.Prelude.{◌≡◌, ℕ, ◌<◌, ◌≤◌, ◌/◌, ◌%◌, ◌==◌, ◌↔◌, IsTrue, slice_index};
+ghost use Rattle.std.specs.Prelude.{◌≡◌, ℕ, ◌<◌, ◌/◌, ◌%◌, ◌==◌, ◌↔◌, IsTrue, slice_index};
 ghost use Rattle.tlsf_class.specs.Classes.{steps, levels, classes};
 ghost use Rattle.tlsf_store.specs.Cells.{head_at};
 ghost use Rattle.std.specs.Int.{bit_at};
-ghost use Rattle.tlsf_heap.specs.Images.Bitmaps.{AreBitmapsOf, head_bit, word_bit};
+ghost use Rattle.tlsf_heap.specs.Images.Bitmaps.{AreBitmapsOf, head_bit};
 
 use tlsf_class::{CLASSES, Class, LEVELS, STEPS};
 use tlsf_store::Store;
@@ -15,16 +15,6 @@ fn has_bit(word: u32, bit: u32) -> bool
     ensures { result ≡ (bit_at word bit == 1) }
 {
     (word >> bit) % 2 == 1
-}
-
-/// Whether the bitmaps are true. A class's bit says whether its list has a block. A first level's bit says
-/// whether the bit of one of its classes is set.
-pub(crate) fn has_true_bitmaps(store: &mut Store) -> bool
-    ensures value { IsTrue result ↔ AreBitmapsOf store.old.cells.heads store.old.cells.step_words store.old.cells.level_word }
-    ensures cells { store.new.cells ≡ store.old.cells }
-    ensures read { store.old.touches < store.new.touches }
-{
-    has_class_bits(store) && has_level_bits(store)
 }
 
 /// Whether the bit of each class is set exactly where its list has a first block.
@@ -43,12 +33,16 @@ fn has_class_bits(store: &mut Store) -> bool
     true
 }
 
-/// Whether the bit of each first level is set exactly where one of its classes has its bit set.
-fn has_level_bits(store: &mut Store) -> bool
-    ensures value { IsTrue result ↔ ((level : ℕ) → level < levels → bit_at store.old.cells.level_word level ≡ word_bit (slice_index store.old.cells.step_words level)) }
+/// Whether the bitmaps are true. A class's bit says whether its list has a block. A first level's bit says
+/// whether the bit of one of its classes is set.
+pub(crate) fn has_true_bitmaps(store: &mut Store) -> bool
+    ensures value { IsTrue result ↔ AreBitmapsOf store.old.cells.heads store.old.cells.step_words store.old.cells.level_word }
     ensures cells { store.new.cells ≡ store.old.cells }
-    ensures floor { store.old.touches ≤ store.new.touches }
+    ensures read { store.old.touches < store.new.touches }
 {
+    if !has_class_bits(store) {
+        return false;
+    }
     for level in 0..LEVELS {
         let steps = store.step_word(level);
         let levels = store.level_word();

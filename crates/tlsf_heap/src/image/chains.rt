@@ -1,10 +1,9 @@
 //! The chains of the pools.
 
-ghost use Rattle.std.specs.Prelude.{◌≡◌, ◌<◌, ◌≤◌, IsTrue, length, IfSome, ◌+◌, ◌^◌};
+ghost use Rattle.std.specs.Prelude.{true, ◌≡◌, ◌<◌, ◌≤◌, IsTrue, length, IfSome, ◌+◌, ◌^◌};
 ghost use Rattle.tlsf_store.specs.Records.{most_records};
 ghost use Rattle.tlsf_heap.specs.Images.Rules.{has_links};
-ghost use Rattle.tlsf_heap.specs.Images.Findings.{chain_found, chains_found, no_tally, both, front_of, is_before, with_block};
-ghost use Rattle.tlsf_heap.specs.Images.HasParts.{OnlyReads};
+ghost use Rattle.tlsf_heap.specs.Images.Findings.{chain_found, chains_found, both, front_of, is_before, with_block, OnlyReads, Finds};
 
 use super::HasParts;
 use tlsf_store::{MOST_POOLS, Pool, Record, Slot, State};
@@ -52,7 +51,7 @@ impl Front {
 impl Tally {
     /// Of no chain.
     fn new() -> Tally
-        ensures { result ≡ no_tally }
+        ensures { result ≡ record { blocks = 0; covers = true; is_merged = true } }
     {
         Tally {
             blocks: 0,
@@ -119,8 +118,7 @@ fn look_at_chain<T: HasParts>(table: &mut T, pool: Pool) -> Option<Tally>
 /// What is found in the chains of all pools, if each ends, has blocks alone, and is linked back.
 pub(crate) fn look_at_chains<T: HasParts>(table: &mut T) -> Option<Tally>
     requires links { IsTrue (has_links (T.parts table.old)) }
-    ensures value { result ≡ chains_found (T.parts table.old) }
-    ensures read { OnlyReads T.parts T.cells T.touches table.old table.new }
+    ensures { Finds result (chains_found (T.parts table.old)) T.parts T.cells T.touches table.old table.new }
 {
     let mut tally = Tally::new();
     for number in 0..MOST_POOLS as u32 {

@@ -5,7 +5,7 @@ ghost use Rattle.tlsf_class.specs.Classes.{unit, classes};
 ghost use Rattle.tlsf_store.specs.Records.{record_at, most_records};
 ghost use Rattle.tlsf_store.specs.Cells.{Cells, head_at, pool_at, most_pools, IsPoolBelow};
 ghost use Rattle.tlsf_heap.specs.Images.Image.{Parts};
-ghost use Rattle.tlsf_heap.specs.Images.HasParts.{OnlyReads};
+ghost use Rattle.tlsf_heap.specs.Images.Findings.{OnlyReads};
 
 use tlsf_class::Class;
 use tlsf_store::{Pool, Record, Slot};

@@ -4,8 +4,7 @@ ghost use Rattle.std.specs.Prelude.{◌≡◌, ◌<◌, length};
 ghost use Rattle.std.specs.List.{list_all};
 ghost use Rattle.tlsf_store.specs.Records.{most_records};
 ghost use Rattle.tlsf_heap.specs.Images.Rules.{is_below, has_record_links};
-ghost use Rattle.tlsf_heap.specs.Images.Findings.{blocks_and, blocks_with, links_found};
-ghost use Rattle.tlsf_heap.specs.Images.HasParts.{OnlyReads};
+ghost use Rattle.tlsf_heap.specs.Images.Findings.{blocks_and, links_found, Finds};
 
 use super::HasParts;
 use tlsf_class::{CLASSES, Class};
@@ -63,8 +62,7 @@ fn has_links(block: &Record, count: u32) -> bool
 
 /// Whether each head is none, or one of the records.
 fn has_head_links<T: HasParts>(table: &mut T) -> bool
-    ensures value { result ≡ list_all (is_below (length (T.parts table.old).records)) (T.parts table.old).heads }
-    ensures read { OnlyReads T.parts T.cells T.touches table.old table.new }
+    ensures { Finds result (list_all (is_below (length (T.parts table.old).records)) (T.parts table.old).heads) T.parts T.cells T.touches table.old table.new }
 {
     let count = table.count();
     for number in 0..CLASSES {
@@ -75,11 +73,14 @@ fn has_head_links<T: HasParts>(table: &mut T) -> bool
     true
 }
 
-/// How many blocks the records are of, if each passes `has_links`.
-fn look_at_records<T: HasParts>(table: &mut T) -> Option<Blocks>
-    ensures value { result ≡ blocks_with (length (T.parts table.old).records) (record { all = 0; free = 0 }) (T.parts table.old).records }
-    ensures read { OnlyReads T.parts T.cells T.touches table.old table.new }
+/// How many blocks the records are of, if the heads pass `has_head_links` and each record
+/// `has_links`.
+pub(crate) fn look_at_links<T: HasParts>(table: &mut T) -> Option<Blocks>
+    ensures { Finds result (links_found (T.parts table.old)) T.parts T.cells T.touches table.old table.new }
 {
+    if !has_head_links(table) {
+        return None;
+    }
     let count = table.count();
     let mut blocks = Blocks { all: 0, free: 0 };
     for slot in 0..count {
@@ -90,16 +91,4 @@ fn look_at_records<T: HasParts>(table: &mut T) -> Option<Blocks>
         blocks = blocks.and(&block);
     }
     Some(blocks)
-}
-
-/// How many blocks the records are of, if the heads pass `has_head_links` and each record
-/// `has_links`.
-pub(crate) fn look_at_links<T: HasParts>(table: &mut T) -> Option<Blocks>
-    ensures value { result ≡ links_found (T.parts table.old) }
-    ensures read { OnlyReads T.parts T.cells T.touches table.old table.new }
-{
-    if !has_head_links(table) {
-        return None;
-    }
-    look_at_records(table)
 }

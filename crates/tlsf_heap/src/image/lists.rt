@@ -5,8 +5,7 @@ ghost use Rattle.tlsf_class.specs.Classes.{unit, classes, greatest_size};
 ghost use Rattle.tlsf_store.specs.Records.{most_records, is_free_state};
 ghost use Rattle.tlsf_store.specs.Cells.{head_at};
 ghost use Rattle.tlsf_heap.specs.Images.Rules.{has_links};
-ghost use Rattle.tlsf_heap.specs.Images.Findings.{list_found, lists_found, is_behind, HasSizes};
-ghost use Rattle.tlsf_heap.specs.Images.HasParts.{OnlyReads};
+ghost use Rattle.tlsf_heap.specs.Images.Findings.{list_found, lists_with, is_behind, HasSizes, OnlyReads, Finds};
 
 use super::HasParts;
 use tlsf_class::{CLASSES, Class, class_of};
@@ -52,8 +51,7 @@ fn look_at_list<T: HasParts>(table: &mut T, class: Class) -> Option<u32>
 pub(crate) fn look_at_lists<T: HasParts>(table: &mut T) -> Option<u32>
     requires links { IsTrue (has_links (T.parts table.old)) }
     requires sizes { HasSizes (T.parts table.old) }
-    ensures value { result ≡ lists_found (T.parts table.old) }
-    ensures read { OnlyReads T.parts T.cells T.touches table.old table.new }
+    ensures { Finds result (lists_with (T.parts table.old) 0 0 (T.parts table.old).heads) T.parts T.cells T.touches table.old table.new }
 {
     let mut blocks = 0;
     for number in 0..CLASSES {

@@ -1,29 +1,11 @@
 //! A store as its image tells it.
 
-ghost use Rattle.std.specs.Prelude.{◌≡◌};
-ghost use Rattle.tlsf_heap.specs.Images.Told.{told};
-
 use super::{HasParts, VACANT};
 use tlsf_class::Class;
 use tlsf_store::{Pool, Record, Slot, State, Store};
 
-/// What an image tells of a record: nothing of a vacant one, and of a live one no neighbours in a list.
-fn told(block: Record) -> Record
-    ensures { result ≡ told block }
-{
-    match block.state {
-        State::Vacant => VACANT,
-        State::Free => block,
-        State::Live => Record {
-            prev_free: None,
-            next_free: None,
-            ..block
-        },
-    }
-}
-
 impl HasParts for Store {
-    ghost use Rattle.tlsf_heap.specs.Images.Told.{told_parts};
+    ghost use Rattle.tlsf_heap.specs.Images.Described.{told_parts};
 
     ghost parts = { λ store. told_parts store.cells };
 
@@ -36,7 +18,16 @@ impl HasParts for Store {
     }
 
     fn record(&mut self, slot: Slot) -> Record {
-        told(self.read(slot))
+        let block = self.read(slot);
+        match block.state {
+            State::Vacant => VACANT,
+            State::Free => block,
+            State::Live => Record {
+                prev_free: None,
+                next_free: None,
+                ..block
+            },
+        }
     }
 
     fn head(&mut self, class: Class) -> Option<Slot> {

@@ -1,7 +1,7 @@
 //! Whether a store is that of a heap.
 
 ghost use Rattle.std.specs.Prelude.{◌≡◌, ◌+◌, ◌<◌, ◌↔◌, IsTrue, length};
-ghost use Rattle.tlsf_heap.specs.Images.Whole.{IsWholeStore};
+ghost use Rattle.tlsf_heap.specs.Images.Described.{IsWholeStore};
 
 use super::bitmaps::has_true_bitmaps;
 use super::first_broken;

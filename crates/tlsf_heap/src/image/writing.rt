@@ -8,7 +8,7 @@ ghost use Rattle.tlsf_store.specs.Records.{most_records};
 ghost use Rattle.tlsf_store.specs.Cells.{most_pools};
 ghost use Rattle.mtrace_log.specs.Output.{Puts};
 ghost use Rattle.tlsf_heap.specs.Images.Writing.{Appends, two, four, block_bytes, record_bytes, entry_bytes, head_bytes, header_bytes, image_of};
-ghost use Rattle.tlsf_heap.specs.Images.HasParts.{OnlyReads};
+ghost use Rattle.tlsf_heap.specs.Images.Findings.{OnlyReads, Finds};
 ghost use Rattle.tlsf_heap.specs.Inner.Entries.{entries_of};
 
 use super::HasParts;
@@ -106,8 +106,7 @@ fn push_record(piece: &mut Piece, block: &Record)
 
 /// How many pools there are.
 fn count_pools<T: HasParts>(table: &mut T) -> u16
-    ensures value { result ≡ length (entries_of (T.parts table.old).pools) }
-    ensures read { OnlyReads T.parts T.cells T.touches table.old table.new }
+    ensures { Finds result (length (entries_of (T.parts table.old).pools)) T.parts T.cells T.touches table.old table.new }
 {
     let mut pools = 0;
     for number in 0..MOST_POOLS as u32 {

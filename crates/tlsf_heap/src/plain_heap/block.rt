@@ -57,20 +57,14 @@ impl Block {
     pub fn start_of(block: &Option<Block>, place: u32) -> u32
         ensures { result ≡ start_of block.now place }
     {
-        match block {
-            Some(block) => block.place,
-            None => place,
-        }
+        block.map_or(place, |block| block.place)
     }
 
     /// The size of a block, 0 where there is none.
     pub fn size_of(block: &Option<Block>) -> u32
         ensures { result ≡ size_of block.now }
     {
-        match block {
-            Some(block) => block.size,
-            None => 0,
-        }
+        block.map_or(0, |block| block.size)
     }
 
     /// The block as a reading gives it.

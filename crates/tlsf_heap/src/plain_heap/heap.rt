@@ -32,38 +32,10 @@ impl Model for PlainHeap {
     ghost invariant = { λ h. IsPlain h.content };
 }
 
-impl PlainHeap {
-    ghost use Rattle.std.specs.Prelude.{◌≡◌, ℕ, ⊤, Some, Err, IfOk};
-    ghost use Rattle.tlsf_heap.specs.Pointer.{realloc_ptr};
-    ghost use Rattle.tlsf_heap.specs.Served.{IsMoved, RefusesOrLacks};
-
-    /// The block with another size; none where no byte is asked for, for then it is freed.
-    ///
-    /// # Errors
-    ///
-    /// As `Heaped::realloc`.
-    fn reallocate(&mut self, ptr: Ptr, n: u64) -> Result<Option<Ptr>, Refusal>
-        ensures ok { IfOk result (λ given. IsMoved (realloc_ptr (Some ptr) n) (Some ptr) given self.old self.new) }
-        ensures refused { RefusesOrLacks result (λ refusal. (slot : ℕ) → realloc_ptr (Some ptr) n slot self.old ≡ Err refusal) ⊤ (self.new ≡ self.old) }
-    {
-        if !self.content.is_live(ptr.place(), ptr.slot()) {
-            return Err(Refusal::BadPointer);
-        }
-        if n == 0 {
-            self.content = freed(&self.content, ptr)?;
-            return Ok(None);
-        }
-        let asked = round(n).ok_or(Refusal::NoFit)?;
-        let (next, new) = resize(&self.content, ptr, asked)?;
-        self.content = next;
-        Ok(Some(new))
-    }
-}
-
 /// It has no table to touch. Each call that changes it may lack memory.
 impl Heaped for PlainHeap {
     ghost use Rattle.std.specs.Prelude.{⊤};
-    ghost use Rattle.tlsf_heap.specs.PlainHeap.{cursor_rows};
+    ghost use Rattle.tlsf_heap.specs.PlainHeap.{rows_at};
 
     ghost content = { λ heap. heap };
 
@@ -73,7 +45,7 @@ impl Heaped for PlainHeap {
 
     ghost stands = { λ heap cursor. ⊤ };
 
-    ghost rest = { cursor_rows };
+    ghost rest = { λ heap cursor. rows_at cursor.next heap.pools };
 
     fn create(alloc: Global, records: u32) -> Result<Self, StoreError> {
         if records == 0 || records > MOST_RECORDS {
@@ -147,10 +119,20 @@ impl Heaped for PlainHeap {
     }
 
     fn realloc(&mut self, ptr: Option<Ptr>, n: u64) -> Result<Option<Ptr>, Refusal> {
-        match ptr {
-            Some(ptr) => self.reallocate(ptr, n),
-            None => Ok(Some(self.malloc(n)?)),
+        let Some(ptr) = ptr else {
+            return Ok(Some(self.malloc(n)?));
+        };
+        if !self.content.is_live(ptr.place(), ptr.slot()) {
+            return Err(Refusal::BadPointer);
         }
+        if n == 0 {
+            self.content = freed(&self.content, ptr)?;
+            return Ok(None);
+        }
+        let asked = round(n).ok_or(Refusal::NoFit)?;
+        let (next, new) = resize(&self.content, ptr, asked)?;
+        self.content = next;
+        Ok(Some(new))
     }
 
     fn block_size(&mut self, ptr: Ptr) -> Result<u32, Refusal> {

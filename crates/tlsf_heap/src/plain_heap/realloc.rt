@@ -4,7 +4,6 @@ ghost use Rattle.std.specs.Prelude.{◌≡◌, ◌≢◌, ◌==◌, true, Some, 
 ghost use Rattle.tlsf_heap.specs.Content.{IsSize, blocks_of, size_at};
 ghost use Rattle.tlsf_heap.specs.Free.{is_live};
 ghost use Rattle.tlsf_heap.specs.Realloc.{fits_in_place, resized, moved, realloc_sized};
-ghost use Rattle.tlsf_heap.specs.Malloc.{malloc_rounded};
 ghost use Rattle.tlsf_heap.specs.Served.{IsMoved};
 ghost use Rattle.tlsf_heap.specs.PlainHeap.{IsPlain, AnswersPlain};
 
@@ -78,20 +77,6 @@ pub fn resize(content: &Content, ptr: Ptr, asked: u32) -> Result<(Content, Ptr),
     if asked < size {
         return Ok((content.copy()?, ptr));
     }
-    relocate(content, ptr, asked)
-}
-
-/// The content in which a new block of `asked` bytes is live, and the old one freed, and its pointer.
-///
-/// # Errors
-///
-/// As `allocate`.
-fn relocate(content: &Content, ptr: Ptr, asked: u32) -> Result<(Content, Ptr), Refusal>
-    requires plain { IsPlain content.now }
-    requires live { is_live (λ slot. slot == ptr.slot) ptr.place (blocks_of content.now.pools) ≡ true }
-    requires size { IsSize asked }
-    ensures { AnswersPlain result (λ given. IsMoved (λ slot old. moved slot ptr.place (malloc_rounded slot (Some asked) old)) (Some ptr) (Some given)) (λ slot old. moved slot ptr.place (malloc_rounded slot (Some asked) old)) content.now }
-{
     let (next, new) = allocate(content, asked)?;
     let after = freed(&next, ptr)?;
     Ok((after, new))

@@ -1,7 +1,6 @@
 use Rattle.std.proofs.Common.{◌≡◌, List}
 use Rattle.tlsf_store.specs.declared.pools.Pool.{Pool as StoredPool}
-use Rattle.tlsf_heap.specs.Inner.Entries.{entries_of, with_entry}
-use Rattle.tlsf_heap.specs.Inner.CellEdits.{pool_put}
+use Rattle.tlsf_heap.specs.Inner.Entries.{entries_of, with_entry, pool_put}
 use Rattle.tlsf_heap.proofs.Inserted.{insert_is}
 use Rattle.tlsf_heap.proofs.Inner.Entered.{Enters, pool_is_laid}
 use Rattle.tlsf_heap.proofs.add_pool.put_pool.Goals as goal
@@ -12,7 +11,7 @@ put c =
     let items : List StoredPool = c.args.entries.now in
     let all : c.as_slice.result.now ≡ with_entry c.args.entry (entries_of c.args.store.now.cells.pools) =
     rw (c.as_slice.ensures.value, c.entries_with-all.ensures, c.unwrap_or-place.ensures, c.first_behind.ensures.number, insert_is (λ (e : StoredPool). e.base) c.args.entry items, c.requires.entries) in
-    rw (c.set_entries.ensures.cells, c.write.ensures.left.cells, c.free_block.ensures, all)
+    rw (c.set_entries.ensures.cells, c.write.ensures.left.cells, all)
 
 enters : (c : goal.After-class_of) → Enters c.args.entry c.requires.taken.0 c.args.store.now.cells
 enters c = pool_is_laid c.args.store.now.cells c.args.entry c.requires.taken.0 c.requires.taken.1

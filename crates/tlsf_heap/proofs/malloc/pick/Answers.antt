@@ -3,4 +3,4 @@ use Rattle.tlsf_heap.proofs.Inner.Picked.{search_finds}
 use Rattle.tlsf_heap.proofs.malloc.pick.Goals as goal
 
 pub returns-clause-found : goal.returns-clause-found
-returns-clause-found c = search_finds c.args.store.now.cells c.requires.stands c.args.asked c.in-Some.class (sym c.class_for.ensures ∙ c.in-Some.is) c.search.result c.search.ensures.value c.search.ensures.head
+returns-clause-found c = search_finds c.args.store.now.cells c.requires.stands c.args.asked c.in_ok-class.class (sym c.class_for.ensures ∙ c.in_ok-class.was) c.search.result c.search.ensures.value c.search.ensures.head

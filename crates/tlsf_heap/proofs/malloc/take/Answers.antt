@@ -1,4 +1,4 @@
-use Rattle.std.proofs.Common.{rules, ◌≡◌, ◌≢◌, ℕ, ◌<◌, length, sym, ap, ◌∙◌, arith, Option, Some, Ok, Result}
+use Rattle.std.proofs.Common.{rules, ◌≡◌, ◌≢◌, ℕ, ◌<◌, length, refl, sym, ap, ◌∙◌, arith, Option, Some, Ok, Result}
 use Rattle.tlsf_store.specs.declared.records.Record.{Record}
 use Rattle.tlsf_store.specs.declared.records.State.TheVariants.{Free}
 use Rattle.tlsf_store.specs.Records.{blank, record_at}
@@ -8,14 +8,17 @@ use Rattle.tlsf_heap.specs.declared.refusal.Refusal.{Refusal}
 use Rattle.tlsf_heap.specs.Content.{Content}
 use Rattle.tlsf_heap.specs.Lists.{pick}
 use Rattle.tlsf_heap.specs.Malloc.{malloc_picked, malloc_rounded}
-use Rattle.tlsf_heap.specs.Inner.Nodes.{Listed}
+use Rattle.tlsf_heap.specs.Inner.Nodes.{Listed, Loose}
 use Rattle.tlsf_heap.specs.Inner.Following.{Stands, content_of}
-use Rattle.tlsf_heap.specs.Inner.At.{At, StandsAt, with_slot}
+use Rattle.tlsf_heap.specs.Inner.At.{At, StandsAt, with_slot, at_unlisted}
+use Rattle.tlsf_heap.specs.Inner.Spans.{span_of}
 use Rattle.tlsf_heap.proofs.Inner.Steps.{size_read}
-use Rattle.tlsf_heap.proofs.Inner.Allotted.{slot_stands}
+use Rattle.tlsf_heap.proofs.Inner.Allotted.{slot_stands, listed_read, read_leaves}
+use Rattle.tlsf_heap.proofs.Inner.Spans.{read_of, read_stays}
 use Rattle.tlsf_heap.proofs.Inner.Live.{free_at}
 use Rattle.tlsf_heap.proofs.Inner.TakenBlock.{room_left, holds, whole_stands, part_stands, full_refused, slot_below, slot_new}
 use Rattle.tlsf_heap.proofs.malloc.take.Goals as goal
+use Rattle.tlsf_heap.proofs.malloc.take.Goals.{In-Some, After-unlink}
 
 -- the size that was read is the node's
 size_is : (old : Cells) (slot : ℕ) (at : At) (block : Record) → StandsAt slot Listed old at → block ≡ record_at old.records slot → block.size ≡ at.node.size
@@ -81,44 +84,73 @@ returns-in_default c = record {
   touches = search rules;
 }
 
-pub take_split-requires-clause-stands : goal.take_split-requires-clause-stands
-take_split-requires-clause-stands c =
+-- the free block as it stands and as it was read, once a record was taken for the rest
+ready : (c : In-Some) → StandsAt c.args.slot Listed c.take_vacant.new.self.cells (with_slot c.in-Some.rest (free_at c.args.store.now.cells c.requires.stands c.args.slot c.requires.picked.free).at) × (c.read_used-block.result ≡ record_at c.take_vacant.new.self.cells.records c.args.slot)
+ready c =
     let old : Cells = c.args.store.now.cells in
     let by = free_at old c.requires.stands c.args.slot c.requires.picked.free in (
-      by.at,
       spared old c.read_used-block.new.self.cells c.take_vacant.new.self.cells c.take_vacant.result c.args.slot c.in-Some.rest by.at by.stands c.read_used-block.ensures.left.cells c.in-Some.is c.take_vacant.ensures.left.cells c.in-Some.ensures.within c.in-Some.ensures.vacant,
+      kept old c.read_used-block.new.self.cells c.take_vacant.new.self.cells c.take_vacant.result c.args.slot c.in-Some.rest c.read_used-block.result c.requires.picked.free c.read_used-block.ensures.left.cells c.in-Some.is c.take_vacant.ensures.left.cells c.in-Some.ensures.vacant c.read_used-block.ensures.value,
     )
 
-pub take_split-requires-clause-less : goal.take_split-requires-clause-less
-take_split-requires-clause-less c =
+pub unlink-requires-clause-prev_used : goal.unlink-requires-clause-prev_used
+unlink-requires-clause-prev_used c = let r = ready (goal.at.unlink-requires-clause-prev_used c).In-Some in (listed_read c.take_vacant.new.self.cells c.args.slot c.read_used-block.result _ r.0 r.1).prev_used
+
+pub unlink-requires-clause-next_used : goal.unlink-requires-clause-next_used
+unlink-requires-clause-next_used c = let r = ready (goal.at.unlink-requires-clause-next_used c).In-Some in (listed_read c.take_vacant.new.self.cells c.args.slot c.read_used-block.result _ r.0 r.1).next_used
+
+-- and once it left its list
+unlisted : (c : After-unlink) → StandsAt c.args.slot Listed c.take_vacant.new.self.cells (with_slot c.in-Some.rest (free_at c.args.store.now.cells c.requires.stands c.args.slot c.requires.picked.free).at) × (c.read_used-block.result ≡ record_at c.take_vacant.new.self.cells.records c.args.slot)
+    → StandsAt c.args.slot Loose c.unlink.new.store.cells (with_slot c.in-Some.rest (at_unlisted (free_at c.args.store.now.cells c.requires.stands c.args.slot c.requires.picked.free).at))
+unlisted c r =
+    let by = free_at c.args.store.now.cells c.requires.stands c.args.slot c.requires.picked.free in
+    read_leaves c.take_vacant.new.self.cells c.unlink.new.store.cells c.args.slot c.args.class c.read_used-block.result (with_slot c.in-Some.rest by.at) r.0 r.1 (rw c.read_used-block.ensures.value c.requires.picked.of_class) c.unlink.ensures.cells
+
+pub split_off-requires-clause-stands : goal.split_off-requires-clause-stands
+split_off-requires-clause-stands c =
+    let by = free_at c.args.store.now.cells c.requires.stands c.args.slot c.requires.picked.free in
+    rw c.of.ensures (Loose, at_unlisted by.at, refl, unlisted (goal.at.split_off-requires-clause-stands c).After-unlink (ready (goal.at.split_off-requires-clause-stands c).In-Some))
+
+pub split_off-requires-clause-read : goal.split_off-requires-clause-read
+split_off-requires-clause-read c =
+    let by = free_at c.args.store.now.cells c.requires.stands c.args.slot c.requires.picked.free in
+    let at : At = with_slot c.in-Some.rest by.at in
+    let r = ready (goal.at.split_off-requires-clause-read c).In-Some in
+    rw c.of.ensures (read_stays c.take_vacant.new.self.cells c.unlink.new.store.cells (span_of c.args.slot c.read_used-block.result) Listed Loose at (at_unlisted at) r.0 (unlisted (goal.at.split_off-requires-clause-read c).After-unlink r) refl
+    (read_of c.take_vacant.new.self.cells.records c.args.slot c.read_used-block.result r.1 c.read_used-block.ensures.kept.place))
+
+pub split_off-requires-clause-less : goal.split_off-requires-clause-less
+split_off-requires-clause-less c =
     let old : Cells = c.args.store.now.cells in
     let by = free_at old c.requires.stands c.args.slot c.requires.picked.free in
     let size = size_is old c.args.slot by.at c.read_used-block.result by.stands c.read_used-block.ensures.value in
     let least = holds old c.requires.stands (record_at old.records c.args.slot).place c.args.slot c.args.asked by c.requires.size.positive c.requires.size.in_units c.requires.picked.found in
-    omega (arith, least, size, c.if-block-asked.false)
+    rw c.of.ensures (omega (arith, least, size, c.if-block-asked.false))
 
 -- what a part leaves
-part : (c : goal.After-new-2) → Stands c.take_split.new.store.cells × (malloc_picked c.args.slot c.args.asked (Some (record_at c.args.store.now.cells.records c.args.slot).place) (content_of c.args.store.now.cells) ≡ Ok ((record_at c.args.store.now.cells.records c.args.slot).place, content_of c.take_split.new.store.cells))
-part c =
+part : (c : goal.After-new-2) → StandsAt c.args.slot Loose c.unlink.new.store.cells (with_slot c.in-Some.rest (at_unlisted (free_at c.args.store.now.cells c.requires.stands c.args.slot c.requires.picked.free).at))
+    → Stands c.split_off.new.store.cells × (malloc_picked c.args.slot c.args.asked (Some (record_at c.args.store.now.cells.records c.args.slot).place) (content_of c.args.store.now.cells) ≡ Ok ((record_at c.args.store.now.cells.records c.args.slot).place, content_of c.split_off.new.store.cells))
+part c left =
     let old : Cells = c.args.store.now.cells in
     let by = free_at old c.requires.stands c.args.slot c.requires.picked.free in
     let place : ℕ = (record_at old.records c.args.slot).place in
     let size = size_is old c.args.slot by.at c.read_used-block.result by.stands c.read_used-block.ensures.value in
     let least = holds old c.requires.stands place c.args.slot c.args.asked by c.requires.size.positive c.requires.size.in_units c.requires.picked.found in
-    let stands = spared old c.read_used-block.new.self.cells c.take_vacant.new.self.cells c.take_vacant.result c.args.slot c.in-Some.rest by.at by.stands c.read_used-block.ensures.left.cells c.in-Some.is c.take_vacant.ensures.left.cells c.in-Some.ensures.within c.in-Some.ensures.vacant in
     let room = room_left old c.requires.stands c.in-Some.rest (rw c.read_used-block.ensures.left.cells at c.in-Some.ensures.within) (rw c.read_used-block.ensures.left.cells at c.in-Some.ensures.vacant) in
-    part_stands old c.requires.stands place c.args.slot c.args.asked by c.requires.size.positive c.requires.size.in_units c.requires.picked.found c.take_split.new.store.cells c.in-Some.rest
-    (c.take_split.ensures.leads by.at stands) (omega (arith, least, size, c.if-block-asked.false)) room
+    part_stands old c.requires.stands place c.args.slot c.args.asked by c.requires.size.positive c.requires.size.in_units c.requires.picked.found c.split_off.new.store.cells c.in-Some.rest
+    (c.split_off.ensures.leads Loose (at_unlisted by.at) refl (rw c.of.ensures left)) (omega (arith, least, size, c.if-block-asked.false)) room
 
 pub returns : goal.returns
-returns c = record {
-  stands = (part c).0;
-  ok = record {
-    ok = rw (c.new-2.ensures, c.read_used-block.ensures.value, c.slot-2.view_is) (picked c.args.slot c.args.asked (record_at c.args.store.now.cells.records c.args.slot).place (content_of c.args.store.now.cells) c.requires.picked.found _ (part c).1);
-    slot_below = rw (c.new-2.ensures, c.slot-2.view_is) (slot_below c.args.store.now.cells c.requires.stands (record_at c.args.store.now.cells.records c.args.slot).place c.args.slot (free_at c.args.store.now.cells c.requires.stands c.args.slot c.requires.picked.free));
-    slot_new = rw (c.new-2.ensures, c.slot-2.view_is) (slot_new c.args.store.now.cells c.requires.stands (record_at c.args.store.now.cells.records c.args.slot).place c.args.slot (free_at c.args.store.now.cells c.requires.stands c.args.slot c.requires.picked.free));
-  };
-  refused = search rules;
-  cells = search rules;
-  touches = search rules;
-}
+returns c =
+    let left = unlisted (goal.at.returns c).After-unlink (ready (goal.at.returns c).In-Some) in
+    record {
+      stands = (part c left).0;
+      ok = record {
+        ok = rw (c.new-2.ensures, c.read_used-block.ensures.value, c.slot-2.view_is) (picked c.args.slot c.args.asked (record_at c.args.store.now.cells.records c.args.slot).place (content_of c.args.store.now.cells) c.requires.picked.found _ (part c left).1);
+        slot_below = rw (c.new-2.ensures, c.slot-2.view_is) (slot_below c.args.store.now.cells c.requires.stands (record_at c.args.store.now.cells.records c.args.slot).place c.args.slot (free_at c.args.store.now.cells c.requires.stands c.args.slot c.requires.picked.free));
+        slot_new = rw (c.new-2.ensures, c.slot-2.view_is) (slot_new c.args.store.now.cells c.requires.stands (record_at c.args.store.now.cells.records c.args.slot).place c.args.slot (free_at c.args.store.now.cells c.requires.stands c.args.slot c.requires.picked.free));
+      };
+      refused = search rules;
+      cells = search rules;
+      touches = search rules;
+    }

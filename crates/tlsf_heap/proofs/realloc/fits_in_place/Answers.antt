@@ -8,7 +8,7 @@ use Rattle.tlsf_heap.specs.Content.{blocks_of}
 use Rattle.tlsf_heap.specs.Free.{is_live}
 use Rattle.tlsf_heap.specs.Inner.Following.{Stands, content_of}
 use Rattle.tlsf_heap.specs.Inner.Nodes.{InUse, Node}
-use Rattle.tlsf_heap.specs.Inner.Merging.{listed_first}
+use Rattle.tlsf_heap.specs.Inner.Positions.{listed_first}
 use Rattle.tlsf_heap.proofs.Inner.Steps.{size_read}
 use Rattle.tlsf_heap.proofs.Inner.Live.{NodeAt, live_at}
 use Rattle.tlsf_heap.proofs.Inner.Resizing.{fits_larger, fits_smaller}

@@ -2,10 +2,9 @@ use Rattle.std.proofs.Common.{◌≡◌, ℕ, ◌<◌, ◌≤◌, List, length, 
 use Rattle.std.proofs.lemmas.List.{length-map}
 use Rattle.tlsf_store.specs.Records.{most_records}
 use Rattle.tlsf_store.specs.Cells.{Cells}
-use Rattle.tlsf_heap.specs.Images.Told.{told, told_parts}
 use Rattle.tlsf_heap.specs.Images.Writing.{image_of}
 use Rattle.tlsf_heap.specs.Counted.{Counted}
-use Rattle.tlsf_heap.specs.Images.Described.{IsImageOf}
+use Rattle.tlsf_heap.specs.Images.Described.{IsImageOf, told, told_parts}
 use Rattle.tlsf_heap.proofs.Images.Written.{written_unbroken, written_content}
 use Rattle.tlsf_heap.proofs.heap.Heap.save_image.Goals as goal
 use Rattle.tlsf_heap.proofs.heap.Heap.save_image.Goals.{in-Ok, in-Err}

@@ -1,8 +1,7 @@
 use Rattle.std.proofs.Common.{◌≡◌, ◌+◌, ◌-◌, ◌≤◌, length}
 use Rattle.tlsf_store.specs.Records.{IsBelow}
-use Rattle.tlsf_heap.specs.Images.Findings.{chain_found}
+use Rattle.tlsf_heap.specs.Images.Findings.{chain_found, OnlyReads}
 use Rattle.tlsf_heap.proofs.Images.ChainLemmas.{rest_found}
-use Rattle.tlsf_heap.specs.Images.HasParts.{OnlyReads}
 use Rattle.tlsf_heap.proofs.image.chains.look_at_chain.Given as goal
 
 -- what is found of the blocks up to here and those that are left is what is found of the chain

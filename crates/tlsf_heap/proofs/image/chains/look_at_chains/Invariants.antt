@@ -1,8 +1,7 @@
 use Rattle.std.proofs.Common.{◌≡◌, ◌*◌, ◌≤◌, ◌<◌, length, drop}
 use Rattle.tlsf_store.specs.Records.{most_records}
 use Rattle.tlsf_store.specs.Cells.{most_pools}
-use Rattle.tlsf_heap.specs.Images.Findings.{tally_with, chains_found}
-use Rattle.tlsf_heap.specs.Images.HasParts.{OnlyReads}
+use Rattle.tlsf_heap.specs.Images.Findings.{tally_with, chains_found, OnlyReads}
 use Rattle.tlsf_heap.proofs.image.chains.look_at_chains.Given as goal
 
 -- what is found of the pools up to here and those that are left is what is found of all

@@ -2,7 +2,7 @@ use Rattle.std.proofs.Common.{◌≡◌, ◌<◌, length, drop}
 use Rattle.std.specs.List.{list_all}
 use Rattle.tlsf_class.specs.Classes.{classes}
 use Rattle.tlsf_heap.specs.Images.Rules.{is_below}
-use Rattle.tlsf_heap.specs.Images.HasParts.{OnlyReads}
+use Rattle.tlsf_heap.specs.Images.Findings.{OnlyReads}
 use Rattle.tlsf_heap.proofs.image.links.has_head_links.Given as goal
 
 -- the heads that are left tell whether all are

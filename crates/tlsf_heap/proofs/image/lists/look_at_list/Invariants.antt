@@ -1,9 +1,8 @@
 use Rattle.std.proofs.Common.{◌≡◌, ◌-◌, ◌≤◌, length}
 use Rattle.tlsf_store.specs.Records.{IsBelow}
 use Rattle.tlsf_store.specs.Cells.{head_at}
-use Rattle.tlsf_heap.specs.Images.Findings.{list_found}
+use Rattle.tlsf_heap.specs.Images.Findings.{list_found, OnlyReads}
 use Rattle.tlsf_heap.proofs.Images.ListLemmas.{rest_found}
-use Rattle.tlsf_heap.specs.Images.HasParts.{OnlyReads}
 use Rattle.tlsf_heap.proofs.image.lists.look_at_list.Given as goal
 
 -- what is found of the blocks up to here and those that are left is what is found of the list

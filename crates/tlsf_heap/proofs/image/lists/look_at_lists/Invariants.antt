@@ -1,8 +1,7 @@
 use Rattle.std.proofs.Common.{◌≡◌, ◌*◌, ◌≤◌, ◌<◌, length, drop}
 use Rattle.tlsf_class.specs.Classes.{classes}
 use Rattle.tlsf_store.specs.Records.{most_records}
-use Rattle.tlsf_heap.specs.Images.Findings.{lists_with, lists_found}
-use Rattle.tlsf_heap.specs.Images.HasParts.{OnlyReads}
+use Rattle.tlsf_heap.specs.Images.Findings.{lists_with, OnlyReads}
 use Rattle.tlsf_heap.proofs.image.lists.look_at_lists.Given as goal
 
 -- what is found of the lists up to here and those that are left is what is found of all
@@ -13,5 +12,5 @@ invariant-loop-number g l =
       read : OnlyReads g.T.HasParts.parts g.T.HasParts.cells g.T.HasParts.touches l.fn.table l.table;
       whole : 0 < l.number → length parts.heads ≡ classes;
       few : l.blocks ≤ l.number * most_records;
-      told : lists_with parts l.blocks l.number (drop l.number parts.heads) ≡ lists_found parts;
+      told : lists_with parts l.blocks l.number (drop l.number parts.heads) ≡ lists_with parts 0 0 parts.heads;
     }

@@ -1,6 +1,6 @@
 use Rattle.std.proofs.Common.{◌≡◌, ◌+◌, ◌<◌, ◌≤◌, length, drop}
 use Rattle.tlsf_store.specs.Cells.{most_pools}
-use Rattle.tlsf_heap.specs.Images.HasParts.{OnlyReads}
+use Rattle.tlsf_heap.specs.Images.Findings.{OnlyReads}
 use Rattle.tlsf_heap.proofs.image.writing.count_pools.Given as goal
 use Rattle.tlsf_heap.specs.Inner.Entries.{entries_of}
 

@@ -3,7 +3,7 @@ use Rattle.std.specs.List.{flat_map}
 use Rattle.arrayvec.specs.ArrayVec.{array_vec_len}
 use Rattle.tlsf_store.specs.Cells.{most_pools}
 use Rattle.tlsf_heap.specs.Images.Writing.{entry_bytes}
-use Rattle.tlsf_heap.specs.Images.HasParts.{OnlyReads}
+use Rattle.tlsf_heap.specs.Images.Findings.{OnlyReads}
 use Rattle.tlsf_heap.proofs.image.writing.push_entries.Given as goal
 
 -- the entries up to here stand at the end, in front of those that are left

@@ -3,7 +3,7 @@ use Rattle.std.specs.List.{flat_map}
 use Rattle.arrayvec.specs.ArrayVec.{array_vec_len}
 use Rattle.tlsf_class.specs.Classes.{classes}
 use Rattle.tlsf_heap.specs.Images.Writing.{head_bytes}
-use Rattle.tlsf_heap.specs.Images.HasParts.{OnlyReads}
+use Rattle.tlsf_heap.specs.Images.Findings.{OnlyReads}
 use Rattle.tlsf_heap.proofs.image.writing.push_heads.Given as goal
 
 -- the heads up to here stand at the end, in front of those that are left

@@ -3,7 +3,7 @@ use Rattle.std.specs.List.{flat_map}
 use Rattle.arrayvec.specs.ArrayVec.{array_vec_len}
 use Rattle.mtrace_log.proofs.Writing.{IsPutting}
 use Rattle.tlsf_heap.specs.Images.Writing.{record_bytes, image_of}
-use Rattle.tlsf_heap.specs.Images.HasParts.{OnlyReads}
+use Rattle.tlsf_heap.specs.Images.Findings.{OnlyReads}
 use Rattle.tlsf_heap.proofs.image.writing.put_image.Given as goal
 
 -- what is put, the piece and the records that are left are the image; the piece has room for a record

@@ -1,4 +1,6 @@
 use Rattle.std.proofs.Common.{rules, ◌<◌}
+use Rattle.std.specs.Prelude.{◌==◌}
+use Rattle.tlsf_heap.proofs.Good.StaysLive.{live_after}
 use Rattle.tlsf_heap.proofs.Plain.Realloc.{live_below}
 use Rattle.tlsf_heap.proofs.plain_heap.realloc.resize.Goals as goal
 use Rattle.tlsf_heap.proofs.plain_heap.realloc.resize.Goals.{Start}
@@ -27,3 +29,7 @@ returns-then-asked-size-2 c = record {
   ok = record { ok = search rules; slot_below = below (goal.at.returns-then-asked-size-2 c).Start; slot_new = search rules };
   refused = search rules;
 }
+
+pub freed-requires-clause-live : goal.freed-requires-clause-live
+freed-requires-clause-live c =
+    live_after (λ slot. slot == c.args.ptr.slot) c.in_ok-next.new.slot c.args.asked c.args.ptr.place c.args.content.now (c.in_ok-next.new.place, c.in_ok-next.next) c.requires.plain.good c.requires.live c.in_ok-next.ensures.ok.ok

@@ -1,7 +1,8 @@
-use Rattle.std.proofs.Common.{◌≡◌, ◌≤◌, length, drop}
-use Rattle.tlsf_heap.specs.Images.Findings.{blocks_with}
-use Rattle.tlsf_heap.specs.Images.HasParts.{OnlyReads}
-use Rattle.tlsf_heap.proofs.image.links.look_at_records.Given as goal
+use Rattle.std.proofs.Common.{◌≡◌, true, ◌≤◌, length, drop}
+use Rattle.std.specs.List.{list_all}
+use Rattle.tlsf_heap.specs.Images.Rules.{is_below}
+use Rattle.tlsf_heap.specs.Images.Findings.{blocks_with, OnlyReads}
+use Rattle.tlsf_heap.proofs.image.links.look_at_links.Given as goal
 
 -- what is found of the records up to here and those that are left is what is found of all
 abbrev pub invariant-loop-slot : goal.invariant-loop-slot
@@ -9,6 +10,7 @@ invariant-loop-slot g l =
     let parts = g.T.HasParts.parts l.fn.table in
     record {
       read : OnlyReads g.T.HasParts.parts g.T.HasParts.cells g.T.HasParts.touches l.fn.table l.table;
+      heads : list_all (is_below (length parts.records)) parts.heads ≡ true;
       few : l.blocks.all ≤ l.slot;
       few_free : l.blocks.free ≤ l.slot;
       told : blocks_with (length parts.records) l.blocks (drop l.slot parts.records) ≡ blocks_with (length parts.records) (record { all = 0; free = 0 }) parts.records;
