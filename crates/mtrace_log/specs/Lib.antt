@@ -15,7 +15,6 @@ pub mod Trace
 pub mod Output
 pub mod Buffer
 pub mod Progress
-pub mod Stage
 pub mod LineBuffer
 pub mod HasRead
 pub mod Memory

@@ -85,9 +85,7 @@ impl Buffer {
     pub(crate) fn take_frequent(&mut self) -> Option<Frequent>
         ensures { TakesFrequent result self.old self.new }
     {
-        let Some((frequent, len)) = read_frequent(self.unread()) else {
-            return None;
-        };
+        let (frequent, len) = read_frequent(self.unread())?;
         self.line = self.start;
         self.line_end = self.start + len;
         self.start = self.line_end + 1;

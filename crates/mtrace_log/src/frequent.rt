@@ -36,16 +36,12 @@ fn behind_newline(bytes: &[u8]) -> Option<&[u8]>
 fn front_fields(place: usize, bytes: &[u8]) -> Option<(Frequent, &[u8])>
     ensures { IfSome result (λ front. (front.0.place ≡ place) × BeginsFields bytes.now front.0.addr front.0.size front.1.now) }
 {
-    let Some((mark, fields)) = split_mark(bytes) else {
-        return None;
-    };
+    let (mark, fields) = split_mark(bytes)?;
     let Some((addr, behind)) = front_addr(fields) else {
         return None;
     };
     if mark == b'-' {
-        let Some(rest) = behind_newline(behind) else {
-            return None;
-        };
+        let rest = behind_newline(behind)?;
         return Some((
             Frequent {
                 place,
@@ -58,15 +54,11 @@ fn front_fields(place: usize, bytes: &[u8]) -> Option<(Frequent, &[u8])>
     if mark != b'+' {
         return None;
     }
-    let Some(sized) = behind_space(behind) else {
-        return None;
-    };
+    let sized = behind_space(behind)?;
     let Some((size, end)) = front_addr(sized) else {
         return None;
     };
-    let Some(rest) = behind_newline(end) else {
-        return None;
-    };
+    let rest = behind_newline(end)?;
     let size = Some(size.value());
     Some((Frequent { place, addr, size }, rest))
 }
@@ -76,9 +68,7 @@ fn front_fields(place: usize, bytes: &[u8]) -> Option<(Frequent, &[u8])>
 pub(crate) fn read_frequent(bytes: &[u8]) -> Option<(Frequent, usize)>
     ensures { IfSome result (λ found. BeginsFrequent bytes.now found.0 found.1) }
 {
-    let Some(located) = behind_at(bytes) else {
-        return None;
-    };
+    let located = behind_at(bytes)?;
     let Some((at, marked)) = LentLocation::front(located) else {
         return None;
     };

@@ -21,10 +21,8 @@ enum Stage {
     Reading,
     // The reader told its end.
     Ended,
-    // The reader failed.
-    Failed,
-    // There is no number left for a line that is to come.
-    Full,
+    // A fault was answered.
+    Faulted(ReadFault),
 }
 
 /// The lines of a stream, numbered from 1, each with what it says.
@@ -44,10 +42,10 @@ pub struct Lines {
 }
 
 impl Model for Lines {
-    ghost use Rattle.std.specs.Prelude.{◌≡◌, [], false, IfSome};
+    ghost use Rattle.std.specs.Prelude.{◌≡◌, [], false, Some, IfSome, if◌then◌else◌};
     ghost use Rattle.mtrace_log.specs.Frequent.{IsFrequent};
     ghost use Rattle.mtrace_log.specs.Progress.{Progress, Faulted};
-    ghost use Rattle.mtrace_log.specs.Stage.{stage_of, last_of};
+    ghost use Rattle.mtrace_log.specs.LineBuffer.{kept_bytes};
     ghost use Rattle.mtrace_log.specs.declared.line.ReadFault.TheVariants.{ReaderFailed};
 
     ghost Value = { Progress };
@@ -55,12 +53,12 @@ impl Model for Lines {
     ghost view = { λ lines. record {
       held = lines.buffer.unread;
       count = lines.count;
-      stage = stage_of lines.stage;
-      last = last_of lines.is_across lines.across lines.buffer;
+      stage = lines.stage;
+      last = if lines.is_across then kept_bytes lines.across else Some lines.buffer.line;
     } };
 
     // The reader is asked only where no byte is unread, so nothing is held once it failed.
-    ghost invariant = { λ lines. (stage_of lines.stage ≡ Faulted ReaderFailed → lines.buffer.unread ≡ [])
+    ghost invariant = { λ lines. (lines.stage ≡ Faulted ReaderFailed → lines.buffer.unread ≡ [])
         × IfSome lines.frequent (λ frequent. (lines.is_across ≡ false) × IsFrequent lines.buffer.line frequent) };
 }
 
@@ -90,14 +88,11 @@ impl Lines {
     pub fn next<R: Source>(&mut self, reader: &mut R) -> Result<Option<Line>, ReadFault>
         ensures { Advances GivesLine R.shown result self.old self.new reader.old reader.new }
     {
-        match self.advance(reader) {
-            Ok(Some(number)) => {
-                let event = kept(&self.event());
-                Ok(Some(Line { number, event }))
-            }
-            Ok(None) => Ok(None),
-            Err(fault) => Err(fault),
-        }
+        let Some(number) = self.advance(reader)? else {
+            return Ok(None);
+        };
+        let event = kept(&self.event());
+        Ok(Some(Line { number, event }))
     }
 
     /// Passes over the next line, and answers its number: [`Lines::next`] but for what the line says, which is
@@ -113,8 +108,7 @@ impl Lines {
         match self.stage {
             Stage::Reading => self.read_next(reader),
             Stage::Ended => Ok(None),
-            Stage::Failed => Err(ReadFault::ReaderFailed),
-            Stage::Full => Err(ReadFault::TooManyLines),
+            Stage::Faulted(fault) => Err(fault),
         }
     }
 
@@ -165,18 +159,9 @@ impl Lines {
         requires { self.old.stage ≡ Reading }
         ensures { Passes result self.old self.new (R.shown reader.old) (R.shown reader.new) }
     {
-        if self.buffer.is_empty() {
-            return self.read_filled(reader);
+        if !self.buffer.is_empty() {
+            return self.read_held(reader);
         }
-        self.read_held(reader)
-    }
-
-    /// Passes over the next line, where no byte is held.
-    fn read_filled<R: Source>(&mut self, reader: &mut R) -> Result<Option<u64>, ReadFault>
-        requires reading { self.old.stage ≡ Reading }
-        requires none { self.old.held ≡ [] }
-        ensures { Passes result self.old self.new (R.shown reader.old) (R.shown reader.new) }
-    {
         self.frequent = None;
         match self.buffer.refill(reader) {
             Ok(0) => {
@@ -185,7 +170,7 @@ impl Lines {
             }
             Ok(_) => self.read_held(reader),
             Err(Failed) => {
-                self.stage = Stage::Failed;
+                self.stage = Stage::Faulted(ReadFault::ReaderFailed);
                 Err(ReadFault::ReaderFailed)
             }
         }
@@ -199,7 +184,7 @@ impl Lines {
     {
         self.frequent = None;
         if self.count == u64::MAX {
-            self.stage = Stage::Full;
+            self.stage = Stage::Faulted(ReadFault::TooManyLines);
             return Err(ReadFault::TooManyLines);
         }
         if !self.buffer.take_line() {
@@ -224,7 +209,7 @@ impl Lines {
         match stop {
             Stop::Newline => {}
             Stop::Failed => {
-                self.stage = Stage::Failed;
+                self.stage = Stage::Faulted(ReadFault::ReaderFailed);
                 return Err(ReadFault::ReaderFailed);
             }
             Stop::End => self.stage = Stage::Ended,

@@ -135,9 +135,7 @@ impl<'a> LentLocation<'a> {
         if end == 0 || end > LONGEST_LOCATION {
             return None;
         }
-        let Some(rest) = behind_space(&bytes[end..]) else {
-            return None;
-        };
+        let rest = behind_space(&bytes[end..])?;
         Some((
             LentLocation {
                 text: &bytes[..end],
@@ -163,9 +161,7 @@ impl Location {
     pub fn new(bytes: &[u8]) -> Option<Self>
         ensures { SomeIff result (IsLocation bytes.now) bytes.now }
     {
-        let Some(lent) = LentLocation::new(bytes) else {
-            return None;
-        };
+        let lent = LentLocation::new(bytes)?;
         Some(lent.keep())
     }
 
@@ -199,10 +195,7 @@ impl Location {
 pub fn kept_location(at: &Option<LentLocation<'_>>) -> Option<Location>
     ensures { result ≡ at.now }
 {
-    match at {
-        Some(location) => Some(location.keep()),
-        None => None,
-    }
+    Some(at.as_ref()?.keep())
 }
 
 /// Becomes the location of an event, kept, in its place where one is kept already.
@@ -222,8 +215,5 @@ pub fn set_location(kept: &mut Option<Location>, at: &Option<LentLocation<'_>>)
 pub(crate) fn lent_location(at: &Option<Location>) -> Option<LentLocation<'_>>
     ensures { result ≡ at.now }
 {
-    match at {
-        Some(location) => Some(location.lend()),
-        None => None,
-    }
+    Some(at.as_ref()?.lend())
 }
