@@ -72,7 +72,7 @@ pub(crate) fn read_frequent(bytes: &[u8]) -> Option<(Frequent, usize)>
     let Some((at, marked)) = LentLocation::front(located) else {
         return None;
     };
-    let Some((frequent, rest)) = front_fields(at.len(), marked) else {
+    let Some((frequent, rest)) = front_fields(at.text.len(), marked) else {
         return None;
     };
     Some((frequent, bytes.len() - rest.len() - 1))
@@ -85,7 +85,9 @@ impl Frequent {
         requires { IsFrequent line.now self }
         ensures { ReadsAs line.now (Ok result) }
     {
-        let at = Some(LentLocation::of(&line[2..2 + self.place]));
+        let at = Some(LentLocation {
+            text: &line[2..2 + self.place],
+        });
         match self.size {
             Some(size) => Event::Alloc {
                 at,

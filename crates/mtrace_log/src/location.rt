@@ -86,7 +86,7 @@ pub(crate) fn behind_space(bytes: &[u8]) -> Option<&[u8]>
 /// A location where it lies, in the line that names it.
 #[derive(Drop)]
 pub struct LentLocation<'a> {
-    text: &'a [u8],
+    pub(crate) text: &'a [u8],
 }
 
 impl<'a> Model for LentLocation<'a> {
@@ -109,21 +109,6 @@ impl<'a> LentLocation<'a> {
             return None;
         }
         Some(LentLocation { text: bytes })
-    }
-
-    /// The location of these bytes, which are one.
-    pub(crate) fn of(bytes: &'a [u8]) -> LentLocation<'a>
-        requires { IsLocation bytes.now }
-        ensures { result ≡ bytes.now }
-    {
-        LentLocation { text: bytes }
-    }
-
-    /// How many bytes it has.
-    pub(crate) fn len(&self) -> usize
-        ensures { result ≡ length self.now }
-    {
-        self.text.len()
     }
 
     /// The location at the front, and what stands behind the space that ends it.
@@ -172,16 +157,6 @@ impl Location {
         LentLocation { text: self.bytes() }
     }
 
-    /// Becomes the location that is lent, in its place.
-    pub(crate) fn set(&mut self, other: &LentLocation<'_>)
-        ensures { self.new ≡ other.now }
-    {
-        self.text.clear();
-        if self.text.try_extend_from_slice(other.text).is_err() {
-            unreachable!();
-        }
-    }
-
     /// The bytes.
     pub fn bytes(&self) -> &[u8]
         ensures bytes { result.now ≡ self.now }
@@ -204,7 +179,12 @@ pub fn set_location(kept: &mut Option<Location>, at: &Option<LentLocation<'_>>)
 {
     match at {
         Some(lent) => match kept {
-            Some(location) => location.set(lent),
+            Some(location) => {
+                location.text.clear();
+                if location.text.try_extend_from_slice(lent.text).is_err() {
+                    unreachable!();
+                }
+            }
             None => *kept = Some(lent.keep()),
         },
         None => *kept = None,
