@@ -34,17 +34,6 @@ impl<R: Read> FromRead<R> {
             trace: Trace::new(),
         }
     }
-
-    /// Reads once, where a read is left. Its outcome is not told yet.
-    fn read_once(&mut self, buf: &mut [u8]) -> Result<usize, Failed>
-        ensures { ReadsOnce R.remaining (reader_trace self.old) result buf.new self.old self.new }
-    {
-        if self.calls == u64::MAX {
-            return Err(Failed);
-        }
-        self.calls += 1;
-        self.reader.read(buf).map_err(|_| Failed)
-    }
 }
 
 impl<R: Read> Source for FromRead<R> {
@@ -62,7 +51,12 @@ impl<R: Read> Source for FromRead<R> {
         // The bytes are those that the reader gave, where it tells them, and 0 is its end.
         ensures { ReadsOnce R.remaining (pulled result ∷ reader_trace self.old) result buf.new self.old self.new }
     {
-        let answer = self.read_once(buf);
+        let answer = if self.calls == u64::MAX {
+            Err(Failed)
+        } else {
+            self.calls += 1;
+            self.reader.read(buf).map_err(|_| Failed)
+        };
         self.trace.add(Call::pulled(&answer));
         answer
     }

@@ -22,10 +22,7 @@ type Numbers = (Option<Addr>, u64);
 fn ends_field(bytes: &[u8]) -> bool
     ensures { IsTrue result ↔ EndsField bytes.now }
 {
-    match bytes {
-        [] | [b' ', ..] => true,
-        _ => false,
-    }
+    matches!(bytes, [] | [b' ', ..])
 }
 
 /// What follows `(nil)`, where a field ends behind it.

@@ -95,17 +95,13 @@ impl Sink for MemorySink {
                 Full::TakesNone => Ok(0),
             };
         }
-        match self.bytes.extend_from_slice(&bytes[..count]) {
-            Ok(()) => {
-                self.room -= count;
-                self.trace.add(Call::Took(count));
-                Ok(count)
-            }
-            Err(_) => {
-                self.trace.add(Call::Failed);
-                Err(Failed)
-            }
+        if self.bytes.extend_from_slice(&bytes[..count]).is_err() {
+            self.trace.add(Call::Failed);
+            return Err(Failed);
         }
+        self.room -= count;
+        self.trace.add(Call::Took(count));
+        Ok(count)
     }
 
     /// Does nothing.
