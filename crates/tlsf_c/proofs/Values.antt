@@ -30,7 +30,7 @@ use Rattle.std.proofs.GlobalToken.{dealloc_token-Testable}
 use Rattle.core.specs.Ptr.{points_to}
 use Rattle.tlsf_heap.specs.contracts.heap.Heap as heap
 use Rattle.tlsf_c.specs.Owned.{token, owned_heap, owned}
-use Rattle.tlsf_c.specs.Zeros.{zeros}
+use Rattle.tlsf_c.specs.Creation.{zeros}
 use Rattle.tlsf_c.specs.declared.made.Made.{Made}
 use Rattle.tlsf_c.specs.contracts.handle.Handle as handle
 use Rattle.tlsf_c.specs.contracts.unboxed.Unboxed as unboxed

@@ -2,12 +2,10 @@
 
 ghost use Rattle.std.specs.Prelude.{◌≡◌, ◌≢◌, ◌<◌, ◌⊎◌, ◌↔◌, Some, None};
 ghost use Rattle.tlsf_store.specs.Records.{most_records};
-ghost use Rattle.tlsf_c.specs.Creation.{IsNew};
+ghost use Rattle.tlsf_c.specs.Creation.{IsNew, zeros};
 ghost use Rattle.tlsf_c.specs.Status.{bad_count, number};
-ghost use Rattle.tlsf_c.specs.Zeros.{zeros};
 ghost use Rattle.tlsf_heap.specs.declared.refusal.Refusal.TheVariants.{OutOfMemory};
 
-use crate::handle::Handle;
 use crate::made::Made;
 use crate::status::{BAD_COUNT, OUT_OF_MEMORY, SERVED};
 use crate::unboxed::Unboxed;
@@ -41,7 +39,7 @@ pub(crate) fn put(alloc: Global, heap: Heap, out: &mut Made) -> u32
 {
     match Box::new(alloc, heap) {
         Ok(boxed) => {
-            *out = Made::of(Handle::of_unboxed(Unboxed::of(boxed)));
+            *out = Made::of(Unboxed::of(boxed));
             SERVED
         }
         Err(_) => OUT_OF_MEMORY,

@@ -25,14 +25,6 @@ impl Handle {
     ghost use types.Logic.{sem};
     ghost use Rattle.tlsf_c.specs.Lends.{LendsHeap};
 
-    /// The handle of a heap whose box was taken apart.
-    pub(crate) fn of_unboxed(unboxed: Unboxed<Heap, Global>) -> Handle
-        ensures { result.value ≡ unboxed.value }
-    {
-        let Unboxed { at, alloc: _ } = unboxed;
-        Handle { at: at as *mut u8 }
-    }
-
     /// The parts of the heap's box.
     pub(crate) fn into_unboxed(self, alloc: Global) -> Unboxed<Heap, Global>
         ensures { result.value ≡ self.value }

@@ -24,7 +24,7 @@ use Rattle.core.proofs.option.Made.{Some-of, none_of}
 use Rattle.std.proofs.raw_atomic.Walks.{proved_at, leaves}
 use Rattle.std.specs.declared.option.Option.TheVariants.{None, Some}
 use Rattle.tlsf_c.proofs.Values.{one_field, handle_in, made_out}
-use Rattle.tlsf_c.specs.Zeros.{zeros}
+use Rattle.tlsf_c.specs.Creation.{zeros}
 use Rattle.tlsf_c.specs.declared.handle.Handle.{Handle}
 use Rattle.tlsf_c.specs.contracts.handle.Handle.{the_row as H}
 use Rattle.tlsf_c.specs.contracts.made.Made.{the_row as R}
