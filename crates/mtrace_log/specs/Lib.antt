@@ -15,6 +15,7 @@ pub mod Trace
 pub mod Output
 pub mod Buffer
 pub mod Progress
+pub mod Stage
 pub mod LineBuffer
 pub mod HasRead
 pub mod Memory

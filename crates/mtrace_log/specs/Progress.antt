@@ -12,8 +12,12 @@ use Rattle.mtrace_log.specs.declared.call.Call.{Call}
 use Rattle.mtrace_log.specs.declared.line.Line.{Line}
 use Rattle.mtrace_log.specs.declared.line.ReadFault.{ReadFault}
 use Rattle.mtrace_log.specs.declared.line.ReadFault.TheVariants.{ReaderFailed, TooManyLines}
-pub use Rattle.mtrace_log.specs.declared.lines.Stage.{Stage}
-pub use Rattle.mtrace_log.specs.declared.lines.Stage.TheVariants.{Reading, Ended, Faulted}
+
+-- lines are still read, or the end was told, or a fault was answered
+pub data Stage : Type 0 where
+  Reading : Stage
+  Ended : Stage
+  Faulted : ReadFault → Stage
 
 -- the bytes asked of a reader that belong to no line yet, how many lines were given, and the stage. `last`: the
 -- bytes of the line that was passed last, unless it was too long to be kept

@@ -46,6 +46,7 @@ impl Model for Lines {
     ghost use Rattle.mtrace_log.specs.Frequent.{IsFrequent};
     ghost use Rattle.mtrace_log.specs.Progress.{Progress, Faulted};
     ghost use Rattle.mtrace_log.specs.LineBuffer.{kept_bytes};
+    ghost use Rattle.mtrace_log.specs.Stage.{stage_of};
     ghost use Rattle.mtrace_log.specs.declared.line.ReadFault.TheVariants.{ReaderFailed};
 
     ghost Value = { Progress };
@@ -53,12 +54,12 @@ impl Model for Lines {
     ghost view = { λ lines. record {
       held = lines.buffer.unread;
       count = lines.count;
-      stage = lines.stage;
+      stage = stage_of lines.stage;
       last = if lines.is_across then kept_bytes lines.across else Some lines.buffer.line;
     } };
 
     // The reader is asked only where no byte is unread, so nothing is held once it failed.
-    ghost invariant = { λ lines. (lines.stage ≡ Faulted ReaderFailed → lines.buffer.unread ≡ [])
+    ghost invariant = { λ lines. (stage_of lines.stage ≡ Faulted ReaderFailed → lines.buffer.unread ≡ [])
         × IfSome lines.frequent (λ frequent. (lines.is_across ≡ false) × IsFrequent lines.buffer.line frequent) };
 }
 
