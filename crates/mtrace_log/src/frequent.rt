@@ -42,14 +42,8 @@ fn front_fields(place: usize, bytes: &[u8]) -> Option<(Frequent, &[u8])>
     };
     if mark == b'-' {
         let rest = behind_newline(behind)?;
-        return Some((
-            Frequent {
-                place,
-                addr,
-                size: None,
-            },
-            rest,
-        ));
+        let size = None;
+        return Some((Frequent { place, addr, size }, rest));
     }
     if mark != b'+' {
         return None;
@@ -85,9 +79,8 @@ impl Frequent {
         requires { IsFrequent line.now self }
         ensures { ReadsAs line.now (Ok result) }
     {
-        let at = Some(LentLocation {
-            text: &line[2..2 + self.place],
-        });
+        let text = &line[2..2 + self.place];
+        let at = Some(LentLocation { text });
         match self.size {
             Some(size) => Event::Alloc {
                 at,

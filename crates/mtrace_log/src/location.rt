@@ -121,12 +121,8 @@ impl<'a> LentLocation<'a> {
             return None;
         }
         let rest = behind_space(&bytes[end..])?;
-        Some((
-            LentLocation {
-                text: &bytes[..end],
-            },
-            rest,
-        ))
+        let text = &bytes[..end];
+        Some((LentLocation { text }, rest))
     }
 
     /// The location, kept.

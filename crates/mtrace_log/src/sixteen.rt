@@ -18,14 +18,6 @@ fn offsets(lanes: u8x16, bound: u8) -> u8x16
         .select(u8x16::splat(b'a' - 10), u8x16::splat(b'0'))
 }
 
-/// The digit that each lane writes, where it writes one, or else any.
-#[inline(always)]
-fn lane_digits(lanes: u8x16) -> u8x16
-    ensures { result ≡ map lane_digit lanes }
-{
-    (lanes - offsets(lanes, b'9')) & u8x16::splat(15)
-}
-
 /// How many lanes, from the first on, write the digits that were read of them.
 #[inline(always)]
 fn count_digits(lanes: u8x16, digits: u8x16) -> usize
@@ -58,7 +50,8 @@ pub(crate) fn read_sixteen(bytes: &[u8]) -> (u64, usize)
     ensures { ReadsDigits bytes.now result.0 result.1 }
 {
     let lanes = u8x16::from_slice(bytes);
-    let digits = lane_digits(lanes);
+    // The digit that each lane writes, where it writes one, or else any.
+    let digits = (lanes - offsets(lanes, b'9')) & u8x16::splat(15);
     let count = count_digits(lanes, digits);
     if count == 0 {
         return (0, 0);
