@@ -1,5 +1,5 @@
 -- What the room of a window has once a text was put.
-use Rattle.std.proofs.Common.{◌≡◌, ℕ, ◌-◌, List, refl, ◌∷◌, ◌++◌, length, take, drop, Result, Ok, Err, ap, sym, ◌∙◌, arith}
+use Rattle.std.proofs.Common.{◌≡◌, ℕ, ◌-◌, List, refl, ◌∷◌, ◌++◌, length, take, drop, Result, Ok, Err, ap, ◌∙◌, arith}
 use Rattle.std.specs.Prelude.{min, nat_le}
 use Rattle.std.proofs.lemmas.List.{take_at, drop_at, length-append}
 use Rattle.std.specs.Io.KnownBytes.{append_known}

@@ -1,5 +1,5 @@
 -- The size of a live block of a region, which ends within its bytes.
-use Rattle.std.proofs.Common.{◌≡◌, ℕ, ◌+◌, ◌<◌, ◌≤◌, true, List, length, refl, sym, subst, arith, Option, Some, None, Result, Ok, Err, IfOk, IfSome, inl, inr, drop}
+use Rattle.std.proofs.Common.{◌≡◌, ℕ, ◌+◌, ◌≤◌, true, List, length, refl, sym, subst, arith, Option, Some, None, Result, Ok, Err, IfOk, IfSome, inl, inr, drop}
 use Rattle.std.specs.Prelude.{◌==◌}
 use Rattle.std.specs.Result.{result_ok}
 use Rattle.std.proofs.lemmas.Bool.{cases_Bool}

@@ -5,7 +5,7 @@ use Rattle.tlsf_heap.specs.declared.refusal.Refusal.{Refusal}
 use Rattle.tlsf_heap.specs.declared.refusal.Refusal.TheVariants.{BadPool}
 use Rattle.tlsf_heap.specs.declared.row.Row.{Row}
 use Rattle.tlsf_heap.specs.Content.{Content}
-use Rattle.tlsf_heap.specs.Counted.{Counted, range_of}
+use Rattle.tlsf_heap.specs.Counted.{range_of}
 use Rattle.tlsf_heap.specs.Pools.{end_of_places, add_pool}
 use Rattle.tlsf_heap.specs.Touches.{AtMost}
 
@@ -14,10 +14,6 @@ pub record CountedRegion : Type 0 where
   pub touches : ℕ
   pub rows : List (List Row)
   pub bytes : List ℕ
-
--- a heap and its bytes, as contracts see them
-abbrev pub counted_region : Counted → List ℕ → CountedRegion
-counted_region heap bytes = record { content = heap.content; touches = heap.touches; rows = heap.rows; bytes = bytes }
 
 -- each of these pools, known by where it begins and its bytes, ends at or below the place
 abbrev pub EndBelow : ℕ → List (ℕ × ℕ) → Type 0
@@ -28,12 +24,6 @@ EndBelow place (range ∷ ranges) = (range.0 + range.1 ≤ place) × EndBelow pl
 pub record IsWithin (content : Content ℕ) (bytes : List ℕ) : Type 0 where
   pub places : length bytes ≤ end_of_places
   pub pools : EndBelow (length bytes) (map range_of content.pools)
-
--- a region: its pools are within its bytes. The memory of the bytes has room for exactly these: a region keeps no
--- spare memory
-pub record IsRegion (content : Content ℕ) (room : ℕ) (bytes : List ℕ) : Type 0 where
-  pub within : IsWithin content bytes
-  pub exact : room ≡ length bytes
 
 -- the heap's content is as it was, and each cursor stands where it stood, with the rows that are to come
 pub record IsUnchanged (old new : CountedRegion) : Type 0 where

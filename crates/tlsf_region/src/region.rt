@@ -18,14 +18,20 @@ pub struct Region {
 }
 
 impl Model for Region {
-    ghost use Rattle.std.specs.Prelude.{vec_capacity};
-    ghost use Rattle.tlsf_region.specs.Region.{CountedRegion, counted_region, IsRegion};
+    ghost use Rattle.std.specs.Prelude.{◌≡◌, length, vec_capacity};
+    ghost use Rattle.tlsf_region.specs.Region.{CountedRegion, IsWithin};
 
     ghost Value = { CountedRegion };
 
-    ghost view = { λ r. counted_region r.heap r.bytes.items };
+    ghost view = { λ r. record {
+      content = r.heap.content;
+      touches = r.heap.touches;
+      rows = r.heap.rows;
+      bytes = r.bytes.items;
+    } };
 
-    ghost invariant = { λ r. IsRegion r.heap.content (vec_capacity r.bytes) r.bytes.items };
+    // The memory of the bytes has room for exactly these: a region keeps no spare memory.
+    ghost invariant = { λ r. IsWithin r.heap.content r.bytes.items × (vec_capacity r.bytes ≡ length r.bytes.items) };
 }
 
 impl Region {

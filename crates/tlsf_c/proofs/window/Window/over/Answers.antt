@@ -1,4 +1,4 @@
-use Rattle.std.proofs.Common.{List, ℕ, ◌++◌, ap, ◌∙◌}
+use Rattle.std.proofs.Common.{◌++◌, ap, ◌∙◌}
 use Rattle.tlsf_c.specs.declared.window_trace.WindowTrace.{WindowTrace}
 use Rattle.tlsf_c.proofs.RoomLemmas.{placed_at_first}
 use Rattle.tlsf_c.proofs.window.Window.over.Goals as goal

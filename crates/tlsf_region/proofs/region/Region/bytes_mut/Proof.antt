@@ -2,7 +2,7 @@
 -- and the region itself is lent on. Assumes `Logic`.
 use Rattle.std.specs.Prelude.{◌==◌}
 use Rattle.std.proofs.raw_atomic.Walks.{proved}
-use Rattle.std.proofs.Common.{◌≡◌, ℕ, ◌+◌, ◌≤◌, ◌<◌, List, [], ◌∷◌, length, false, refl, sym, ap, ◌∙◌, lit<, w32, MutBor, arith, Some, None, Ok}
+use Rattle.std.proofs.Common.{◌≡◌, ℕ, ◌+◌, ◌≤◌, ◌<◌, List, [], ◌∷◌, length, false, refl, sym, ap, ◌∙◌, lit<, w32, MutBor, arith, Some, None}
 use base.Fraction.{full_share}
 use base.Logic.{emp, id⊢}
 use base.Fml.{ftrue, flft, fres}

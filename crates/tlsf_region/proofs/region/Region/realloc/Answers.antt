@@ -23,14 +23,12 @@ copied old new size bytes elsewhere within =
 pub invariant_of-self : goal.invariant_of-self
 invariant_of-self c =
     let old = c.self.inside.heap.content in
-    let new = c.realloc.new.self.content in
-    record {
-      within =
-          still_within c.realloc.result c.self.inside.heap c.realloc.new.self c.self.inside.bytes.items
+    let new = c.realloc.new.self.content in (
+      still_within c.realloc.result c.self.inside.heap c.realloc.new.self c.self.inside.bytes.items
           (IfOk-weaker c.realloc.result _ _ (λ given e. reallocated_ranges (slot_of given) None c.args.n old new (place_and_slot given) e.ok) c.realloc.ensures.ok)
-          c.realloc.ensures.refused.unchanged c.self.invariant.within;
-      exact = c.self.invariant.exact;
-    }
+          c.realloc.ensures.refused.unchanged c.self.invariant.0,
+      c.self.invariant.1,
+    )
 
 pub returns-in_err-new-clause-refused : goal.returns-in_err-new-clause-refused
 returns-in_err-new-clause-refused c =
@@ -45,11 +43,10 @@ returns-in_err-new-clause-refused c =
 pub invariant_of-self-in_default-2 : goal.invariant_of-self-in_default-2
 invariant_of-self-in_default-2 c =
     let old = c.self-2.inside.heap.content in
-    let new = c.realloc-2.new.self.content in
-    record {
-      within = within_kept old new c.self-2.inside.bytes.items (reallocated_ranges _ (Some (c.in-Some.old.place, c.in-Some.old.slot)) c.args.n old new _ c.in_ok-new.ensures.ok.ok) c.self-2.invariant.within;
-      exact = c.self-2.invariant.exact;
-    }
+    let new = c.realloc-2.new.self.content in (
+      within_kept old new c.self-2.inside.bytes.items (reallocated_ranges _ (Some (c.in-Some.old.place, c.in-Some.old.slot)) c.args.n old new _ c.in_ok-new.ensures.ok.ok) c.self-2.invariant.0,
+      c.self-2.invariant.1,
+    )
 
 pub copy_within-requires : goal.copy_within-requires
 copy_within-requires c =
@@ -57,7 +54,7 @@ copy_within-requires c =
     let same = ap (λ region. region.content) c.self-2.view_is ∙ c.live_size.ensures.read.unchanged.content in
     let old : c.in-Some.old.place + c.in-Some-live_size.size ≤ length bytes.items = omega (arith, c.in-Some-live_size.ensures.some.within, ap (λ region. length region.bytes) c.self-2.view_is, ap length c.live_size.ensures.read.bytes) in
     let elsewhere : c.in-Some-2.new.place ≢ c.in-Some.old.place = λ is. c.if-place.false (c.place.ensures ∙ is ∙ sym c.place-2.ensures) in
-    let new = room_there c.in-Some.old c.in-Some-2.new c.args.n c.in-Some-live_size.size c.args.self.now.content c.self-2.inside.heap.content c.realloc-2.new.self.content bytes.items same c.live_size.ensures.good c.self-2.invariant.within c.in-Some-live_size.ensures.some.told (Some c.in-Some.old) _ refl c.in-Some-2.is c.in_ok-new.ensures.ok.ok elsewhere in
+    let new = room_there c.in-Some.old c.in-Some-2.new c.args.n c.in-Some-live_size.size c.args.self.now.content c.self-2.inside.heap.content c.realloc-2.new.self.content bytes.items same c.live_size.ensures.good c.self-2.invariant.0 c.in-Some-live_size.ensures.some.told (Some c.in-Some.old) _ refl c.in-Some-2.is c.in_ok-new.ensures.ok.ok elsewhere in
     record {
       start_le_end = omega arith;
       in_bounds = rw bytes.ok.0 (omega (arith, old, c.place-start.ensures));
@@ -68,11 +65,10 @@ copy_within-requires c =
 pub invariant_of-self-then-place : goal.invariant_of-self-then-place
 invariant_of-self-then-place c =
     let old = c.self-2.inside.heap.content in
-    let new = c.realloc-2.new.self.content in
-    record {
-      within = within_kept old new c.self-2.inside.bytes.items (reallocated_ranges _ (Some (c.in-Some.old.place, c.in-Some.old.slot)) c.args.n old new _ c.in_ok-new.ensures.ok.ok) c.self-2.invariant.within;
-      exact = c.self-2.invariant.exact;
-    }
+    let new = c.realloc-2.new.self.content in (
+      within_kept old new c.self-2.inside.bytes.items (reallocated_ranges _ (Some (c.in-Some.old.place, c.in-Some.old.slot)) c.args.n old new _ c.in_ok-new.ensures.ok.ok) c.self-2.invariant.0,
+      c.self-2.invariant.1,
+    )
 
 pub invariant_of-self-2 : goal.invariant_of-self-2
 invariant_of-self-2 c =
@@ -80,13 +76,11 @@ invariant_of-self-2 c =
     let new = c.realloc-2.new.self.content in
     let bytes = c.self-2.inside.bytes in
     let more = c.copy_within.new.self in
-    let same_length = sym more.ok.0 ∙ c.copy_within.ensures.len ∙ bytes.ok.0 in
-    record {
-      within =
-          within_kept old new more.items (reallocated_ranges _ (Some (c.in-Some.old.place, c.in-Some.old.slot)) c.args.n old new _ c.in_ok-new.ensures.ok.ok)
-          (within_long old bytes.items more.items same_length c.self-2.invariant.within);
-      exact = c.copy_within.ensures.capacity ∙ c.self-2.invariant.exact ∙ sym same_length;
-    }
+    let same_length = sym more.ok.0 ∙ c.copy_within.ensures.len ∙ bytes.ok.0 in (
+      within_kept old new more.items (reallocated_ranges _ (Some (c.in-Some.old.place, c.in-Some.old.slot)) c.args.n old new _ c.in_ok-new.ensures.ok.ok)
+          (within_long old bytes.items more.items same_length c.self-2.invariant.0),
+      c.copy_within.ensures.capacity ∙ c.self-2.invariant.1 ∙ sym same_length,
+    )
 
 pub returns-clause-bytes : goal.returns-clause-bytes
 returns-clause-bytes c =
