@@ -1,6 +1,6 @@
 ghost use Rattle.std.specs.Prelude.{◌≡◌, ◌<◌, [], length, Some};
 ghost use Rattle.mtrace_log.specs.Bytes.{Lacks, newline};
-ghost use Rattle.mtrace_log.specs.Progress.{Reading, greatest_number, Says, GivesLine, PassesLine, Advances, Passes};
+ghost use Rattle.mtrace_log.specs.Progress.{Reading, greatest_number, Says, GivesLine, PassesLine, Advances};
 
 use crate::buffer::Buffer;
 use crate::event::{Event, LineFault};
@@ -140,7 +140,7 @@ impl Lines {
     #[inline(always)]
     fn read_next<R: Source>(&mut self, reader: &mut R) -> Result<Option<u64>, ReadFault>
         requires { self.old.stage ≡ Reading }
-        ensures { Passes result self.old self.new (R.shown reader.old) (R.shown reader.new) }
+        ensures { Advances PassesLine R.shown result self.old self.new reader.old reader.new }
     {
         if self.count == u64::MAX {
             return self.read_other(reader);
@@ -158,7 +158,7 @@ impl Lines {
     #[inline(never)]
     fn read_other<R: Source>(&mut self, reader: &mut R) -> Result<Option<u64>, ReadFault>
         requires { self.old.stage ≡ Reading }
-        ensures { Passes result self.old self.new (R.shown reader.old) (R.shown reader.new) }
+        ensures { Advances PassesLine R.shown result self.old self.new reader.old reader.new }
     {
         if !self.buffer.is_empty() {
             return self.read_held(reader);
@@ -181,7 +181,7 @@ impl Lines {
     fn read_held<R: Source>(&mut self, reader: &mut R) -> Result<Option<u64>, ReadFault>
         requires reading { self.old.stage ≡ Reading }
         requires some { 0 < length self.old.held }
-        ensures { Passes result self.old self.new (R.shown reader.old) (R.shown reader.new) }
+        ensures { Advances PassesLine R.shown result self.old self.new reader.old reader.new }
     {
         self.frequent = None;
         if self.count == u64::MAX {
@@ -203,7 +203,7 @@ impl Lines {
         requires some { 0 < length self.old.held }
         requires no_newline { Lacks newline self.old.held }
         requires room { self.old.count < greatest_number }
-        ensures { Passes result self.old self.new (R.shown reader.old) (R.shown reader.new) }
+        ensures { Advances PassesLine R.shown result self.old self.new reader.old reader.new }
     {
         self.frequent = None;
         let (line, stop) = read_piece(&mut self.buffer, reader);
