@@ -52,7 +52,7 @@ pub extern "C" fn tlsf_heap_destroy(alloc: Global, heap: &mut Made)
     ensures zeros { heap.new ≡ zeros }
     ensures nothing { heap.old.value ≡ None → heap.new ≡ heap.old }
 {
-    if let Some(handle) = replace(heap, Made::zeros()).into_handle() {
-        drop(handle.into_unboxed(alloc).into_box());
+    if let Some(unboxed) = replace(heap, Made::zeros()).into_unboxed(alloc) {
+        drop(unboxed.into_box());
     }
 }

@@ -3,7 +3,6 @@
 ghost use Rattle.std.specs.Prelude.{Option};
 ghost use Rattle.tlsf_heap.specs.Counted.{Counted};
 
-use crate::handle::Handle;
 use crate::unboxed::Unboxed;
 use std::alloc::Global;
 use std::marker::Model;
@@ -44,15 +43,16 @@ impl Made {
         Made { at: null_mut() }
     }
 
-    /// The handle that is held, if one is.
-    pub(crate) fn into_handle(self) -> Option<Handle>
-        ensures { MatchOption result (self ≡ zeros) (λ handle. self.value ≡ Some handle.value) }
+    /// The parts of the box of the heap that is held, if one is.
+    pub(crate) fn into_unboxed(self, alloc: Global) -> Option<Unboxed<Heap, Global>>
+        ensures { MatchOption result (self ≡ zeros) (λ unboxed. self.value ≡ Some unboxed.value) }
     {
         let Made { at } = self;
         if at.is_null() {
             None
         } else {
-            Some(Handle { at })
+            let at = at as *mut Heap;
+            Some(Unboxed { at, alloc })
         }
     }
 }
