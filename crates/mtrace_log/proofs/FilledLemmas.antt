@@ -2,34 +2,52 @@
 use Rattle.std.proofs.Common.{◌≡◌, ℕ, ◌+◌, List, Option, Some, None, Result, Ok, Err, sym, ap, ◌∙◌, subst}
 use Rattle.mtrace_log.specs.Shown.{ReaderState}
 use Rattle.mtrace_log.specs.Trace.{HasGiven}
-use Rattle.mtrace_log.specs.Progress.{Reading, Progress, to_come, ReadsLine, StopsReading, ReadsOn, Passes}
+use Rattle.mtrace_log.specs.Progress.{Reading, Progress, to_come, ReadsLine, FindsEnd, StopsReading, GivesFault, PassesLine, Advances}
 use Rattle.mtrace_log.specs.declared.line.ReadFault.{ReadFault}
 use Rattle.mtrace_log.proofs.CallLemmas.{calls_after}
 
-module _ (old filled new : Progress) (reader_old reader_filled reader_new : ReaderState) (reading : old.stage ≡ Reading) (count : old.count ≡ filled.count)
-    (same : to_come old reader_old.left ≡ to_come filled reader_filled.left) (gave : HasGiven reader_old.calls reader_filled.calls) where
-  reads_filled : (result : Result (Option ℕ) ReadFault) → ReadsOn filled new reader_filled reader_new result → ReadsOn old new reader_old reader_new result
-  reads_filled (Ok (Some number)) reads = (
-    λ answer says.
-        let line = reads.0 answer says in
+module _ {R : Type 0} (shown : R → ReaderState) (old filled new : Progress) (reader_old reader_filled reader_new : R) (reading : old.stage ≡ Reading) (still : filled.stage ≡ Reading)
+    (count : old.count ≡ filled.count) (same : to_come old (shown reader_old).left ≡ to_come filled (shown reader_filled).left) (gave : HasGiven (shown reader_old).calls (shown reader_filled).calls) where
+  abbrev left : Option (List ℕ)
+  left = to_come new (shown reader_new).left
+
+  pub passes_filled : (result : Result (Option ℕ) ReadFault) → (shown reader_filled).whole ≡ (shown reader_old).whole → Advances PassesLine shown result filled new reader_filled reader_new
+      → Advances PassesLine shown result old new reader_old reader_new
+  passes_filled (Ok (Some number)) whole passes = record {
+    line = λ answer says.
+        let line = passes.line answer says in
         record {
           was_reading = reading;
           number = line.number ∙ ap (λ n. n + 1) (sym count);
           count = line.count;
-          taken = subst (λ text. ReadsLine new.stage text (to_come new reader_new.left) answer) (sym same) line.taken;
-        },
-    calls_after new.stage reader_old.calls reader_filled.calls reader_new.calls gave reads.1,
-  )
-  reads_filled (Ok None) reads = (
-    reads.0,
-    (reads.1.0 ∙ sym count, same ∙ reads.1.1, reads.1.2),
-    calls_after new.stage reader_old.calls reader_filled.calls reader_new.calls gave reads.2,
-  )
-  reads_filled (Err fault) reads =
-      let P : ℕ → Option (List ℕ) → Type 0 = λ n text. StopsReading fault n text (to_come new reader_new.left) in (
-        (reads.0.0, reads.0.1 ∙ sym count, subst (λ n. P n (to_come old reader_old.left)) (sym count) (subst (P filled.count) (sym same) reads.0.2)),
-        calls_after new.stage reader_old.calls reader_filled.calls reader_new.calls gave reads.1,
-      )
-
-  pub passes_filled : (result : Result (Option ℕ) ReadFault) → reader_filled.whole ≡ reader_old.whole → Passes result filled new reader_filled reader_new → Passes result old new reader_old reader_new
-  passes_filled result whole passes = record { reads = reads_filled result passes.reads; nothing_held = passes.nothing_held; whole = passes.whole ∙ whole }
+          taken = subst (λ text. ReadsLine new.stage text left answer) (sym same) line.taken;
+        };
+    end = tt;
+    fault = tt;
+    calls = λ _. calls_after new.stage (shown reader_old).calls (shown reader_filled).calls (shown reader_new).calls gave (passes.calls still);
+    nothing_held = tt;
+    whole = passes.whole ∙ whole;
+  }
+  passes_filled (Ok None) whole passes =
+      let found : FindsEnd Reading filled new reader_filled reader_new (to_come filled (shown reader_filled).left) left =
+      subst (λ stage. FindsEnd stage filled new reader_filled reader_new (to_come filled (shown reader_filled).left) left) still passes.end.1 in
+      record {
+        line = tt;
+        end = (passes.end.0, rw reading (found.0 ∙ sym count, same ∙ found.1, found.2));
+        fault = tt;
+        calls = λ _. calls_after new.stage (shown reader_old).calls (shown reader_filled).calls (shown reader_new).calls gave (passes.calls still);
+        nothing_held = tt;
+        whole = passes.whole ∙ whole;
+      }
+  passes_filled (Err fault) whole passes =
+      let P : ℕ → Option (List ℕ) → Type 0 = λ n text. StopsReading fault n text left in
+      let given : GivesFault Reading fault filled new reader_filled reader_new (to_come filled (shown reader_filled).left) left =
+      subst (λ stage. GivesFault stage fault filled new reader_filled reader_new (to_come filled (shown reader_filled).left) left) still passes.fault in
+      record {
+        line = tt;
+        end = tt;
+        fault = rw reading (given.0, given.1 ∙ sym count, subst (λ n. P n (to_come old (shown reader_old).left)) (sym count) (subst (P filled.count) (sym same) given.2));
+        calls = λ _. calls_after new.stage (shown reader_old).calls (shown reader_filled).calls (shown reader_new).calls gave (passes.calls still);
+        nothing_held = passes.nothing_held;
+        whole = passes.whole ∙ whole;
+      }

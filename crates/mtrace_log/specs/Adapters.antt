@@ -1,7 +1,6 @@
 -- What a clause reads of the adapters of std's readers and writers.
-use Rattle.std.specs.Prelude.{◌≡◌, ℕ, ◌-◌, ◌^◌, ◌≤◌, List, length, Option, None, Result, IfOk, IsErr}
+use Rattle.std.specs.Prelude.{◌≡◌, ℕ, ◌-◌, ◌^◌, ◌≤◌, List, length, Option, Result, IfOk, IsErr}
 use Rattle.std.specs.Io.KnownBytes.{ReadConsumes}
-use Rattle.mtrace_log.specs.Shown.{ReaderState, WriterState}
 use Rattle.mtrace_log.specs.declared.call.Call.{Call}
 use Rattle.mtrace_log.specs.declared.from_read.FromRead.{FromRead}
 use Rattle.mtrace_log.specs.declared.to_write.ToWrite.{ToWrite}
@@ -18,10 +17,6 @@ calls_left source = 2 ^ 64 - 1 - source.calls
 abbrev pub reader_trace : {R : Type 0} → FromRead R → List Call
 reader_trace source = source.trace.calls
 
--- what it shows: those, and no bytes
-abbrev pub reader_shown : {R : Type 0} → FromRead R → ReaderState
-reader_shown source = record { left = None; whole = None; calls = reader_trace source }
-
 -- the writer of std's
 abbrev pub writer_of : {W : Type 0} → ToWrite W → W
 writer_of sink = sink.writer
@@ -29,10 +24,6 @@ writer_of sink = sink.writer
 -- the outcomes of its calls, the latest first
 abbrev pub writer_trace : {W : Type 0} → ToWrite W → List Call
 writer_trace sink = sink.trace.calls
-
--- what it shows: those, and no bytes
-abbrev pub writer_shown : {W : Type 0} → ToWrite W → WriterState
-writer_shown sink = record { taken = None; calls = writer_trace sink }
 
 -- the adapter of this reader, which makes at most this many more calls of it, and the outcomes of those it made
 pub record IsReading {R : Type 0} (inner : R) (most : ℕ) (past : List Call) (source : FromRead R) : Type 0 where

@@ -1,8 +1,6 @@
 -- What a buffer holds, and how a line is taken of it.
-use Rattle.std.specs.Prelude.{◌≡◌, ℕ, List, ◌∷◌, ◌++◌, Bool, true, MatchBool, Option, Some, None}
+use Rattle.std.specs.Prelude.{◌≡◌, ℕ, List, ◌∷◌, ◌++◌, Bool, MatchBool}
 use Rattle.mtrace_log.specs.Bytes.{Lacks, newline}
-use Rattle.mtrace_log.specs.Frequent.{IsFrequent}
-use Rattle.mtrace_log.specs.declared.frequent.Frequent.{Frequent}
 
 -- the bytes that are unread, and the line that was taken last
 pub record Buffered : Type 0 where
@@ -14,8 +12,3 @@ abbrev pub TakesBufferedLine : Bool → Buffered → Buffered → Type 0
 TakesBufferedLine taken old new = MatchBool taken
     (Lacks newline new.line × (old.unread ≡ new.line ++ newline ∷ new.unread))
     (Lacks newline old.unread × (new ≡ old))
-
--- a line of one of the two frequent forms was taken; or nothing is changed
-abbrev pub TakesFrequent : Option Frequent → Buffered → Buffered → Type 0
-TakesFrequent (Some frequent) old new = TakesBufferedLine true old new × IsFrequent new.line frequent
-TakesFrequent None old new = new ≡ old

@@ -1,5 +1,5 @@
 -- What the buffer of a line holds, and how a piece of a text ended.
-use Rattle.std.specs.Prelude.{◌≡◌, ℕ, ◌<◌, List, [], ◌∷◌, ◌++◌, length, Option, Some, None, Bool, MatchBool, if◌then◌else◌}
+use Rattle.std.specs.Prelude.{◌≡◌, ℕ, ◌<◌, List, [], ◌∷◌, ◌++◌, length, Option, Some, None, MatchBool, if◌then◌else◌}
 use Rattle.std.specs.Io.KnownBytes.{prepend_known, IsAtEnd}
 use Rattle.mtrace_log.specs.Bytes.{Lacks, newline}
 use Rattle.mtrace_log.specs.Spelling.{longest_line}
@@ -16,14 +16,6 @@ Holds buffer piece = MatchBool buffer.too_long (longest_line < length piece) (bu
 -- the bytes of a line, where they are few enough to be kept
 abbrev pub kept_bytes : LineBuffer → Option (List ℕ)
 kept_bytes buffer = if buffer.too_long then None else Some buffer.bytes.items
-
--- what stood unread before the first newline came onto the line, and the newline was passed over.
--- Where there was none, all of it came, and nothing is unread
-pub record TakesFront (line_old line_new : LineBuffer) (ended : Bool) (old new : List ℕ) : Type 0 where
-  pub front : List ℕ
-  pub no_newline : Lacks newline front
-  pub taken : MatchBool ended (old ≡ front ++ newline ∷ new) ((old ≡ front) × (new ≡ []))
-  pub held : (piece : List ℕ) → Holds line_old piece → Holds line_new (piece ++ front)
 
 -- a piece was taken from the text: with its newline, or up to the end, or until the reader failed
 abbrev pub TakesUpTo : Stop → List ℕ → Option (List ℕ) → Option (List ℕ) → Type 0

@@ -1,6 +1,6 @@
 -- What a clause reads of the reader and the writer over memory.
 use Rattle.std.specs.Prelude.{◌≡◌, ◌↔◌, ℕ, zero, suc, List, ◌∷◌, length, min, Bool, Option, Some, None, Result, IsErr, OnErr}
-use Rattle.mtrace_log.specs.Shown.{ReaderState, WriterState}
+use Rattle.mtrace_log.specs.Shown.{ReaderState}
 use Rattle.mtrace_log.specs.declared.call.Call.{Call}
 use Rattle.mtrace_log.specs.declared.memory.memory_source.MemorySource.{MemorySource}
 use Rattle.mtrace_log.specs.declared.memory.memory_sink.MemorySink.{MemorySink}
@@ -10,19 +10,7 @@ use Rattle.mtrace_log.specs.declared.memory.memory_sink.Full.{Full as WhenFull}
 abbrev pub source_left : MemorySource → List ℕ
 source_left source = source.rest.now
 
--- the bytes from the first on
-abbrev pub source_whole : MemorySource → List ℕ
-source_whole source = source.whole.now
-
--- the greatest piece that a call gives
-abbrev pub source_piece : MemorySource → ℕ
-source_piece source = source.piece
-
--- after how many calls one fails, if one does
-abbrev pub calls_before_failure : MemorySource → Option ℕ
-calls_before_failure source = source.calls_before_failure
-
--- that number after a call
+-- after how many calls one fails, if one does, after a call
 abbrev pub one_call_less : Option ℕ → Option ℕ
 one_call_less None = None
 one_call_less (Some zero) = None
@@ -30,32 +18,28 @@ one_call_less (Some (suc calls)) = Some calls
 
 -- how many bytes a call gives into this much room
 abbrev pub source_count : MemorySource → ℕ → ℕ
-source_count source room = min (min (length (source_left source)) (source_piece source)) room
-
--- the outcomes of its calls, the latest first
-abbrev pub source_trace : MemorySource → List Call
-source_trace source = source.trace.calls
+source_count source room = min (min (length (source_left source)) source.piece) room
 
 -- what it shows: all bytes are known
 abbrev pub source_shown : MemorySource → ReaderState
-source_shown source = record { left = Some (source_left source); whole = Some (source_whole source); calls = source_trace source }
+source_shown source = record { left = Some (source_left source); whole = Some source.whole.now; calls = source.trace.calls }
 
 -- the reader with these bytes left and in whole, of this greatest piece; after how many calls one fails, if one does; and its calls
 pub record IsSource (rest all : List ℕ) (most : ℕ) (failing : Option ℕ) (past : List Call) (source : MemorySource) : Type 0 where
   pub left : source_left source ≡ rest
-  pub whole : source_whole source ≡ all
-  pub piece : source_piece source ≡ most
-  pub calls : calls_before_failure source ≡ failing
-  pub trace : source_trace source ≡ past
+  pub whole : source.whole.now ≡ all
+  pub piece : source.piece ≡ most
+  pub calls : source.calls_before_failure ≡ failing
+  pub trace : source.trace.calls ≡ past
 
 -- one call, which fails exactly where it is to; then no byte is lost
 pub record IsCalled {T E : Type 0} (call : Call) (result : Result T E) (old new : MemorySource) : Type 0 where
   pub kept : OnErr result ((source_shown new).left ≡ (source_shown old).left)
   pub whole : (source_shown new).whole ≡ (source_shown old).whole
-  pub fails : IsErr result ↔ (calls_before_failure old ≡ Some 0)
-  pub calls : calls_before_failure new ≡ one_call_less (calls_before_failure old)
-  pub piece : source_piece new ≡ source_piece old
-  pub told : source_trace new ≡ call ∷ source_trace old
+  pub fails : IsErr result ↔ (old.calls_before_failure ≡ Some 0)
+  pub calls : new.calls_before_failure ≡ one_call_less old.calls_before_failure
+  pub piece : new.piece ≡ old.piece
+  pub told : new.trace.calls ≡ call ∷ old.trace.calls
 
 -- the bytes taken
 abbrev pub sink_taken : MemorySink → List ℕ
@@ -80,10 +64,6 @@ flush_fails sink = sink.flush_fails
 -- the outcomes of its calls, the latest first
 abbrev pub sink_trace : MemorySink → List Call
 sink_trace sink = sink.trace.calls
-
--- what it shows: all bytes are known
-abbrev pub sink_shown : MemorySink → WriterState
-sink_shown sink = record { taken = Some (sink_taken sink); calls = sink_trace sink }
 
 -- how many of the bytes offered a call takes
 abbrev pub sink_count : MemorySink → ℕ → ℕ

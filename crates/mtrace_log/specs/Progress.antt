@@ -1,5 +1,5 @@
 -- What `Lines` keeps between two calls, and what one call does.
-use Rattle.std.specs.Prelude.{◌≡◌, ℕ, ◌+◌, ◌-◌, ◌^◌, ◌<◌, List, [], ◌∷◌, ◌++◌, length, Option, Some, None, Result, Ok, Err, IfOk, IfErr, IfSome, IfNone}
+use Rattle.std.specs.Prelude.{◌≡◌, ℕ, ◌+◌, ◌-◌, ◌^◌, ◌<◌, List, [], ◌∷◌, ◌++◌, length, Option, Some, None, Result, Err, IfOk, IfErr, IfSome, IfNone}
 use Rattle.std.specs.Io.KnownBytes.{prepend_known, IsAtEnd}
 use Rattle.mtrace_log.specs.Bytes.{Lacks, newline}
 use Rattle.mtrace_log.specs.Reading.{ReadsAs}
@@ -93,23 +93,6 @@ CallsFor Reading old new = HasGiven old new
 CallsFor Ended old new = HasGivenAll old new
 CallsFor (Faulted ReaderFailed) old new = HasGivenAndFailed old new
 CallsFor (Faulted TooManyLines) old new = HasGiven old new
-
--- what a call does while lines are read
-abbrev pub ReadsOn : (old new : Progress) → (reader_old reader_new : ReaderState) → Result (Option ℕ) ReadFault → Type 0
-ReadsOn old new reader_old reader_new (Ok (Some number)) = PassesLine old new (to_come old reader_old.left) (to_come new reader_new.left) number
-    × CallsFor new.stage reader_old.calls reader_new.calls
-ReadsOn old new reader_old reader_new (Ok None) = (new.stage ≡ Ended)
-    × FindsEnd Reading old new reader_old reader_new (to_come old reader_old.left) (to_come new reader_new.left)
-    × CallsFor new.stage reader_old.calls reader_new.calls
-ReadsOn old new reader_old reader_new (Err fault) = GivesFault Reading fault old new reader_old reader_new
-    (to_come old reader_old.left) (to_come new reader_new.left)
-    × CallsFor new.stage reader_old.calls reader_new.calls
-
--- a call while lines are read, after which the reader has the same bytes in whole; where it failed, nothing is held
-pub record Passes (result : Result (Option ℕ) ReadFault) (old new : Progress) (reader_old reader_new : ReaderState) : Type 0 where
-  pub reads : ReadsOn old new reader_old reader_new result
-  pub nothing_held : IfErr result (λ fault. fault ≡ ReaderFailed → new.held ≡ [])
-  pub whole : reader_new.whole ≡ reader_old.whole
 
 -- A call at any stage: it gives the next line, finds the end, or gives a fault. What came of the calls of
 -- the reader is told where lines were read. Where it failed, all that it gave is taken: the text to come is what it has left.

@@ -1,7 +1,8 @@
 //! The bytes that were asked of a reader and aren't read yet.
-ghost use Rattle.std.specs.Prelude.{◌≡◌, ◌<◌, ◌==◌, ◌∷◌, [], length, IfOk, OnErr};
+ghost use Rattle.std.specs.Prelude.{◌≡◌, ◌<◌, ◌==◌, ◌∷◌, [], length, true, IfOk, OnErr, MatchOption};
 ghost use Rattle.std.specs.Io.KnownBytes.{prepend_known, IsAtEnd};
-ghost use Rattle.mtrace_log.specs.Buffer.{Buffered, TakesBufferedLine, TakesFrequent};
+ghost use Rattle.mtrace_log.specs.Buffer.{Buffered, TakesBufferedLine};
+ghost use Rattle.mtrace_log.specs.Frequent.{IsFrequent};
 ghost use Rattle.mtrace_log.specs.Trace.{pulled};
 
 use crate::failed::Failed;
@@ -83,11 +84,10 @@ impl Buffer {
     /// Takes the line at the front, where it is a whole one of the two frequent forms, and answers what it says.
     #[inline(always)]
     pub(crate) fn take_frequent(&mut self) -> Option<Frequent>
-        ensures { TakesFrequent result self.old self.new }
+        ensures { MatchOption result (self.new ≡ self.old)
+            (λ frequent. TakesBufferedLine true self.old self.new × IsFrequent self.new.line frequent) }
     {
-        let Some((frequent, len)) = read_frequent(self.unread()) else {
-            return None;
-        };
+        let (frequent, len) = read_frequent(self.unread())?;
         self.line = self.start;
         self.line_end = self.start + len;
         self.start = self.line_end + 1;

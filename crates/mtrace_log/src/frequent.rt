@@ -36,37 +36,23 @@ fn behind_newline(bytes: &[u8]) -> Option<&[u8]>
 fn front_fields(place: usize, bytes: &[u8]) -> Option<(Frequent, &[u8])>
     ensures { IfSome result (λ front. (front.0.place ≡ place) × BeginsFields bytes.now front.0.addr front.0.size front.1.now) }
 {
-    let Some((mark, fields)) = split_mark(bytes) else {
-        return None;
-    };
+    let (mark, fields) = split_mark(bytes)?;
     let Some((addr, behind)) = front_addr(fields) else {
         return None;
     };
     if mark == b'-' {
-        let Some(rest) = behind_newline(behind) else {
-            return None;
-        };
-        return Some((
-            Frequent {
-                place,
-                addr,
-                size: None,
-            },
-            rest,
-        ));
+        let rest = behind_newline(behind)?;
+        let size = None;
+        return Some((Frequent { place, addr, size }, rest));
     }
     if mark != b'+' {
         return None;
     }
-    let Some(sized) = behind_space(behind) else {
-        return None;
-    };
+    let sized = behind_space(behind)?;
     let Some((size, end)) = front_addr(sized) else {
         return None;
     };
-    let Some(rest) = behind_newline(end) else {
-        return None;
-    };
+    let rest = behind_newline(end)?;
     let size = Some(size.value());
     Some((Frequent { place, addr, size }, rest))
 }
@@ -76,13 +62,11 @@ fn front_fields(place: usize, bytes: &[u8]) -> Option<(Frequent, &[u8])>
 pub(crate) fn read_frequent(bytes: &[u8]) -> Option<(Frequent, usize)>
     ensures { IfSome result (λ found. BeginsFrequent bytes.now found.0 found.1) }
 {
-    let Some(located) = behind_at(bytes) else {
-        return None;
-    };
+    let located = behind_at(bytes)?;
     let Some((at, marked)) = LentLocation::front(located) else {
         return None;
     };
-    let Some((frequent, rest)) = front_fields(at.len(), marked) else {
+    let Some((frequent, rest)) = front_fields(at.text.len(), marked) else {
         return None;
     };
     Some((frequent, bytes.len() - rest.len() - 1))
@@ -95,7 +79,8 @@ impl Frequent {
         requires { IsFrequent line.now self }
         ensures { ReadsAs line.now (Ok result) }
     {
-        let at = Some(LentLocation::of(&line[2..2 + self.place]));
+        let text = &line[2..2 + self.place];
+        let at = Some(LentLocation { text });
         match self.size {
             Some(size) => Event::Alloc {
                 at,

@@ -1,8 +1,8 @@
-ghost use Rattle.std.specs.Prelude.{◌≡◌, ◌↔◌, ◌-◌, ◌^◌, ◌<◌, [], ◌∷◌, length, IsTrue};
+ghost use Rattle.std.specs.Prelude.{◌≡◌, ◌-◌, ◌^◌, ◌<◌, [], ◌∷◌, length, None};
 ghost use Rattle.std.specs.Io.KnownBytes.{Keeps};
 ghost use Rattle.std.specs.Io.Seek.{MovesTo};
 ghost use Rattle.mtrace_log.specs.declared.call.Call.{Call};
-ghost use Rattle.mtrace_log.specs.Adapters.{reader_of, calls_left, reader_trace, reader_shown, IsReading, ReadsOnce};
+ghost use Rattle.mtrace_log.specs.Adapters.{reader_of, calls_left, reader_trace, IsReading, ReadsOnce};
 ghost use Rattle.mtrace_log.specs.Trace.{pulled, began};
 
 use crate::again::Again;
@@ -34,37 +34,10 @@ impl<R: Read> FromRead<R> {
             trace: Trace::new(),
         }
     }
-
-    /// Counts one more call, where one is left: whether it is.
-    fn takes_call(&mut self) -> bool
-        ensures left { IsTrue result ↔ (0 < calls_left self.old) }
-        ensures counted { calls_left self.new ≡ calls_left self.old - 1 }
-        ensures reader { reader_of self.new ≡ reader_of self.old }
-        ensures told { reader_trace self.new ≡ reader_trace self.old }
-    {
-        if self.calls == u64::MAX {
-            return false;
-        }
-        self.calls += 1;
-        true
-    }
-
-    /// Reads once, where a read is left. Its outcome is not told yet.
-    fn read_once(&mut self, buf: &mut [u8]) -> Result<usize, Failed>
-        ensures { ReadsOnce R.remaining (reader_trace self.old) result buf.new self.old self.new }
-    {
-        if !self.takes_call() {
-            return Err(Failed);
-        }
-        match self.reader.read(buf) {
-            Ok(count) => Ok(count),
-            Err(_) => Err(Failed),
-        }
-    }
 }
 
 impl<R: Read> Source for FromRead<R> {
-    ghost shown = { reader_shown };
+    ghost shown = { λ source. record { left = None; whole = None; calls = reader_trace source } };
 
     ghost budget = { calls_left };
 
@@ -78,7 +51,12 @@ impl<R: Read> Source for FromRead<R> {
         // The bytes are those that the reader gave, where it tells them, and 0 is its end.
         ensures { ReadsOnce R.remaining (pulled result ∷ reader_trace self.old) result buf.new self.old self.new }
     {
-        let answer = self.read_once(buf);
+        let answer = if self.calls == u64::MAX {
+            Err(Failed)
+        } else {
+            self.calls += 1;
+            self.reader.read(buf).map_err(|_| Failed)
+        };
         self.trace.add(Call::pulled(&answer));
         answer
     }
@@ -97,10 +75,7 @@ impl<R: Read + Seek> Again for FromRead<R> {
         ensures told { reader_trace self.new ≡ began result ∷ reader_trace self.old }
         ensures counted { calls_left self.new ≡ calls_left self.old }
     {
-        let answer = match self.reader.rewind() {
-            Ok(()) => Ok(()),
-            Err(_) => Err(Failed),
-        };
+        let answer = self.reader.rewind().map_err(|_| Failed);
         self.trace.add(Call::began(&answer));
         answer
     }

@@ -1,5 +1,5 @@
 //! Numbers in base 16.
-ghost use Rattle.std.specs.Prelude.{◌≡◌, ◌≢◌, ◌↔◌, ℕ, ◌+◌, ◌<◌, ◌≤◌, ◌++◌, List, length, slice_index, IsTrue, MatchOption};
+ghost use Rattle.std.specs.Prelude.{◌≡◌, ◌≢◌, ℕ, ◌+◌, ◌<◌, ◌≤◌, ◌++◌, List, length, slice_index, MatchOption};
 ghost use Rattle.arrayvec.specs.ArrayVec.{array_vec_len};
 ghost use Rattle.std.specs.Char.{digit_char};
 ghost use Rattle.mtrace_log.specs.Address.{hex_digits, address_text, IsAddress};
@@ -75,16 +75,6 @@ fn digit_of(byte: u8) -> Option<u8>
 /// The greatest number of digits of an address.
 const MOST_DIGITS: usize = LONGEST_ADDRESS - 2;
 
-/// Whether the first byte is the digit `0`.
-fn begins_with_zero(bytes: &[u8]) -> bool
-    ensures { IsTrue result ↔ (slice_index bytes.now 0 ≡ 48) }
-{
-    match bytes {
-        [b'0', ..] => true,
-        _ => false,
-    }
-}
-
 /// The number that the digits at the front write, at most 16 of them, where they don't begin with `0`, and how many these are.
 #[inline(never)]
 fn read_each(bytes: &[u8]) -> (u64, usize)
@@ -102,18 +92,6 @@ fn read_each(bytes: &[u8]) -> (u64, usize)
     (number, most)
 }
 
-/// The number that the digits at the front write, at most 16 of them, where they don't begin with `0`, and how many these are.
-#[inline(always)]
-fn read_most(bytes: &[u8]) -> (u64, usize)
-    requires { slice_index bytes.now 0 ≢ 48 }
-    ensures { ReadsDigits bytes.now result.0 result.1 }
-{
-    if bytes.len() < 16 {
-        return read_each(bytes);
-    }
-    read_sixteen(bytes)
-}
-
 /// The number that the digits at the front write, at most 16 of them, and what follows these; 0 where they begin with `0`.
 #[inline(always)]
 pub(crate) fn read_digits(bytes: &[u8]) -> (u64, &[u8])
@@ -122,9 +100,13 @@ pub(crate) fn read_digits(bytes: &[u8]) -> (u64, &[u8])
     ensures only { (n : ℕ) (rest : List ℕ) → IsAddress n → EndsField rest → bytes.now ≡ hex_digits n ++ rest
         → (n ≡ result.0) × (rest ≡ result.1.now) }
 {
-    if begins_with_zero(bytes) {
+    if !bytes.is_empty() && bytes[0] == b'0' {
         return (0, bytes);
     }
-    let (number, count) = read_most(bytes);
+    let (number, count) = if bytes.len() < 16 {
+        read_each(bytes)
+    } else {
+        read_sixteen(bytes)
+    };
     (number, &bytes[count..])
 }

@@ -22,10 +22,7 @@ type Numbers = (Option<Addr>, u64);
 fn ends_field(bytes: &[u8]) -> bool
     ensures { IsTrue result ↔ EndsField bytes.now }
 {
-    match bytes {
-        [] | [b' ', ..] => true,
-        _ => false,
-    }
+    matches!(bytes, [] | [b' ', ..])
 }
 
 /// What follows `(nil)`, where a field ends behind it.
@@ -62,9 +59,7 @@ pub(crate) fn front_addr(bytes: &[u8]) -> Option<(Addr, &[u8])>
         return None;
     };
     let (number, rest) = hex::read_digits(digits);
-    let Some(addr) = Addr::new(number) else {
-        return None;
-    };
+    let addr = Addr::new(number)?;
     Some((addr, rest))
 }
 
@@ -124,9 +119,7 @@ fn read_numbers(bytes: &[u8]) -> Option<Numbers>
     let Some(behind) = behind_space(rest) else {
         return Some((None, first));
     };
-    let Some(align) = Addr::new(first) else {
-        return None;
-    };
+    let align = Addr::new(first)?;
     let Some((size, last)) = read_size(behind) else {
         return None;
     };
@@ -147,9 +140,7 @@ fn read_fields(bytes: &[u8]) -> Option<(Option<Addr>, Option<Numbers>)>
     let Some(behind) = behind_space(rest) else {
         return Some((pointer, None));
     };
-    let Some(numbers) = read_numbers(behind) else {
-        return None;
-    };
+    let numbers = read_numbers(behind)?;
     Some((pointer, Some(numbers)))
 }
 
@@ -169,12 +160,8 @@ pub(crate) fn split_mark(bytes: &[u8]) -> Option<(u8, &[u8])>
 fn read_marked(bytes: &[u8]) -> Option<(u8, Option<Addr>, Option<Numbers>)>
     ensures { Finds (λ parts. AreFields parts.1 parts.2) (λ parts. parts.0 ∷ space ∷ fields_text parts.1 parts.2) bytes.now result }
 {
-    let Some((mark, fields)) = split_mark(bytes) else {
-        return None;
-    };
-    let Some((addr, numbers)) = read_fields(fields) else {
-        return None;
-    };
+    let (mark, fields) = split_mark(bytes)?;
+    let (addr, numbers) = read_fields(fields)?;
     Some((mark, addr, numbers))
 }
 

@@ -1,6 +1,6 @@
 ghost use Rattle.std.specs.Prelude.{◌≡◌, ◌<◌, [], length, Some};
 ghost use Rattle.mtrace_log.specs.Bytes.{Lacks, newline};
-ghost use Rattle.mtrace_log.specs.Progress.{Reading, greatest_number, Says, GivesLine, PassesLine, Advances, Passes};
+ghost use Rattle.mtrace_log.specs.Progress.{Reading, greatest_number, Says, GivesLine, PassesLine, Advances};
 
 use crate::buffer::Buffer;
 use crate::event::{Event, LineFault};
@@ -21,10 +21,8 @@ enum Stage {
     Reading,
     // The reader told its end.
     Ended,
-    // The reader failed.
-    Failed,
-    // There is no number left for a line that is to come.
-    Full,
+    // A fault was answered.
+    Faulted(ReadFault),
 }
 
 /// The lines of a stream, numbered from 1, each with what it says.
@@ -44,10 +42,11 @@ pub struct Lines {
 }
 
 impl Model for Lines {
-    ghost use Rattle.std.specs.Prelude.{◌≡◌, [], false, IfSome};
+    ghost use Rattle.std.specs.Prelude.{◌≡◌, [], false, Some, IfSome, if◌then◌else◌};
     ghost use Rattle.mtrace_log.specs.Frequent.{IsFrequent};
     ghost use Rattle.mtrace_log.specs.Progress.{Progress, Faulted};
-    ghost use Rattle.mtrace_log.specs.Stage.{stage_of, last_of};
+    ghost use Rattle.mtrace_log.specs.LineBuffer.{kept_bytes};
+    ghost use Rattle.mtrace_log.specs.Stage.{stage_of};
     ghost use Rattle.mtrace_log.specs.declared.line.ReadFault.TheVariants.{ReaderFailed};
 
     ghost Value = { Progress };
@@ -56,7 +55,7 @@ impl Model for Lines {
       held = lines.buffer.unread;
       count = lines.count;
       stage = stage_of lines.stage;
-      last = last_of lines.is_across lines.across lines.buffer;
+      last = if lines.is_across then kept_bytes lines.across else Some lines.buffer.line;
     } };
 
     // The reader is asked only where no byte is unread, so nothing is held once it failed.
@@ -90,14 +89,11 @@ impl Lines {
     pub fn next<R: Source>(&mut self, reader: &mut R) -> Result<Option<Line>, ReadFault>
         ensures { Advances GivesLine R.shown result self.old self.new reader.old reader.new }
     {
-        match self.advance(reader) {
-            Ok(Some(number)) => {
-                let event = kept(&self.event());
-                Ok(Some(Line { number, event }))
-            }
-            Ok(None) => Ok(None),
-            Err(fault) => Err(fault),
-        }
+        let Some(number) = self.advance(reader)? else {
+            return Ok(None);
+        };
+        let event = kept(&self.event());
+        Ok(Some(Line { number, event }))
     }
 
     /// Passes over the next line, and answers its number: [`Lines::next`] but for what the line says, which is
@@ -113,8 +109,7 @@ impl Lines {
         match self.stage {
             Stage::Reading => self.read_next(reader),
             Stage::Ended => Ok(None),
-            Stage::Failed => Err(ReadFault::ReaderFailed),
-            Stage::Full => Err(ReadFault::TooManyLines),
+            Stage::Faulted(fault) => Err(fault),
         }
     }
 
@@ -145,7 +140,7 @@ impl Lines {
     #[inline(always)]
     fn read_next<R: Source>(&mut self, reader: &mut R) -> Result<Option<u64>, ReadFault>
         requires { self.old.stage ≡ Reading }
-        ensures { Passes result self.old self.new (R.shown reader.old) (R.shown reader.new) }
+        ensures { Advances PassesLine R.shown result self.old self.new reader.old reader.new }
     {
         if self.count == u64::MAX {
             return self.read_other(reader);
@@ -163,20 +158,11 @@ impl Lines {
     #[inline(never)]
     fn read_other<R: Source>(&mut self, reader: &mut R) -> Result<Option<u64>, ReadFault>
         requires { self.old.stage ≡ Reading }
-        ensures { Passes result self.old self.new (R.shown reader.old) (R.shown reader.new) }
+        ensures { Advances PassesLine R.shown result self.old self.new reader.old reader.new }
     {
-        if self.buffer.is_empty() {
-            return self.read_filled(reader);
+        if !self.buffer.is_empty() {
+            return self.read_held(reader);
         }
-        self.read_held(reader)
-    }
-
-    /// Passes over the next line, where no byte is held.
-    fn read_filled<R: Source>(&mut self, reader: &mut R) -> Result<Option<u64>, ReadFault>
-        requires reading { self.old.stage ≡ Reading }
-        requires none { self.old.held ≡ [] }
-        ensures { Passes result self.old self.new (R.shown reader.old) (R.shown reader.new) }
-    {
         self.frequent = None;
         match self.buffer.refill(reader) {
             Ok(0) => {
@@ -185,7 +171,7 @@ impl Lines {
             }
             Ok(_) => self.read_held(reader),
             Err(Failed) => {
-                self.stage = Stage::Failed;
+                self.stage = Stage::Faulted(ReadFault::ReaderFailed);
                 Err(ReadFault::ReaderFailed)
             }
         }
@@ -195,11 +181,11 @@ impl Lines {
     fn read_held<R: Source>(&mut self, reader: &mut R) -> Result<Option<u64>, ReadFault>
         requires reading { self.old.stage ≡ Reading }
         requires some { 0 < length self.old.held }
-        ensures { Passes result self.old self.new (R.shown reader.old) (R.shown reader.new) }
+        ensures { Advances PassesLine R.shown result self.old self.new reader.old reader.new }
     {
         self.frequent = None;
         if self.count == u64::MAX {
-            self.stage = Stage::Full;
+            self.stage = Stage::Faulted(ReadFault::TooManyLines);
             return Err(ReadFault::TooManyLines);
         }
         if !self.buffer.take_line() {
@@ -217,14 +203,14 @@ impl Lines {
         requires some { 0 < length self.old.held }
         requires no_newline { Lacks newline self.old.held }
         requires room { self.old.count < greatest_number }
-        ensures { Passes result self.old self.new (R.shown reader.old) (R.shown reader.new) }
+        ensures { Advances PassesLine R.shown result self.old self.new reader.old reader.new }
     {
         self.frequent = None;
         let (line, stop) = read_piece(&mut self.buffer, reader);
         match stop {
             Stop::Newline => {}
             Stop::Failed => {
-                self.stage = Stage::Failed;
+                self.stage = Stage::Faulted(ReadFault::ReaderFailed);
                 return Err(ReadFault::ReaderFailed);
             }
             Stop::End => self.stage = Stage::Ended,

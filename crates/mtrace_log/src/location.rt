@@ -86,7 +86,7 @@ pub(crate) fn behind_space(bytes: &[u8]) -> Option<&[u8]>
 /// A location where it lies, in the line that names it.
 #[derive(Drop)]
 pub struct LentLocation<'a> {
-    text: &'a [u8],
+    pub(crate) text: &'a [u8],
 }
 
 impl<'a> Model for LentLocation<'a> {
@@ -111,21 +111,6 @@ impl<'a> LentLocation<'a> {
         Some(LentLocation { text: bytes })
     }
 
-    /// The location of these bytes, which are one.
-    pub(crate) fn of(bytes: &'a [u8]) -> LentLocation<'a>
-        requires { IsLocation bytes.now }
-        ensures { result ≡ bytes.now }
-    {
-        LentLocation { text: bytes }
-    }
-
-    /// How many bytes it has.
-    pub(crate) fn len(&self) -> usize
-        ensures { result ≡ length self.now }
-    {
-        self.text.len()
-    }
-
     /// The location at the front, and what stands behind the space that ends it.
     pub(crate) fn front(bytes: &'a [u8]) -> Option<(LentLocation<'a>, &'a [u8])>
         ensures { MatchOption result ((place rest : List ℕ) → IsLocation place → bytes.now ≢ place ++ space ∷ rest)
@@ -135,15 +120,9 @@ impl<'a> LentLocation<'a> {
         if end == 0 || end > LONGEST_LOCATION {
             return None;
         }
-        let Some(rest) = behind_space(&bytes[end..]) else {
-            return None;
-        };
-        Some((
-            LentLocation {
-                text: &bytes[..end],
-            },
-            rest,
-        ))
+        let rest = behind_space(&bytes[end..])?;
+        let text = &bytes[..end];
+        Some((LentLocation { text }, rest))
     }
 
     /// The location, kept.
@@ -163,9 +142,7 @@ impl Location {
     pub fn new(bytes: &[u8]) -> Option<Self>
         ensures { SomeIff result (IsLocation bytes.now) bytes.now }
     {
-        let Some(lent) = LentLocation::new(bytes) else {
-            return None;
-        };
+        let lent = LentLocation::new(bytes)?;
         Some(lent.keep())
     }
 
@@ -174,16 +151,6 @@ impl Location {
         ensures { result ≡ self.now }
     {
         LentLocation { text: self.bytes() }
-    }
-
-    /// Becomes the location that is lent, in its place.
-    pub(crate) fn set(&mut self, other: &LentLocation<'_>)
-        ensures { self.new ≡ other.now }
-    {
-        self.text.clear();
-        if self.text.try_extend_from_slice(other.text).is_err() {
-            unreachable!();
-        }
     }
 
     /// The bytes.
@@ -199,10 +166,7 @@ impl Location {
 pub fn kept_location(at: &Option<LentLocation<'_>>) -> Option<Location>
     ensures { result ≡ at.now }
 {
-    match at {
-        Some(location) => Some(location.keep()),
-        None => None,
-    }
+    Some(at.as_ref()?.keep())
 }
 
 /// Becomes the location of an event, kept, in its place where one is kept already.
@@ -211,7 +175,12 @@ pub fn set_location(kept: &mut Option<Location>, at: &Option<LentLocation<'_>>)
 {
     match at {
         Some(lent) => match kept {
-            Some(location) => location.set(lent),
+            Some(location) => {
+                location.text.clear();
+                if location.text.try_extend_from_slice(lent.text).is_err() {
+                    unreachable!();
+                }
+            }
             None => *kept = Some(lent.keep()),
         },
         None => *kept = None,
@@ -222,8 +191,5 @@ pub fn set_location(kept: &mut Option<Location>, at: &Option<LentLocation<'_>>)
 pub(crate) fn lent_location(at: &Option<Location>) -> Option<LentLocation<'_>>
     ensures { result ≡ at.now }
 {
-    match at {
-        Some(location) => Some(location.lend()),
-        None => None,
-    }
+    Some(at.as_ref()?.lend())
 }

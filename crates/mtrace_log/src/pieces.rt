@@ -2,7 +2,7 @@
 ghost use Rattle.std.specs.Prelude.{◌≡◌, ℕ, ◌<◌, ◌++◌, [], List, length};
 ghost use Rattle.std.specs.Io.KnownBytes.{prepend_known};
 ghost use Rattle.mtrace_log.specs.Bytes.{Lacks, newline};
-ghost use Rattle.mtrace_log.specs.LineBuffer.{Holds, TakesFront, TakesPiece, CallsUpTo};
+ghost use Rattle.mtrace_log.specs.LineBuffer.{Holds, TakesPiece, CallsUpTo};
 ghost use Rattle.mtrace_log.specs.declared.pieces.Stop.TheVariants.{Failed as PieceFailed};
 
 use crate::buffer::Buffer;
@@ -27,19 +27,6 @@ fn take_all(buffer: &mut Buffer, line: &mut LineBuffer)
     buffer.skip_all();
 }
 
-/// Takes the unread bytes before the first newline onto the line, and passes over the newline. Where
-/// there is none, takes them all and answers false.
-fn take_front(buffer: &mut Buffer, line: &mut LineBuffer) -> bool
-    ensures { TakesFront line.old line.new result buffer.old.unread buffer.new.unread }
-{
-    if buffer.take_line() {
-        line.extend(buffer.line());
-        return true;
-    }
-    take_all(buffer, line);
-    false
-}
-
 /// The next piece, which begins with the unread bytes, and how it ended.
 pub(crate) fn read_piece<R: Source>(buffer: &mut Buffer, reader: &mut R) -> (LineBuffer, Stop)
     requires some { 0 < length buffer.old.unread }
@@ -57,8 +44,10 @@ pub(crate) fn read_piece<R: Source>(buffer: &mut Buffer, reader: &mut R) -> (Lin
             Ok(_) => {}
             Err(Failed) => return (line, Stop::Failed),
         }
-        if take_front(buffer, &mut line) {
+        if buffer.take_line() {
+            line.extend(buffer.line());
             return (line, Stop::Newline);
         }
+        take_all(buffer, &mut line);
     }
 }

@@ -4,7 +4,7 @@ ghost use Rattle.std.specs.Prelude.{◌≡◌, ◌≢◌, ◌<◌, ◌≤◌, le
 ghost use Rattle.std.specs.Simd.Lanes.{Each1};
 ghost use Rattle.std.specs.List.{prefix_len};
 ghost use Rattle.mtrace_log.specs.Fields.{ReadsDigits};
-ghost use Rattle.mtrace_log.specs.Sixteen.{offset, lane_digit, lane_byte, is_other, value};
+ghost use Rattle.mtrace_log.specs.Sixteen.{offset, lane_digit, is_other, value};
 
 use std::simd::prelude::*;
 
@@ -18,29 +18,13 @@ fn offsets(lanes: u8x16, bound: u8) -> u8x16
         .select(u8x16::splat(b'a' - 10), u8x16::splat(b'0'))
 }
 
-/// The digit that each lane writes, where it writes one, or else any.
-#[inline(always)]
-fn lane_digits(lanes: u8x16) -> u8x16
-    ensures { result ≡ map lane_digit lanes }
-{
-    (lanes - offsets(lanes, b'9')) & u8x16::splat(15)
-}
-
-/// The bytes that write these digits.
-#[inline(always)]
-fn lane_bytes(digits: u8x16) -> u8x16
-    ensures { result ≡ map lane_byte digits }
-{
-    digits + offsets(digits, 9)
-}
-
 /// How many lanes, from the first on, write the digits that were read of them.
 #[inline(always)]
 fn count_digits(lanes: u8x16, digits: u8x16) -> usize
     requires { digits ≡ map lane_digit lanes }
     ensures { result ≡ prefix_len (λ byte. not (is_other byte)) lanes }
 {
-    let other = lane_bytes(digits).simd_ne(lanes).to_bitmask();
+    let other = (digits + offsets(digits, 9)).simd_ne(lanes).to_bitmask();
     if other == 0 {
         return 16;
     }
@@ -66,7 +50,8 @@ pub(crate) fn read_sixteen(bytes: &[u8]) -> (u64, usize)
     ensures { ReadsDigits bytes.now result.0 result.1 }
 {
     let lanes = u8x16::from_slice(bytes);
-    let digits = lane_digits(lanes);
+    // The digit that each lane writes, where it writes one, or else any.
+    let digits = (lanes - offsets(lanes, b'9')) & u8x16::splat(15);
     let count = count_digits(lanes, digits);
     if count == 0 {
         return (0, 0);

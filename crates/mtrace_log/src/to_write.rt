@@ -1,7 +1,7 @@
-ghost use Rattle.std.specs.Prelude.{◌≡◌, ◌≤◌, [], ◌∷◌, length, IfOk};
+ghost use Rattle.std.specs.Prelude.{◌≡◌, ◌≤◌, [], ◌∷◌, length, None, IfOk};
 ghost use Rattle.std.specs.Io.KnownBytes.{WriteAppends, Keeps};
 ghost use Rattle.mtrace_log.specs.declared.call.Call.{Call};
-ghost use Rattle.mtrace_log.specs.Adapters.{writer_of, writer_trace, writer_shown};
+ghost use Rattle.mtrace_log.specs.Adapters.{writer_of, writer_trace};
 ghost use Rattle.mtrace_log.specs.Trace.{offered, flushed};
 
 use crate::call::Call;
@@ -34,7 +34,7 @@ impl<W: Write> ToWrite<W> {
 }
 
 impl<W: Write> Sink for ToWrite<W> {
-    ghost shown = { writer_shown };
+    ghost shown = { λ sink. record { taken = None; calls = writer_trace sink } };
 
     /// Writes once.
     ///
@@ -47,10 +47,7 @@ impl<W: Write> Sink for ToWrite<W> {
         ensures writes { WriteAppends (W.contents (writer_of self.old)) (W.contents (writer_of self.new)) result bytes.now }
         ensures told { writer_trace self.new ≡ offered (length bytes.now) result ∷ writer_trace self.old }
     {
-        let answer = match self.writer.write(bytes) {
-            Ok(count) => Ok(count),
-            Err(_) => Err(Failed),
-        };
+        let answer = self.writer.write(bytes).map_err(|_| Failed);
         self.trace.add(Call::offered(bytes.len(), &answer));
         answer
     }
@@ -64,10 +61,7 @@ impl<W: Write> Sink for ToWrite<W> {
         ensures keeps { Keeps (W.contents (writer_of self.old)) (W.contents (writer_of self.new)) }
         ensures told { writer_trace self.new ≡ flushed result ∷ writer_trace self.old }
     {
-        let answer = match self.writer.flush() {
-            Ok(()) => Ok(()),
-            Err(_) => Err(Failed),
-        };
+        let answer = self.writer.flush().map_err(|_| Failed);
         self.trace.add(Call::flushed(&answer));
         answer
     }

@@ -4,7 +4,7 @@ use Rattle.std.proofs.Math.ListN.{set}
 use Rattle.std.proofs.lemmas.List.{set_past, length-append, take_all, drop_all}
 use Rattle.tlsf_c.specs.Room.{put_over, IsPutOver}
 
-pub placed_none : (room : List ℕ) → put_over [] room ≡ room
+pub placed_none : {X : Type 0} (room : List X) → put_over [] room ≡ room
 unfolding put_over
 placed_none room = refl
 
@@ -14,13 +14,13 @@ length_placed [] room = refl
 length_placed (byte ∷ put) [] = refl
 length_placed (byte ∷ put) (other ∷ room) = ap suc (length_placed put room)
 
--- one byte more
-placed_next : (put : List ℕ) (byte : ℕ) (room : List ℕ) → set (put_over put room) (length put) byte ≡ put_over (put ++ byte ∷ []) room
+-- one more
+pub placed_next : {X : Type 0} (put : List X) (byte : X) (room : List X) → set (put_over put room) (length put) byte ≡ put_over (put ++ byte ∷ []) room
 unfolding put_over
 placed_next [] byte [] = refl
 placed_next [] byte (other ∷ room) = refl
 placed_next (one ∷ put) byte [] = refl
-placed_next (one ∷ put) byte (other ∷ room) = ap (λ bytes. one ∷ bytes) (placed_next put byte room)
+placed_next (one ∷ put) byte (other ∷ room) = ap (λ items. one ∷ items) (placed_next put byte room)
 
 -- where there is room
 pub one_within : (put stood room : List ℕ) (end byte : ℕ) → IsPutOver put stood room end → end + 1 ≤ length room → IsPutOver (put ++ byte ∷ []) stood (slice_set room end byte) (end + 1)

@@ -1,17 +1,17 @@
 -- What the room of a window has once a text was put.
-use Rattle.std.proofs.Common.{◌≡◌, ℕ, ◌-◌, List, refl, ◌∷◌, ◌++◌, length, take, drop, Result, Ok, Err, ap, sym, ◌∙◌, true≢false, arith}
+use Rattle.std.proofs.Common.{◌≡◌, ℕ, ◌-◌, List, refl, ◌∷◌, ◌++◌, length, take, drop, Result, Ok, Err, ap, ◌∙◌, arith}
 use Rattle.std.specs.Prelude.{min, nat_le}
 use Rattle.std.proofs.lemmas.List.{take_at, drop_at, length-append}
 use Rattle.std.specs.Io.KnownBytes.{append_known}
 use Rattle.mtrace_log.specs.Output.{Puts, PutsAll}
-use Rattle.tlsf_c.specs.Room.{put_over, has_failed}
+use Rattle.tlsf_c.specs.Room.{put_over}
 use Rattle.tlsf_c.specs.declared.window.Window.{Window}
 use Rattle.tlsf_c.specs.Window.{shown}
 
 -- a window never fails
 puts_all : {T E : Type 0} (result : Result T E) (text : List ℕ) (old new : Window) → Puts result text (shown old) (shown new) → PutsAll text (shown old) (shown new)
 puts_all (Ok done) text old new puts = puts
-puts_all (Err failure) text old new puts = absurd (true≢false (sym (ap has_failed puts.failed.then) ∙ new.served))
+puts_all (Err failure) text old new puts = absurd (new.served puts.failed.middle puts.failed.then)
 
 -- the same bytes are lent, the text is in them, and where it ends and whether it is whole is told
 pub record HasText (text : List ℕ) (old new : Window) : Type 0 where

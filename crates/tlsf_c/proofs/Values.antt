@@ -30,9 +30,8 @@ use Rattle.std.proofs.GlobalToken.{dealloc_token-Testable}
 use Rattle.core.specs.Ptr.{points_to}
 use Rattle.tlsf_heap.specs.contracts.heap.Heap as heap
 use Rattle.tlsf_c.specs.Owned.{token, owned_heap, owned}
-use Rattle.tlsf_c.specs.Zeros.{zeros}
+use Rattle.tlsf_c.specs.Creation.{zeros}
 use Rattle.tlsf_c.specs.declared.made.Made.{Made}
-use Rattle.tlsf_c.specs.contracts.handle.Handle as handle
 use Rattle.tlsf_c.specs.contracts.unboxed.Unboxed as unboxed
 use Rattle.tlsf_c.specs.contracts.made.Made as made
 
@@ -69,20 +68,6 @@ abbrev pub one_field : Val → Val
 one_field v = vstruct (vcons v vnil)
 
 module _ {M : Type 1} {𝓤 : Ura M} {𝓛 : Logic 𝓤} {K : Type 0} {Γ : List (Item 𝓤)} {G : Goal 𝓤 𝓛.H} where
-  pub handle_out : K → (h : handle.the_row.Denot) (vs : List Val)
-      → ((b o : ℕ) → h.at ≡ block_ptr b o → vs ≡ one_field (vptr b o) ∷ [] → Seq K 𝓛 (‵ (owned_heap (block_ptr b o) h.value) ∷ Γ) G)
-      → Seq K 𝓛 (‵ (handle.the_row.own_val h vs) ∷ Γ) G
-  handle_out t h vs k =
-      fsplit t $ fpick t (λ vss. fsplit t $ feq_l t (λ ev. fsplit t $ feq_l t (λ ep. drop t $
-      in_a_block t h.at (λ p. owned_heap p h.value) (fst∗ 𝓤 (never 𝓤) (sem 𝓛 (token (bare (lone heap.the_row.mir)) null_ptr))) (λ b o e. k b o e
-      (subst (λ (p : Ptr). vs ≡ vstruct (of_list (ptr_val p ∷ [])) ∷ []) e (subst (λ (ps : List Val). vs ≡ vstruct (of_list (ps ++ [])) ∷ []) ep ev))))))
-
-  pub handle_in : K → (b o : ℕ) (x : heap.the_row.Denot)
-      → Step K 𝓛 (‵ (handle.the_row.own_val (record { at = block_ptr b o; value = x }) (one_field (vptr b o) ∷ [])) ∷ Γ) G (‵ (owned_heap (block_ptr b o) x) ∷ Γ) G
-  handle_in t b o x = step (λ s. let v : Val = one_field (vptr b o) in
-      nothing t $ feq_i t (List Val) (vptr b o ∷ []) (vptr b o ∷ []) refl $ fjoin t $ feq_i t (List Val) (v ∷ []) (v ∷ []) refl $ fjoin t $
-      fpack t (Valss (RawPtr ∷ [])) (within (shape handle.the_type) (block_ptr b o, tt) (v ∷ [])) (vptr b o ∷ [], tt) $ fjoin t $ s)
-
   pub made_in : K → (b o : ℕ) (x : heap.the_row.Denot)
       → Step K 𝓛 (‵ (made.the_row.own_val (record { at = block_ptr b o; value = Some x }) (one_field (vptr b o) ∷ [])) ∷ Γ) G (‵ (owned_heap (block_ptr b o) x) ∷ Γ) G
   made_in t b o x = step (λ s. let v : Val = one_field (vptr b o) in

@@ -1,5 +1,5 @@
 -- What calls answer a C program.
-use Rattle.std.specs.Prelude.{◌≡◌, ◌≢◌, ℕ, Result, Ok}
+use Rattle.std.specs.Prelude.{◌≡◌, ◌≢◌, ◌==◌, ℕ, Option, Some, None, Result, Ok, if◌then◌else◌}
 use Rattle.tlsf_heap.specs.declared.refusal.Refusal.{Refusal}
 use Rattle.tlsf_heap.specs.Content.{Content}
 use Rattle.tlsf_heap.specs.Counted.{Counted, IsUnchanged}
@@ -24,3 +24,7 @@ pub record AnswersBlock (call : ℕ → Content ℕ → Result (ℕ × Content �
   pub ok : result ≡ 0 → IsServed call (pointer_of given) old.content new.content
   pub unchanged : result ≢ 0 → IsUnchanged old new
   pub out : result ≢ 0 → given ≡ stood
+
+-- what realloc gives: nothing where no byte was asked for, else the place and the slot
+abbrev pub given : ℕ → ℕ → ℕ → Option (ℕ × ℕ)
+given bytes place slot = if bytes == 0 then None else Some (place, slot)

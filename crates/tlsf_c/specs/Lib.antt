@@ -1,6 +1,5 @@
 pub mod Answers
 pub mod Creation
-pub mod Given
 pub mod Lends
 pub mod Owned
 pub mod Room
@@ -8,4 +7,3 @@ pub mod Rows
 pub mod Saving
 pub mod Status
 pub mod Window
-pub mod Zeros

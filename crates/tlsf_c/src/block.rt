@@ -14,11 +14,11 @@ pub struct Block {
 
 impl Block {
     ghost use Rattle.std.specs.Prelude.{◌≡◌};
+    ghost use Rattle.tlsf_c.specs.Answers.{pointer_of};
 
     /// The block that a pointer of the heap names.
     pub(crate) fn of(ptr: Ptr) -> Block
-        ensures place { result.place ≡ ptr.place }
-        ensures slot { result.slot ≡ ptr.slot }
+        ensures { pointer_of result ≡ ptr }
     {
         Block {
             place: ptr.place(),
@@ -28,7 +28,7 @@ impl Block {
 
     /// The pointer of the heap.
     pub(crate) fn ptr(self) -> Ptr
-        ensures { result ≡ record { place = self.place; slot = self.slot } }
+        ensures { result ≡ pointer_of self }
     {
         Ptr::new(self.place, self.slot)
     }

@@ -10,8 +10,7 @@ ghost use Rattle.tlsf_heap.specs.Counted.{IsUnchanged, Reads};
 ghost use Rattle.tlsf_heap.specs.Malloc.{malloc};
 ghost use Rattle.tlsf_heap.specs.Memalign.{memalign};
 ghost use Rattle.tlsf_heap.specs.Pointer.{free_ptr, realloc_ptr, block_size_ptr};
-ghost use Rattle.tlsf_c.specs.Answers.{Answers, AnswersBlock, pointer_of};
-ghost use Rattle.tlsf_c.specs.Given.{given};
+ghost use Rattle.tlsf_c.specs.Answers.{Answers, AnswersBlock, given, pointer_of};
 ghost use Rattle.tlsf_c.specs.Status.{status_of, number};
 
 use crate::block::Block;

@@ -2,12 +2,10 @@
 
 ghost use Rattle.std.specs.Prelude.{◌≡◌, ◌≢◌, ◌<◌, ◌⊎◌, ◌↔◌, Some, None};
 ghost use Rattle.tlsf_store.specs.Records.{most_records};
-ghost use Rattle.tlsf_c.specs.Creation.{IsNew};
+ghost use Rattle.tlsf_c.specs.Creation.{IsNew, zeros};
 ghost use Rattle.tlsf_c.specs.Status.{bad_count, number};
-ghost use Rattle.tlsf_c.specs.Zeros.{zeros};
 ghost use Rattle.tlsf_heap.specs.declared.refusal.Refusal.TheVariants.{OutOfMemory};
 
-use crate::handle::Handle;
 use crate::made::Made;
 use crate::status::{BAD_COUNT, OUT_OF_MEMORY, SERVED};
 use crate::unboxed::Unboxed;
@@ -41,7 +39,7 @@ pub(crate) fn put(alloc: Global, heap: Heap, out: &mut Made) -> u32
 {
     match Box::new(alloc, heap) {
         Ok(boxed) => {
-            *out = Made::of(Handle::of_unboxed(Unboxed::of(boxed)));
+            *out = Made::of(Unboxed::of(boxed));
             SERVED
         }
         Err(_) => OUT_OF_MEMORY,
@@ -54,7 +52,7 @@ pub extern "C" fn tlsf_heap_destroy(alloc: Global, heap: &mut Made)
     ensures zeros { heap.new ≡ zeros }
     ensures nothing { heap.old.value ≡ None → heap.new ≡ heap.old }
 {
-    if let Some(handle) = replace(heap, Made::zeros()).into_handle() {
-        drop(handle.into_unboxed(alloc).into_box());
+    if let Some(unboxed) = replace(heap, Made::zeros()).into_unboxed(alloc) {
+        drop(unboxed.into_box());
     }
 }

@@ -2,15 +2,13 @@
 
 ghost use Rattle.tlsf_heap.specs.Counted.{Counted};
 
-use crate::unboxed::Unboxed;
-use std::alloc::Global;
 use std::marker::Model;
 use tlsf_heap::Heap;
 
 /// A heap as a C program holds it: where it stands. It owns the heap and the memory that this stands in.
 #[repr(C)]
 pub struct Handle {
-    pub(crate) at: *mut u8,
+    at: *mut u8,
     pub ghost value: { Counted },
 }
 
@@ -24,25 +22,6 @@ impl Handle {
     ghost use Rattle.std.specs.Prelude.{◌≡◌};
     ghost use types.Logic.{sem};
     ghost use Rattle.tlsf_c.specs.Lends.{LendsHeap};
-
-    /// The handle of a heap whose box was taken apart.
-    pub(crate) fn of_unboxed(unboxed: Unboxed<Heap, Global>) -> Handle
-        ensures { result.value ≡ unboxed.value }
-    {
-        let Unboxed { at, alloc: _ } = unboxed;
-        Handle { at: at as *mut u8 }
-    }
-
-    /// The parts of the heap's box.
-    pub(crate) fn into_unboxed(self, alloc: Global) -> Unboxed<Heap, Global>
-        ensures { result.value ≡ self.value }
-    {
-        let Handle { at } = self;
-        Unboxed {
-            at: at as *mut Heap,
-            alloc,
-        }
-    }
 
     /// The heap, to be called.
     pub(crate) fn heap(&mut self) -> &mut Heap

@@ -25,17 +25,9 @@ pub extern "C" fn tlsf_heap_save(handle: &mut Handle, bytes: &mut [u8], count: &
     ensures saved { SavesInto handle.old.value.content result count.new bytes.old bytes.new }
     ensures unchanged { IsUnchanged handle.old.value handle.new.value }
 {
-    save_into(handle.heap(), bytes, count)
-}
-
-/// Puts an image of the heap into `bytes`.
-fn save_into(heap: &mut Heap, bytes: &mut [u8], count: &mut u64) -> u32
-    ensures saved { SavesInto heap.old.content result count.new bytes.old bytes.new }
-    ensures unchanged { IsUnchanged heap.old heap.new }
-{
     let mut window = Window::over(bytes);
     // It never fails: that it is too small for the image is told by `fits`.
-    let _all = heap.save_image(&mut window);
+    let _all = handle.heap().save_image(&mut window);
     *count = window.end as u64;
     if window.fits { SERVED } else { NO_ROOM }
 }

@@ -3,9 +3,11 @@
 ghost use Rattle.std.specs.Prelude.{Option};
 ghost use Rattle.tlsf_heap.specs.Counted.{Counted};
 
-use crate::handle::Handle;
+use crate::unboxed::Unboxed;
+use std::alloc::Global;
 use std::marker::Model;
 use std::ptr::null_mut;
+use tlsf_heap::Heap;
 
 /// Where create puts a handle: the same in C as a handle. It holds none where a C program starts it with zeros.
 #[repr(C)]
@@ -24,14 +26,14 @@ impl Model for Made {
 impl Made {
     ghost use Rattle.std.specs.Prelude.{◌≡◌, Some};
     ghost use Rattle.std.specs.Option.{MatchOption};
-    ghost use Rattle.tlsf_c.specs.Zeros.{zeros};
+    ghost use Rattle.tlsf_c.specs.Creation.{zeros};
 
-    /// The handle, put where create puts it.
-    pub(crate) fn of(handle: Handle) -> Made
-        ensures { result.value ≡ Some handle.value }
+    /// The handle of a heap whose box was taken apart.
+    pub(crate) fn of(unboxed: Unboxed<Heap, Global>) -> Made
+        ensures { result.value ≡ Some unboxed.value }
     {
-        let Handle { at } = handle;
-        Made { at }
+        let Unboxed { at, alloc: _ } = unboxed;
+        Made { at: at as *mut u8 }
     }
 
     /// No handle.
@@ -41,15 +43,16 @@ impl Made {
         Made { at: null_mut() }
     }
 
-    /// The handle that is held, if one is.
-    pub(crate) fn into_handle(self) -> Option<Handle>
-        ensures { MatchOption result (self ≡ zeros) (λ handle. self.value ≡ Some handle.value) }
+    /// The parts of the box of the heap that is held, if one is.
+    pub(crate) fn into_unboxed(self, alloc: Global) -> Option<Unboxed<Heap, Global>>
+        ensures { MatchOption result (self ≡ zeros) (λ unboxed. self.value ≡ Some unboxed.value) }
     {
         let Made { at } = self;
         if at.is_null() {
             None
         } else {
-            Some(Handle { at })
+            let at = at as *mut Heap;
+            Some(Unboxed { at, alloc })
         }
     }
 }

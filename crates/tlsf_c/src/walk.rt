@@ -55,7 +55,12 @@ fn fill(heap: &mut Heap, cursor: Cursor, from: u64, rows: &mut [Row]) -> u64
     let mut here = cursor;
     while let Some(next) = heap.row(here) {
         if from <= next.0.place as u64 {
-            put(rows, count, Row::of(next.0));
+            let row = Row {
+                place: next.0.place,
+                size: next.0.size,
+                used: next.0.used,
+            };
+            put(rows, count, row);
             count += 1;
         }
         here = next.1;

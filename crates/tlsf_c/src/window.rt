@@ -1,7 +1,9 @@
 //! A writer into bytes that a C program hands in.
 
-ghost use Rattle.std.specs.Prelude.{◌≡◌, ◌-◌, ◌≤◌, length, min, take, drop, false, nat_le};
-ghost use Rattle.tlsf_c.specs.Room.{put_over, has_failed};
+ghost use Rattle.std.specs.Prelude.{◌≡◌, ◌≢◌, ◌-◌, ◌≤◌, ◌∷◌, List, length, min, take, drop, nat_le};
+ghost use Rattle.mtrace_log.specs.declared.call.Call.{Call};
+ghost use Rattle.mtrace_log.specs.declared.call.Call.TheVariants.{Failed};
+ghost use Rattle.tlsf_c.specs.Room.{put_over};
 
 use crate::room::put_bytes;
 use crate::window_trace::WindowTrace;
@@ -20,7 +22,7 @@ pub(crate) struct Window<'a> {
     ghost kept: { room.now ≡ put_over (drop (length room.now) trace.bytes) (take (length room.now) trace.bytes) },
     ghost ends: { end ≡ min (length trace.bytes - length room.now) (length room.now) },
     ghost all: { fits ≡ nat_le (length trace.bytes - length room.now) (length room.now) },
-    ghost served: { has_failed trace.calls ≡ false },
+    ghost served: { (calls : List Call) → trace.calls ≢ Failed ∷ calls },
 }
 
 impl<'a> Window<'a> {

@@ -21,15 +21,13 @@ impl Model for WindowTrace {
 impl WindowTrace {
     /// No call yet, and no byte.
     pub(crate) fn new() -> WindowTrace
-        ensures calls { result.calls ≡ [] }
-        ensures bytes { result.bytes ≡ [] }
+        ensures { result ≡ record { calls = []; bytes = [] } }
     {
         WindowTrace {}
     }
 
     /// One call more, and these bytes.
     pub(crate) fn add(&mut self, _call: &Call, _bytes: &[u8])
-        ensures calls { self.new.calls ≡ _call.now ∷ self.old.calls }
-        ensures bytes { self.new.bytes ≡ self.old.bytes ++ _bytes.now }
+        ensures { self.new ≡ record { calls = _call.now ∷ self.old.calls; bytes = self.old.bytes ++ _bytes.now } }
     {}
 }

@@ -1,5 +1,5 @@
 -- The size of a live block of a region, which ends within its bytes.
-use Rattle.std.proofs.Common.{◌≡◌, ℕ, ◌+◌, ◌<◌, ◌≤◌, true, List, length, refl, sym, subst, arith, Option, Some, None, Result, Ok, Err, IfOk, IfSome, inl, inr, drop}
+use Rattle.std.proofs.Common.{◌≡◌, ℕ, ◌+◌, ◌≤◌, true, List, length, refl, sym, subst, arith, Option, Some, None, Result, Ok, Err, IfOk, IfSome, inl, inr, drop}
 use Rattle.std.specs.Prelude.{◌==◌}
 use Rattle.std.specs.Result.{result_ok}
 use Rattle.std.proofs.lemmas.Bool.{cases_Bool}
@@ -12,7 +12,7 @@ use Rattle.tlsf_heap.specs.Good.{IsGood}
 use Rattle.tlsf_heap.specs.Pointer.{Pointer}
 use Rattle.std.proofs.lemmas.List.{length-take, length-drop}
 use Rattle.tlsf_region.specs.Region.{IsWithin}
-use Rattle.tlsf_region.specs.Bytes.{block_bytes, live_bytes}
+use Rattle.tlsf_region.specs.Bytes.{IsSizeOf, block_bytes, live_bytes}
 use Rattle.tlsf_region.proofs.Ends.{below_in_pools, live_is_below, live_is_positive}
 
 -- where block_size gives a size, the pointer is live, and it is the block's size
@@ -35,29 +35,19 @@ size_is_within ptr content bytes size good within e =
     omega (arith, is.1, live_is_below (length bytes) (λ slot. slot == ptr.slot) ptr.place (blocks_of content.pools) (below_in_pools (length bytes) 0 content.pools good.pools_good within.pools) is.0)
 
 -- the size of a live block, where the answer is kept as an option
-pub size_told : (result : Result ℕ Refusal) (ptr : Pointer) (content : Content ℕ) → IfOk result (λ size. block_size (λ slot. slot == ptr.slot) ptr.place content ≡ Ok size) → (size : Option ℕ) → size ≡ result_ok result
-    → IfSome size (λ size. block_size (λ slot. slot == ptr.slot) ptr.place content ≡ Ok size)
-size_told result ptr content ok size is = subst (λ o. IfSome o (λ size. block_size (λ slot. slot == ptr.slot) ptr.place content ≡ Ok size)) (sym is) (of result ok)
+pub size_found : (result : Result ℕ Refusal) (ptr : Pointer) (content : Content ℕ) (bytes : List ℕ) → IsGood content → IsWithin content bytes
+    → IfOk result (λ size. block_size (λ slot. slot == ptr.slot) ptr.place content ≡ Ok size) → (size : Option ℕ) → size ≡ result_ok result → IfSome size (λ size. IsSizeOf ptr size content bytes)
+size_found result ptr content bytes good within ok size is = subst (λ o. IfSome o (λ size. IsSizeOf ptr size content bytes)) (sym is) (of result ok)
   where
-    of : (result : Result ℕ Refusal) → IfOk result (λ size. block_size (λ slot. slot == ptr.slot) ptr.place content ≡ Ok size) → IfSome (result_ok result) (λ size. block_size (λ slot. slot == ptr.slot) ptr.place content ≡ Ok size)
-    of (Ok size) told = told
+    of : (result : Result ℕ Refusal) → IfOk result (λ size. block_size (λ slot. slot == ptr.slot) ptr.place content ≡ Ok size) → IfSome (result_ok result) (λ size. IsSizeOf ptr size content bytes)
     of (Err why) told = tt
-
-pub size_is_below : (result : Result ℕ Refusal) (ptr : Pointer) (content : Content ℕ) (bytes : List ℕ) → IsGood content → IsWithin content bytes
-    → IfOk result (λ size. block_size (λ slot. slot == ptr.slot) ptr.place content ≡ Ok size) → (size : Option ℕ) → size ≡ result_ok result → IfSome size (λ size. ptr.place + size ≤ length bytes)
-size_is_below result ptr content bytes good within ok size is = of size (size_told result ptr content ok size is)
-  where
-    of : (size : Option ℕ) → IfSome size (λ size. block_size (λ slot. slot == ptr.slot) ptr.place content ≡ Ok size) → IfSome size (λ size. ptr.place + size ≤ length bytes)
-    of None told = tt
-    of (Some size) told = size_is_within ptr content bytes size good within told
-
-pub size_is_positive : (result : Result ℕ Refusal) (ptr : Pointer) (content : Content ℕ) → IsGood content → IfOk result (λ size. block_size (λ slot. slot == ptr.slot) ptr.place content ≡ Ok size)
-    → (size : Option ℕ) → size ≡ result_ok result → IfSome size (λ size. 0 < size)
-size_is_positive result ptr content good ok size is = of size (size_told result ptr content ok size is)
-  where
-    of : (size : Option ℕ) → IfSome size (λ size. block_size (λ slot. slot == ptr.slot) ptr.place content ≡ Ok size) → IfSome size (λ size. 0 < size)
-    of None told = tt
-    of (Some size) told = let is = size_is ptr content size told in omega (arith, is.1, live_is_positive (λ slot. slot == ptr.slot) ptr.place content.pools good.pools_good is.0)
+    of (Ok size) told =
+        let is = size_is ptr content size told in
+        record {
+          told = told;
+          some = omega (arith, is.1, live_is_positive (λ slot. slot == ptr.slot) ptr.place content.pools good.pools_good is.0);
+          within = size_is_within ptr content bytes size good within told;
+        }
 
 -- a live block has as many bytes as its size
 pub live_bytes_long : (ptr : Pointer) (content : Content ℕ) (bytes : List ℕ) → IsGood content → IsWithin content bytes

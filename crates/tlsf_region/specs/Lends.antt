@@ -5,17 +5,14 @@ use Rattle.std.specs.Borrow.{Lends, LendsSo, follows_so, MutBor, Array, Fml, u8}
 use mathlib.Core.Option.{none}
 use Rattle.tlsf_heap.specs.Content.{blocks_of, size_at}
 use Rattle.tlsf_heap.specs.Pointer.{Pointer}
-use Rattle.tlsf_region.specs.Region.{CountedRegion, WasRead}
+use Rattle.tlsf_heap.specs.Touches.{AtMost}
+use Rattle.tlsf_region.specs.Region.{CountedRegion, IsUnchanged, Reads}
 use Rattle.tlsf_region.specs.Bytes.{overwritten}
 use Rattle.tlsf_region.specs.contracts.region.Region.{the_row}
 
--- its heap was read, in at most one touch, and no byte changed
-abbrev pub IsSame : CountedRegion → CountedRegion → Type 0
-IsSame old new = WasRead 1 old new × (new.bytes ≡ old.bytes)
-
 -- bytes were lent to read
 abbrev pub ends_read : MutBor CountedRegion → Fml
-ends_read region = follows_so the_row the_row region.ghost_name none (λ _ _. ⊤) (IsSame region.now)
+ends_read region = follows_so the_row the_row region.ghost_name none (λ _ _. ⊤) (Reads 1 region.now)
 
 -- what was written over the bytes from the place on; there are as many bytes as before
 abbrev pub written : ℕ → CountedRegion → List ℕ → CountedRegion
@@ -30,5 +27,5 @@ lends_from region place lent = Lends the_row (Array u8 0) region lent (written p
 -- written last, as long as the block, is over the block's bytes. No other byte changed
 abbrev pub lends_block : MutBor CountedRegion → Pointer → Option (MutBor (List ℕ)) → Fml
 lends_block region ptr lent =
-    LendsSo the_row (Array u8 0) region lent (λ new last. OnSome lent (WasRead 1 region.now new
-    × (length last ≡ size_at ptr.place (blocks_of region.now.content.pools) → new.bytes ≡ overwritten ptr.place last region.now.bytes))) (IsSame region.now)
+    LendsSo the_row (Array u8 0) region lent (λ new last. OnSome lent (IsUnchanged region.now new × AtMost 1 region.now.touches new.touches
+    × (length last ≡ size_at ptr.place (blocks_of region.now.content.pools) → new.bytes ≡ overwritten ptr.place last region.now.bytes))) (Reads 1 region.now)

@@ -1,10 +1,12 @@
 -- What contracts see of a region: its heap's content, how often its store was touched, and the rows from each slot
 -- on; and its bytes.
-use Rattle.std.specs.Prelude.{◌≡◌, ℕ, ◌+◌, ◌≤◌, List, [], ◌∷◌, length, map, ⊤}
+use Rattle.std.specs.Prelude.{◌≡◌, ℕ, ◌+◌, ◌≤◌, nat_le, List, [], ◌∷◌, length, map, ⊤, Result, Err, if◌then◌else◌}
+use Rattle.tlsf_heap.specs.declared.refusal.Refusal.{Refusal}
+use Rattle.tlsf_heap.specs.declared.refusal.Refusal.TheVariants.{BadPool}
 use Rattle.tlsf_heap.specs.declared.row.Row.{Row}
 use Rattle.tlsf_heap.specs.Content.{Content}
-use Rattle.tlsf_heap.specs.Counted.{Counted, range_of}
-use Rattle.tlsf_heap.specs.Pools.{end_of_places}
+use Rattle.tlsf_heap.specs.Counted.{range_of}
+use Rattle.tlsf_heap.specs.Pools.{end_of_places, add_pool}
 use Rattle.tlsf_heap.specs.Touches.{AtMost}
 
 pub record CountedRegion : Type 0 where
@@ -12,10 +14,6 @@ pub record CountedRegion : Type 0 where
   pub touches : ℕ
   pub rows : List (List Row)
   pub bytes : List ℕ
-
--- a heap and its bytes, as contracts see them
-abbrev pub counted_region : Counted → List ℕ → CountedRegion
-counted_region heap bytes = record { content = heap.content; touches = heap.touches; rows = heap.rows; bytes = bytes }
 
 -- each of these pools, known by where it begins and its bytes, ends at or below the place
 abbrev pub EndBelow : ℕ → List (ℕ × ℕ) → Type 0
@@ -27,23 +25,10 @@ pub record IsWithin (content : Content ℕ) (bytes : List ℕ) : Type 0 where
   pub places : length bytes ≤ end_of_places
   pub pools : EndBelow (length bytes) (map range_of content.pools)
 
--- a region: its pools are within its bytes. The memory of the bytes has room for exactly these: a region keeps no
--- spare memory
-pub record IsRegion (content : Content ℕ) (room : ℕ) (bytes : List ℕ) : Type 0 where
-  pub within : IsWithin content bytes
-  pub exact : room ≡ length bytes
-
 -- the heap's content is as it was, and each cursor stands where it stood, with the rows that are to come
 pub record IsUnchanged (old new : CountedRegion) : Type 0 where
   pub content : new.content ≡ old.content
   pub rows : new.rows ≡ old.rows
-
--- its heap was read, in at most this many touches
-pub record WasRead (most : ℕ) (old new : CountedRegion) : Type 0 where
-  pub content : new.content ≡ old.content
-  pub rows : new.rows ≡ old.rows
-  pub floor : old.touches ≤ new.touches
-  pub bound : new.touches ≤ old.touches + most
 
 -- all is as it was, the bytes too
 pub record IsAsBefore (old new : CountedRegion) : Type 0 where
@@ -60,3 +45,7 @@ pub record Reads (n : ℕ) (old new : CountedRegion) : Type 0 where
   pub unchanged : IsUnchanged old new
   pub bytes : new.bytes ≡ old.bytes
   pub bound : AtMost n old.touches new.touches
+
+-- add_pool(base, bytes) over this many bytes: as of a heap, and BadPool also where the pool ends above them
+abbrev pub add_pool_within : {A : Type 0} → (length base bytes : ℕ) → Content A → Result (Content A) Refusal
+add_pool_within length base bytes content = if nat_le (base + bytes) length then add_pool base bytes content else Err BadPool

@@ -2,12 +2,10 @@
 //! bytes along.
 #![tactic(auto)]
 
-mod copied;
 mod region;
 mod region_error;
 #[cfg(test)]
 mod tests;
-mod zeros;
 
 pub use crate::region::Region;
 pub use crate::region_error::RegionError;

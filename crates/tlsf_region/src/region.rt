@@ -1,8 +1,6 @@
 //! The region.
 
 use crate::RegionError;
-use crate::copied::take_along;
-use crate::zeros::zeros;
 use arrayvec::ArrayVec;
 use std::alloc::Global;
 use std::marker::Model;
@@ -20,14 +18,20 @@ pub struct Region {
 }
 
 impl Model for Region {
-    ghost use Rattle.std.specs.Prelude.{vec_capacity};
-    ghost use Rattle.tlsf_region.specs.Region.{CountedRegion, counted_region, IsRegion};
+    ghost use Rattle.std.specs.Prelude.{◌≡◌, length, vec_capacity};
+    ghost use Rattle.tlsf_region.specs.Region.{CountedRegion, IsWithin};
 
     ghost Value = { CountedRegion };
 
-    ghost view = { λ r. counted_region r.heap r.bytes.items };
+    ghost view = { λ r. record {
+      content = r.heap.content;
+      touches = r.heap.touches;
+      rows = r.heap.rows;
+      bytes = r.bytes.items;
+    } };
 
-    ghost invariant = { λ r. IsRegion r.heap.content (vec_capacity r.bytes) r.bytes.items };
+    // The memory of the bytes has room for exactly these: a region keeps no spare memory.
+    ghost invariant = { λ r. IsWithin r.heap.content r.bytes.items × (vec_capacity r.bytes ≡ length r.bytes.items) };
 }
 
 impl Region {
@@ -40,7 +44,6 @@ impl Region {
     ghost use Rattle.tlsf_heap.specs.Malloc.{malloc};
     ghost use Rattle.tlsf_heap.specs.Free.{is_live};
     ghost use Rattle.tlsf_heap.specs.Good.{IsGood};
-    ghost use Rattle.tlsf_heap.specs.BlockSize.{block_size};
     ghost use Rattle.tlsf_heap.specs.Pointer.{Pointer, free_ptr, realloc_ptr, block_size_ptr};
     ghost use Rattle.tlsf_heap.specs.Rows.{rows_from};
     ghost use Rattle.tlsf_heap.specs.Cursors.{rows_behind, is_at_row};
@@ -50,11 +53,9 @@ impl Region {
     ghost use Rattle.tlsf_heap.specs.Memalign.{memalign};
     ghost use Rattle.tlsf_heap.specs.Walk.{IsWalk, walk_touches};
     ghost use Rattle.tlsf_heap.specs.declared.refusal.Refusal.TheVariants.{NoFit, TableFull, BadPointer, BadAlign};
-    ghost use Rattle.tlsf_region.specs.Pools.{add_pool_within};
-    ghost use Rattle.tlsf_region.specs.Realloc.{bytes_after_realloc};
     ghost use Rattle.tlsf_heap.specs.Touches.{AtMost, add_pool_touches, remove_pool_touches, malloc_touches, memalign_touches, free_touches, realloc_touches, block_size_touches};
-    ghost use Rattle.tlsf_region.specs.Region.{IsWithin, IsUnchanged, WasRead, IsAsBefore, KeepsBytes, Reads};
-    ghost use Rattle.tlsf_region.specs.Bytes.{block_bytes, live_bytes};
+    ghost use Rattle.tlsf_region.specs.Region.{IsWithin, IsUnchanged, IsAsBefore, KeepsBytes, Reads, add_pool_within};
+    ghost use Rattle.tlsf_region.specs.Bytes.{IsSizeOf, block_bytes, live_bytes, bytes_after_realloc};
     ghost use Rattle.tlsf_region.specs.Lends.{ends_read, lends_from, lends_block};
     ghost use Rattle.std.specs.Borrow.{sem};
     ghost use Rattle.std.specs.Option.{option_map};
@@ -83,9 +84,12 @@ impl Region {
         let Ok(heap) = Heap::create(alloc, records) else {
             return Err(RegionError::OutOfMemory);
         };
-        let Ok(bytes) = zeros(alloc, len as usize) else {
+        let Ok(mut bytes) = Vec::with_capacity(alloc, len as usize) else {
             return Err(RegionError::OutOfMemory);
         };
+        for _done in 0..len {
+            bytes.push_reserved(0);
+        }
         Ok(Region { heap, bytes })
     }
 
@@ -198,7 +202,12 @@ impl Region {
         let Some(new) = self.heap.realloc(ptr, n)? else {
             return Ok(None);
         };
-        take_along(&mut self.bytes, old, new, size);
+        if new.place() == old.place() {
+            return Ok(Some(new));
+        }
+        let start = old.place() as usize;
+        self.bytes
+            .copy_within(start..start + size as usize, new.place() as usize);
         Ok(Some(new))
     }
 
@@ -218,14 +227,10 @@ impl Region {
     /// The size of the live block that the pointer names, which ends within the bytes; none where it names
     /// no live block. At most one touch.
     fn live_size(&mut self, ptr: Ptr) -> Option<u32>
-        ensures some { IfSome result (λ size. block_size (λ slot. slot == ptr.slot) ptr.place self.old.content ≡ Ok size) }
-        ensures within { IfSome result (λ size. ptr.place + size ≤ length self.old.bytes) }
-        ensures positive { IfSome result (λ size. 0 < size) }
+        ensures some { IfSome result (λ size. IsSizeOf ptr size self.old.content self.old.bytes) }
         ensures none { IfNone result (is_live (λ slot. slot == ptr.slot) ptr.place (blocks_of self.old.content.pools) ≡ false) }
         ensures good { IsGood self.old.content }
-        ensures ends { IsWithin self.old.content self.old.bytes }
-        ensures read { WasRead 1 self.old self.new }
-        ensures bytes { self.new.bytes ≡ self.old.bytes }
+        ensures read { Reads 1 self.old self.new }
     {
         self.heap.keeps_good();
         self.heap.block_size(ptr).ok()
@@ -234,11 +239,9 @@ impl Region {
     /// How many bytes the pointer's block has, and 0 where it names no live block: no block is empty. At
     /// most one touch.
     fn lent_len(&mut self, ptr: Ptr) -> u32
-        ensures some { 0 < result → block_size (λ slot. slot == ptr.slot) ptr.place self.old.content ≡ Ok result }
-        ensures within { 0 < result → ptr.place + result ≤ length self.old.bytes }
+        ensures some { 0 < result → IsSizeOf ptr result self.old.content self.old.bytes }
         ensures none { result ≡ 0 → is_live (λ slot. slot == ptr.slot) ptr.place (blocks_of self.old.content.pools) ≡ false }
-        ensures read { WasRead 1 self.old self.new }
-        ensures bytes { self.new.bytes ≡ self.old.bytes }
+        ensures read { Reads 1 self.old self.new }
     {
         self.live_size(ptr).unwrap_or(0)
     }

@@ -1,7 +1,7 @@
 -- Chains of vacant slots: how long one is, and what leaves it as it was.
 use Rattle.std.proofs.Common.{◌≡◌, ◌≢◌, ◌↔◌, ℕ, zero, suc, ◌-◌, ◌<◌, ◌≤◌, Option, Some, None, sym, ap, subst, refl, arith}
 use Rattle.std.proofs.lemmas.Option.{same_Some}
-use Rattle.tlsf_store.specs.VacantChain.{IsChain}
+use Rattle.tlsf_store.specs.Table.{IsChain}
 
 -- the first of a chain is vacant, and the rest is a chain of one less
 pub record BeginsAt (vacant : ℕ → Type 0) (next : ℕ → Option ℕ) (count slot : ℕ) : Type 0 where

@@ -6,7 +6,7 @@ use Rattle.std.proofs.lemmas.List.Elements.{All-set}
 use Rattle.tlsf_store.specs.declared.records.Record.{Record}
 use Rattle.tlsf_store.specs.Records.{blank, record_at, is_vacant, IsBelow, IsKept}
 use Rattle.tlsf_store.specs.Table.{IsVacantAt, next_at, IsTable}
-use Rattle.tlsf_store.specs.VacantChain.{IsChain}
+use Rattle.tlsf_store.specs.Table.{IsChain}
 use Rattle.tlsf_store.proofs.Chains.{BeginsAt, chain_begins, chain_none, chain_stays, chain_away_from_first, chain_away_from_used}
 use Rattle.tlsf_store.proofs.RecordLaws.{vacant_count-set, mark-vacant, mark-used}
 

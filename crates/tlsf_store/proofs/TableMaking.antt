@@ -5,7 +5,7 @@ use Rattle.std.proofs.lemmas.List.Elements.{All-push}
 use Rattle.tlsf_store.specs.declared.records.Record.{Record}
 use Rattle.tlsf_store.specs.Records.{most_records, blank, record_at, is_vacant, vacant_count, IsBelow, IsKept}
 use Rattle.tlsf_store.specs.Table.{seen, IsVacantAt, next_at, IsTable}
-use Rattle.tlsf_store.specs.VacantChain.{IsChain}
+use Rattle.tlsf_store.specs.Table.{IsChain}
 use Rattle.tlsf_store.proofs.Chains.{BeginsAt, chain_begins, chain_stays, chain_away_from_used}
 use Rattle.tlsf_store.proofs.RecordLaws.{vacant_count-replicate}
 use Rattle.tlsf_store.proofs.TableViews.{seen-free, vacant_count-seen}

@@ -1,38 +1,26 @@
 -- A table as callers see it: what a write, a take and a give change.
-use Rattle.std.proofs.Common.{◌≡◌, ◌≢◌, ℕ, ◌+◌, ◌-◌, ◌<◌, true, false, cond, List, [], ◌∷◌, length, set, map, slice_index_or, Option, Some, ◌∙◌, sym, ap, subst, refl, arith}
+use Rattle.std.proofs.Common.{◌≡◌, ◌≢◌, ℕ, ◌+◌, ◌-◌, ◌<◌, true, false, Bool, cond, if◌then◌else◌, List, [], ◌∷◌, length, set, map, slice_index_or, Option, Some, ◌∙◌, sym, ap, subst, refl, arith}
 use Rattle.std.proofs.lemmas.List.{length-map, length-set, map-set, get_or-map, get_or_default}
 use Rattle.std.proofs.lemmas.List.Sums.{sum_by-cons}
-use Rattle.tlsf_store.specs.declared.records.State.{State}
-use Rattle.tlsf_store.specs.declared.records.State.TheVariants.{Vacant, Free, Live}
+use Rattle.tlsf_store.specs.declared.records.State.TheVariants.{Vacant, Free}
 use Rattle.tlsf_store.specs.declared.records.Record.{Record}
 use Rattle.tlsf_store.specs.Records.{blank, blank_in, record_at, is_vacant, vacant_count, IsKept}
-use Rattle.tlsf_store.specs.Table.{seen, seen_in, next_at, IsTable, IsStored}
+use Rattle.tlsf_store.specs.Table.{seen, next_at, IsTable, IsStored}
 use Rattle.tlsf_store.proofs.RecordLaws.{mark, used_state}
 use Rattle.tlsf_store.proofs.TableLaws.{table_write, table_give, table_take, first_below, IsTaken}
 
-seen_in-state : (s : State) (r : Record) → r.state ≡ s → is_vacant (seen_in s r).state ≡ is_vacant s
-seen_in-state Vacant r is = refl
-seen_in-state Free r is = ap is_vacant is
-seen_in-state Live r is = ap is_vacant is
+seen_if : (b : Bool) (r : Record) → is_vacant r.state ≡ b → is_vacant (if b then blank else r).state ≡ b
+seen_if true r is = refl
+seen_if false r is = is
 
 pub seen-vacant : (r : Record) → is_vacant (seen r).state ≡ is_vacant r.state
-seen-vacant r = seen_in-state r.state r refl
-
-seen_in-used : (s : State) (r : Record) → is_vacant s ≡ false → seen_in s r ≡ r
-seen_in-used Vacant r is = let never : ⊥ = cc is in absurd never
-seen_in-used Free r is = refl
-seen_in-used Live r is = refl
+seen-vacant r = seen_if (is_vacant r.state) r refl
 
 pub seen-used : (r : Record) → is_vacant r.state ≡ false → seen r ≡ r
-seen-used r is = seen_in-used r.state r is
-
-seen_in-free : (s : State) (r : Record) → is_vacant s ≡ true → seen_in s r ≡ blank
-seen_in-free Vacant r is = refl
-seen_in-free Free r is = let never : ⊥ = cc is in absurd never
-seen_in-free Live r is = let never : ⊥ = cc is in absurd never
+seen-used r is = rw is refl
 
 pub seen-free : (r : Record) → is_vacant r.state ≡ true → seen r ≡ blank
-seen-free r is = seen_in-free r.state r is
+seen-free r is = rw is refl
 
 -- the record that callers see at a slot
 pub record_at-seen : (records : List Record) (slot : ℕ) → slot < length records →

@@ -3,6 +3,5 @@ pub mod CountedCells
 pub mod Packed
 pub mod Records
 pub mod Table
-pub mod VacantChain
 pub mod Ranges
 pub mod Slots

@@ -1,5 +1,5 @@
 -- A record in sixteen bytes: its words, and the record that they stand for.
-use Rattle.std.specs.Prelude.{ℕ, ◌-◌, ◌<◌, ◌%◌, ◌==◌, if◌then◌else◌}
+use Rattle.std.specs.Prelude.{ℕ, ◌-◌, ◌%◌, ◌==◌, if◌then◌else◌}
 use Rattle.tlsf_class.specs.Classes.{unit}
 use Rattle.tlsf_store.specs.declared.records.State.{State}
 use Rattle.tlsf_store.specs.declared.records.State.TheVariants.{Vacant, Free, Live}
@@ -23,7 +23,3 @@ unpacked p =
       prev_free = link_of p.prev_free;
       next_free = link_of p.next_free;
     }
-
--- every code is 0, 1 or 2
-abbrev pub IsPacked : Inside → Type 0
-IsPacked p = p.size_word % unit < 3

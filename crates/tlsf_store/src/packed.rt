@@ -2,8 +2,8 @@
 
 ghost use Rattle.std.specs.Prelude.{◌≡◌, ◌≢◌, ◌%◌};
 ghost use Rattle.tlsf_class.specs.Classes.{unit};
-ghost use Rattle.tlsf_store.specs.declared.records.State.TheVariants.{Vacant, Free};
-ghost use Rattle.tlsf_store.specs.Records.{most_records, blank, blank_in, is_vacant, IsBelow, IsKept};
+ghost use Rattle.tlsf_store.specs.declared.records.State.TheVariants.{Vacant};
+ghost use Rattle.tlsf_store.specs.Records.{most_records, blank, is_vacant, IsBelow, IsKept};
 ghost use Rattle.tlsf_store.specs.Slots.{link_of};
 
 use super::slots::{MISSING, link_of, link_word};
@@ -30,11 +30,13 @@ impl Model for Packed {
 
     ghost Value = { Record };
 
-    ghost use Rattle.tlsf_store.specs.Packed.{unpacked, IsPacked};
+    ghost use Rattle.std.specs.Prelude.{◌<◌, ◌%◌};
+    ghost use Rattle.tlsf_class.specs.Classes.{unit};
+    ghost use Rattle.tlsf_store.specs.Packed.{unpacked};
 
     ghost view = { unpacked };
 
-    ghost invariant = { IsPacked };
+    ghost invariant = { λ p. p.size_word % unit < 3 };
 }
 
 impl Packed {
@@ -50,26 +52,6 @@ impl Packed {
             next: link_word(value.next),
             prev_free: link_word(value.prev_free),
             next_free: link_word(value.next_free),
-        }
-    }
-
-    /// The record that was packed.
-    pub(crate) fn unpack(&self) -> Record
-        ensures { result ≡ self.now }
-    {
-        let code = self.size_word % UNIT;
-        Record {
-            place: self.place,
-            size: self.size_word - code,
-            state: match code {
-                0 => State::Vacant,
-                1 => State::Free,
-                _ => State::Live,
-            },
-            prev: link_of(self.prev),
-            next: link_of(self.next),
-            prev_free: link_of(self.prev_free),
-            next_free: link_of(self.next_free),
         }
     }
 
@@ -104,32 +86,11 @@ impl Packed {
         }
     }
 
-    /// A record of a free block to come, with no place, size or links.
-    pub(crate) fn free() -> Packed
-        ensures { result ≡ blank_in Free }
-    {
-        Packed {
-            place: 0,
-            size_word: 1,
-            prev: MISSING,
-            next: MISSING,
-            prev_free: MISSING,
-            next_free: MISSING,
-        }
-    }
-
     /// Whether the record is of no block.
     pub(crate) fn is_vacant(&self) -> bool
         ensures { result ≡ is_vacant self.now.state }
     {
         self.size_word % UNIT == 0
-    }
-
-    /// The record's link `next`.
-    pub(crate) fn next(&self) -> Option<Slot>
-        ensures { result ≡ self.now.next }
-    {
-        link_of(self.next)
     }
 
     /// The word of the record's link `next`.

@@ -22,20 +22,14 @@ impl State {
     pub fn is_free(self) -> bool
         ensures { result ≡ is_free_state self }
     {
-        match self {
-            State::Free => true,
-            State::Vacant | State::Live => false,
-        }
+        matches!(self, State::Free)
     }
 
     /// Whether a record in this state is of a live block.
     pub fn is_live(self) -> bool
         ensures { result ≡ is_live_state self }
     {
-        match self {
-            State::Live => true,
-            State::Vacant | State::Free => false,
-        }
+        matches!(self, State::Live)
     }
 }
 
@@ -59,8 +53,7 @@ pub struct Record {
 }
 
 impl Record {
-    ghost use Rattle.tlsf_store.specs.Records.{blank, blank_in};
-    ghost use Rattle.tlsf_store.specs.Table.{seen};
+    ghost use Rattle.tlsf_store.specs.Records.{blank_in};
 
     /// A record in this state, with no block and no links.
     pub(crate) fn blank(state: State) -> Record
@@ -74,16 +67,6 @@ impl Record {
             next: None,
             prev_free: None,
             next_free: None,
-        }
-    }
-
-    /// The record as callers see it: a vacant one holds nothing, whatever links it to the next.
-    pub(crate) fn seen(self) -> Record
-        ensures { result ≡ seen self }
-    {
-        match self.state {
-            State::Vacant => Record::blank(State::Vacant),
-            State::Free | State::Live => self,
         }
     }
 }

@@ -11,7 +11,7 @@ ghost use Rattle.tlsf_store.specs.Records.{most_records, blank, blank_in, record
 use super::ghost_count::GhostCount;
 use super::packed::Packed;
 use super::slots::{MISSING, link_of};
-use super::vacant_chain::is_whole_chain;
+use super::vacant_chain::{count_vacant, is_chain};
 use super::{Record, Slot, State};
 use std::alloc::{AllocError, Global};
 use std::marker::Model;
@@ -97,7 +97,11 @@ impl Table {
         ensures kept { IsKept (length self.now) result }
         ensures vacant { result.state ≡ Vacant → result ≡ blank }
     {
-        self.items[slot.index()].unpack().seen()
+        let item = &self.items[slot.index()];
+        if item.is_vacant() {
+            return Record::blank(State::Vacant);
+        }
+        item.unpack_used()
     }
 
     /// The record of a slot that isn't vacant.
@@ -136,7 +140,8 @@ impl Table {
         ensures whole { result ≡ true }
         ensures touched { touches.new.count ≡ touches.old.count + length self.now + vacant_count self.now }
     {
-        is_whole_chain(&self.items, link_of(self.first), self.vacant, touches)
+        count_vacant(&self.items, touches) == self.vacant
+            && is_chain(&self.items, link_of(self.first), self.vacant, touches)
     }
 
     /// Takes a vacant record, if there is one, for a block to come: free, with no place, size or links.
@@ -152,7 +157,7 @@ impl Table {
         }
         let index = usize::from(slot);
         self.first = self.items[index].next_word();
-        self.items[index] = Packed::free();
+        self.items[index] = Packed::pack(Record::blank(State::Free));
         self.vacant -= 1;
         Some(Slot(slot))
     }

@@ -2,30 +2,15 @@
 
 ghost use Rattle.std.specs.Prelude.{◌≡◌, ◌+◌, ◌≤◌, ◌↔◌, IsTrue, length};
 ghost use Rattle.tlsf_store.specs.Records.{most_records, vacant_count};
-ghost use Rattle.tlsf_store.specs.Table.{next_at, IsVacantAt, IsWholeChain};
-ghost use Rattle.tlsf_store.specs.VacantChain.{IsChain};
+ghost use Rattle.tlsf_store.specs.Table.{IsChain, next_at, IsVacantAt};
 
 use super::Slot;
 use super::ghost_count::GhostCount;
 use super::packed::Packed;
-
-/// Whether the chain from `first` on has each vacant record once, and `vacant` is how many there are. It looks only at slots
-/// of these records, whatever stands in them. A touch for each record, and one more for each on the chain.
-pub(crate) fn is_whole_chain(
-    records: &[Packed],
-    first: Option<Slot>,
-    vacant: u32,
-    touches: &mut GhostCount,
-) -> bool
-    requires few { length records.now ≤ most_records }
-    ensures exact { IsTrue result ↔ IsWholeChain records.now first vacant }
-    ensures touched { IsTrue result → touches.new.count ≡ touches.old.count + length records.now + vacant }
-{
-    count_vacant(records, touches) == vacant && is_chain(records, first, vacant, touches)
-}
+use super::slots::link_of;
 
 /// How many records are vacant. A touch each.
-fn count_vacant(records: &[Packed], touches: &mut GhostCount) -> u32
+pub(crate) fn count_vacant(records: &[Packed], touches: &mut GhostCount) -> u32
     requires few { length records.now ≤ most_records }
     ensures value { result ≡ vacant_count records.now }
     ensures touched { touches.new.count ≡ touches.old.count + length records.now }
@@ -40,8 +25,14 @@ fn count_vacant(records: &[Packed], touches: &mut GhostCount) -> u32
     vacant
 }
 
-/// Whether `vacant` vacant records stand from `first` on, each linked to the next, and the last one to none. A touch each.
-fn is_chain(records: &[Packed], first: Option<Slot>, vacant: u32, touches: &mut GhostCount) -> bool
+/// Whether `vacant` vacant records stand from `first` on, each linked to the next, and the last one to none. It looks only at
+/// slots of these records, whatever stands in them. A touch each.
+pub(crate) fn is_chain(
+    records: &[Packed],
+    first: Option<Slot>,
+    vacant: u32,
+    touches: &mut GhostCount,
+) -> bool
     ensures exact { IsTrue result ↔ IsChain (IsVacantAt records.now) (next_at records.now) vacant first }
     ensures touched { IsTrue result → touches.new.count ≡ touches.old.count + vacant }
 {
@@ -58,7 +49,7 @@ fn is_chain(records: &[Packed], first: Option<Slot>, vacant: u32, touches: &mut 
         if !block.is_vacant() {
             return false;
         }
-        next = block.next();
+        next = link_of(block.next_word());
     }
     next.is_none()
 }

@@ -1,5 +1,5 @@
-ghost use Rattle.std.specs.Prelude.{◌≡◌, [], ◌+◌, ◌<◌, ◌≤◌, ◌↔◌, ◌++◌, ◌∷◌, length, take, true, false, IfOk, OnErr, IsErr, IsTrue};
-ghost use Rattle.mtrace_log.specs.Memory.{sink_taken, sink_piece, sink_room, sink_full, sink_count, flush_fails, sink_trace, sink_shown, IsSink};
+ghost use Rattle.std.specs.Prelude.{◌≡◌, [], ◌+◌, ◌<◌, ◌≤◌, ◌↔◌, ◌++◌, ◌∷◌, length, take, true, false, Some, IfOk, OnErr, IsErr, IsTrue};
+ghost use Rattle.mtrace_log.specs.Memory.{sink_taken, sink_piece, sink_room, sink_full, sink_count, flush_fails, sink_trace, IsSink};
 ghost use Rattle.mtrace_log.specs.Trace.{offered, flushed};
 ghost use Rattle.mtrace_log.specs.declared.memory.memory_sink.Full.TheVariants.{Fails};
 
@@ -53,25 +53,11 @@ impl MemorySink {
     }
 
     /// The same writer, whose every flush fails.
-    pub fn failing_flush(self) -> Self
+    pub fn failing_flush(mut self) -> Self
         ensures { IsSink (sink_taken self) (sink_piece self) (sink_room self) (sink_full self) true (sink_trace self) result }
     {
-        let MemorySink {
-            bytes,
-            piece,
-            room,
-            full,
-            flush_fails: _,
-            trace,
-        } = self;
-        MemorySink {
-            bytes,
-            piece,
-            room,
-            full,
-            flush_fails: true,
-            trace,
-        }
+        self.flush_fails = true;
+        self
     }
 
     /// The bytes taken.
@@ -83,7 +69,7 @@ impl MemorySink {
 }
 
 impl Sink for MemorySink {
-    ghost shown = { sink_shown };
+    ghost shown = { λ sink. record { taken = Some (sink_taken sink); calls = sink_trace sink } };
 
     /// Takes as many bytes as a piece has and as there is room for.
     ///
@@ -109,17 +95,13 @@ impl Sink for MemorySink {
                 Full::TakesNone => Ok(0),
             };
         }
-        match self.bytes.extend_from_slice(&bytes[..count]) {
-            Ok(()) => {
-                self.room -= count;
-                self.trace.add(Call::Took(count));
-                Ok(count)
-            }
-            Err(_) => {
-                self.trace.add(Call::Failed);
-                Err(Failed)
-            }
+        if self.bytes.extend_from_slice(&bytes[..count]).is_err() {
+            self.trace.add(Call::Failed);
+            return Err(Failed);
         }
+        self.room -= count;
+        self.trace.add(Call::Took(count));
+        Ok(count)
     }
 
     /// Does nothing.

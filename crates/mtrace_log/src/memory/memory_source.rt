@@ -20,7 +20,7 @@ pub struct MemorySource<'a> {
 }
 
 impl<'a> MemorySource<'a> {
-    ghost use Rattle.mtrace_log.specs.Memory.{source_left, source_whole, source_piece, calls_before_failure, one_call_less, source_trace, IsSource};
+    ghost use Rattle.mtrace_log.specs.Memory.{source_left, one_call_less, IsSource};
 
     /// A reader that gives these bytes in pieces of at most `piece` bytes, and doesn't fail.
     pub fn in_pieces(bytes: &'a [u8], piece: usize) -> Self
@@ -49,20 +49,15 @@ impl<'a> MemorySource<'a> {
 
     /// Whether this call is the one that fails. It is counted, and not told yet.
     fn fails(&mut self) -> bool
-        ensures fails { IsTrue result ↔ (calls_before_failure self.old ≡ Some 0) }
-        ensures counted { IsSource (source_left self.old) (source_whole self.old) (source_piece self.old) (one_call_less (calls_before_failure self.old)) (source_trace self.old) self.new }
+        ensures fails { IsTrue result ↔ (self.old.calls_before_failure ≡ Some 0) }
+        ensures counted { IsSource (source_left self.old) self.old.whole.now self.old.piece (one_call_less self.old.calls_before_failure) self.old.trace.calls self.new }
     {
-        match self.calls_before_failure {
-            Some(0) => {
-                self.calls_before_failure = None;
-                true
-            }
-            Some(calls) => {
-                self.calls_before_failure = Some(calls - 1);
-                false
-            }
-            None => false,
-        }
+        let fails = self.calls_before_failure == Some(0);
+        self.calls_before_failure = match self.calls_before_failure {
+            Some(calls) if calls > 0 => Some(calls - 1),
+            _ => None,
+        };
+        fails
     }
 }
 

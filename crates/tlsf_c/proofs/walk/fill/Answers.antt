@@ -3,8 +3,9 @@ use Rattle.std.proofs.lemmas.List.{length-append}
 use Rattle.tlsf_heap.specs.declared.row.Row.{Row as HeapRow}
 use Rattle.tlsf_heap.specs.Cursors.{rest_of, stands_at}
 use Rattle.tlsf_c.specs.declared.row.Row.{Row}
-use Rattle.tlsf_c.specs.Rows.{filled, from_place}
-use Rattle.tlsf_c.proofs.FilledRows.{filled_next, filled_none}
+use Rattle.tlsf_c.specs.Rows.{row_for, from_place}
+use Rattle.tlsf_c.proofs.FilledRows.{filled, filled_next}
+use Rattle.tlsf_c.proofs.RoomLemmas.{placed_none}
 use Rattle.tlsf_c.proofs.FromPlace.{from_place_next, from_place_passed}
 use Rattle.tlsf_c.proofs.walk.fill.Goals as goal
 use Rattle.tlsf_c.proofs.walk.fill.Goals.{then-from-next, else-from-next}
@@ -15,7 +16,7 @@ loop-next-init c = record {
   whole = refl;
   count = refl;
   fewer = omega arith;
-  rows = sym (filled_none c.args.rows.now);
+  rows = sym (placed_none c.args.rows.now);
   stands = c.requires.stands;
   content = refl;
   same = refl;
@@ -51,9 +52,8 @@ loop-next-preserved c =
       ];
       rows = elim c.if-from-next.branch [
         | then-from-next w ↦ let is = from_place_next c.args.from kept.past item w.if-from-next.true in
-            w.rows-is ∙ w.put.ensures ∙ ap (λ (rows : List Row). slice_set rows c.loop-next.count w.of.result) kept.rows
-            ∙ ap (λ (index : ℕ). slice_set (filled put c.args.rows.now) index w.of.result) kept.count
-            ∙ ap (λ (row : Row). slice_set (filled put c.args.rows.now) (length put) row) w.of.ensures
+            w.rows-is ∙ w.put.ensures ∙ ap (λ (rows : List Row). slice_set rows c.loop-next.count (row_for item)) kept.rows
+            ∙ ap (λ (index : ℕ). slice_set (filled put c.args.rows.now) index (row_for item)) kept.count
             ∙ filled_next put item c.args.rows.now
             ∙ sym (ap (λ (rows : List HeapRow). filled rows c.args.rows.now) is)
         | else-from-next w ↦ let is = from_place_passed c.args.from kept.past item w.if-from-next.false in

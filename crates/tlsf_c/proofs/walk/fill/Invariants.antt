@@ -1,7 +1,8 @@
 use Rattle.std.proofs.Common.{◌≡◌, ◌+◌, ◌≤◌, List, ◌++◌, length}
 use Rattle.tlsf_heap.specs.declared.row.Row.{Row as HeapRow}
 use Rattle.tlsf_heap.specs.Cursors.{rest_of, stands_at}
-use Rattle.tlsf_c.specs.Rows.{filled, from_place}
+use Rattle.tlsf_c.specs.Rows.{from_place}
+use Rattle.tlsf_c.proofs.FilledRows.{filled}
 use Rattle.tlsf_c.proofs.walk.fill.Given as goal
 
 -- the rows put so far, and those to come, are all

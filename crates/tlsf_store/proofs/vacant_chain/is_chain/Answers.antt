@@ -4,7 +4,7 @@ use Rattle.std.proofs.lemmas.List.{get_or_default}
 use Rattle.tlsf_store.specs.declared.records.Record.{Record}
 use Rattle.tlsf_store.specs.Records.{blank, record_at, is_vacant}
 use Rattle.tlsf_store.specs.Table.{next_at, IsVacantAt}
-use Rattle.tlsf_store.specs.VacantChain.{IsChain}
+use Rattle.tlsf_store.specs.Table.{IsChain}
 use Rattle.tlsf_store.proofs.Chains.{chain_none, chain_begins, chain_follows}
 use Rattle.tlsf_store.proofs.vacant_chain.is_chain.Goals as goal
 
@@ -57,12 +57,12 @@ loop-followed-preserved c =
     let inside : c.index-in-loop-followed.result < length c.args.records.now = omega (arith, c.index-in-loop-followed.ensures) in
     let here = read_there c.args.records.now c.index-in-loop-followed.result slot c.index-records-index.result c.index-records-index.is c.index-in-loop-followed.ensures inside in
     let first : vacant slot = (within, ap (λ r. is_vacant r.state) (sym here) ∙ (sym c.is_vacant.ensures ∙ c.if-not-is_vacant.false)) in
-    let link : next slot ≡ c.next-next.result = ap (λ r. r.next) (sym here) ∙ sym c.next-next.ensures in
+    let link : next slot ≡ c.link_of-next.result = ap (λ r. r.next) (sym here) ∙ sym (c.link_of-next.ensures ∙ c.next_word.ensures) in
     let less : c.args.vacant - c.loop-followed._followed - 1 ≡ c.args.vacant - (c.loop-followed._followed + 1) = omega arith in
     let follows = chain_follows vacant next (c.args.vacant - c.loop-followed._followed) slot (omega arith) first in
     let before : IsChain vacant next (c.args.vacant - c.loop-followed._followed) (Some slot) ↔ IsChain vacant next c.args.vacant c.args.first =
     subst (λ v. IsChain vacant next (c.args.vacant - c.loop-followed._followed) v ↔ IsChain vacant next c.args.vacant c.args.first) c.in-Some.is c.loop-followed.invariant.chained in
-    let rest : IsChain vacant next (c.args.vacant - (c.loop-followed._followed + 1)) c.next-next.result ↔ IsChain vacant next (c.args.vacant - c.loop-followed._followed) (Some slot) =
+    let rest : IsChain vacant next (c.args.vacant - (c.loop-followed._followed + 1)) c.link_of-next.result ↔ IsChain vacant next (c.args.vacant - c.loop-followed._followed) (Some slot) =
     subst (λ v. IsChain vacant next (c.args.vacant - (c.loop-followed._followed + 1)) v ↔ IsChain vacant next (c.args.vacant - c.loop-followed._followed) (Some slot)) link
     (subst (λ n. IsChain vacant next n (next slot) ↔ IsChain vacant next (c.args.vacant - c.loop-followed._followed) (Some slot)) less follows) in
     record {

@@ -1,6 +1,6 @@
 use Rattle.std.proofs.Common.{◌≡◌, ◌+◌, ◌-◌, ◌↔◌}
 use Rattle.tlsf_store.specs.Table.{next_at, IsVacantAt}
-use Rattle.tlsf_store.specs.VacantChain.{IsChain}
+use Rattle.tlsf_store.specs.Table.{IsChain}
 use Rattle.tlsf_store.proofs.vacant_chain.is_chain.Given as goal
 
 -- what is left to follow is a chain exactly where all of it is

@@ -9,7 +9,7 @@ pub returns : goal.returns
 returns c =
     let at = c.self.inside in
     let same : slice_range at.bytes at.start at.end ≡ c.args.self.now.unread = ap (λ (buffer : Buffered). buffer.unread) c.self.view_is in
-    let P : List ℕ → Type 0 = λ bytes. BeginsFrequent bytes c.in-Some.frequent c.in-Some.len in
-    let found : P (slice_range at.bytes at.start at.end) = subst P (c.unread.ensures ∙ sym same) c.in-Some.ensures in
-    let taken = frequent-taken at.bytes at.start at.end c.in-Some.frequent c.in-Some.len found in
+    let P : List ℕ → Type 0 = λ bytes. BeginsFrequent bytes c.in_ok-frequent.frequent c.in_ok-frequent.len in
+    let found : P (slice_range at.bytes at.start at.end) = subst P (c.unread.ensures ∙ sym same) c.in_ok-frequent.ensures in
+    let taken = frequent-taken at.bytes at.start at.end c.in_ok-frequent.frequent c.in_ok-frequent.len found in
     ((taken.0.0, sym same ∙ taken.0.1), taken.1)

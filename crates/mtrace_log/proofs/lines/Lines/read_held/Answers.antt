@@ -9,10 +9,10 @@ pub returns-then-self : goal.returns-then-self
 returns-then-self g c =
     let left = (g.R.Source.shown c.args.reader.now).left in
     let some : 0 < length c.self.inside.buffer.unread = omega (arith, c.requires.some, ap (λ lines. length lines.held) c.self.view_is) in record {
+      line = tt;
+      end = tt;
       nothing_held = λ is. absurd (cc);
       whole = refl;
-      reads = (
-        (refl, ap (λ lines. lines.count) c.self.view_is, (ap (λ lines. lines.count) (sym c.self.view_is) ∙ c.if-self.true, ap (λ lines. to_come lines left) (sym c.self.view_is), has_more c.self.inside.buffer.unread left some)),
-        moved_none Gave (g.R.Source.shown c.args.reader.now).calls,
-      );
+      calls = λ _. moved_none Gave (g.R.Source.shown c.args.reader.now).calls;
+      fault = rw c.requires.reading (refl, ap (λ lines. lines.count) c.self.view_is, (ap (λ lines. lines.count) (sym c.self.view_is) ∙ c.if-self.true, ap (λ lines. to_come lines left) (sym c.self.view_is), has_more c.self.inside.buffer.unread left some));
     }

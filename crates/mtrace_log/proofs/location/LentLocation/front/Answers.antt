@@ -11,10 +11,10 @@ returns-then-end-eq0 c = λ place rest is same.
     let short = is.short in
     elim c.then-end-eq0.either [ inl h ↦ omega arith | inr h ↦ omega arith ]
 
-pub returns-in_default : goal.returns-in_default
-returns-in_default c = λ place rest is same.
+pub returns-in_err-rest : goal.returns-in_err-rest
+returns-in_err-rest c = rw c.from_residual.ensures (λ place rest is same.
     let end = location-end c.args.bytes.now place rest c.location_end-end.result c.location_end-end.ensures.within c.location_end-end.ensures.allowed c.location_end-end.ensures.ended is.allowed same in
-    c.in_default.ensures rest (location-cut c.args.bytes.now place rest c.location_end-end.result end same)
+    c.in_err-rest.ensures rest (location-cut c.args.bytes.now place rest c.location_end-end.result end same))
 
 is_location : (bytes : List ℕ) (end : ℕ) → end ≤ length bytes → ((k : ℕ) → k < end → IsLocationByte (get_or bytes k 0)) → end ≢ 0 → end ≤ 255 → IsLocation (take end bytes)
 is_location bytes end within allowed some short =
@@ -28,5 +28,5 @@ pub returns : goal.returns
 returns c = (
   is_location c.args.bytes.now c.location_end-end.result c.location_end-end.ensures.within c.location_end-end.ensures.allowed c.if-end-eq0.false c.if-end-gt-LONGEST_LOCATION.false,
   sym (take-append-drop c.location_end-end.result c.args.bytes.now)
-      ∙ ap (λ rest. take c.location_end-end.result c.args.bytes.now ++ rest) (sym (take_rest c.args.bytes.now c.location_end-end.result) ∙ c.in-Some.ensures),
+      ∙ ap (λ rest. take c.location_end-end.result c.args.bytes.now ++ rest) (sym (take_rest c.args.bytes.now c.location_end-end.result) ∙ c.in_ok-rest.ensures),
 )

@@ -14,7 +14,7 @@ use denote.Triple.Entry.{alive}
 use denote.Triple.Walked.{walk_of}
 use Rattle.std.proofs.raw_atomic.Walks.{proved, leaves}
 use Rattle.tlsf_c.proofs.Values.{one_field, made_zeros}
-use Rattle.tlsf_c.specs.Zeros.{zeros as none}
+use Rattle.tlsf_c.specs.Creation.{zeros as none}
 use Rattle.tlsf_c.specs.contracts.made.Made.zeros as f
 use Rattle.tlsf_c.proofs.made.Made.zeros.Statement.{statement}
 use Rattle.tlsf_c.proofs.made.Made.zeros.Code as code

@@ -20,8 +20,7 @@ use denote.Shadow.{pure_i}
 use denote.Triple.Entry.{on_entry, alive}
 use denote.Triple.Spec.{Meets, triple_of}
 use denote.Triple.Table.{entered}
-use Rattle.core.proofs.mem.Facts.{says_two}
-use denote.Triple.Walked.{Stays, walk_of, Walks, ends_at, walked, walk_Meets}
+use denote.Triple.Walked.{says, Stays, walk_of, Walks, ends_at, walked, walk_Meets}
 use Rattle.tlsf_c.specs.contracts.window_trace.WindowTrace.new.Key.{name as key}
 use Rattle.tlsf_c.specs.contracts.window_trace.WindowTrace.new as f
 use Rattle.tlsf_c.proofs.window_trace.WindowTrace.new.Statement as stated
@@ -43,7 +42,7 @@ module _ {M : Type 1} {𝓤 : Ura M} (𝓛 : Logic 𝓤) (mem : Memory → SProp
       alloc_all ! (λ l. pass_all ! refl tt $ sets ! (agg ! (no_more !)) refl (tt, tt) $
       returns ! (look_at ! 0 refl) $ free_all ! refl $
       suffices ! _ (ends_at 𝓛 f.ended stayed (f.clauses 𝓛 mem run) bound (vstruct vnil) (record { calls = []; bytes = [] }) tt tt) $
-      says_two ! (refl, refl) $ pure_i ! (made.the_row.own_val (record { calls = []; bytes = [] }) (vstruct vnil ∷ [])) ((λ vss. (tt, tt)), tt) ((tt, (refl, tt)), tt) $
+      says ! refl $ pure_i ! (made.the_row.own_val (record { calls = []; bytes = [] }) (vstruct vnil ∷ [])) ((λ vss. (tt, tt)), tt) ((tt, (refl, tt)), tt) $
       move ! (1 ∷ 2 ∷ 0 ∷ []) $ done !)
 
   walks : Walks 𝓛 f.ended stayed (WpFn 𝓤 H C Λ code.function) (f.clauses 𝓛 mem run)

@@ -2,7 +2,7 @@
 -- and the region itself is lent on. Assumes `Logic`.
 use Rattle.std.specs.Prelude.{◌==◌}
 use Rattle.std.proofs.raw_atomic.Walks.{proved}
-use Rattle.std.proofs.Common.{◌≡◌, ℕ, ◌+◌, ◌≤◌, ◌<◌, List, [], ◌∷◌, length, false, refl, sym, ap, ◌∙◌, lit<, w32, MutBor, arith, Some, None, Ok}
+use Rattle.std.proofs.Common.{◌≡◌, ℕ, ◌+◌, ◌≤◌, ◌<◌, List, [], ◌∷◌, length, false, refl, sym, ap, ◌∙◌, lit<, w32, MutBor, arith, Some, None}
 use base.Fraction.{full_share}
 use base.Logic.{emp, id⊢}
 use base.Fml.{ftrue, flft, fres}
@@ -36,10 +36,9 @@ use denote.Triple.Table.{framed}
 use Rattle.std.specs.contracts.option.Option as Opt
 use Rattle.std.proofs.RcSteps.{Some-of, none_of}
 use Rattle.tlsf_heap.specs.Content.{blocks_of}
-use Rattle.tlsf_heap.specs.BlockSize.{block_size}
 use Rattle.tlsf_heap.specs.Free.{is_live}
-use Rattle.tlsf_region.specs.Region.{WasRead}
-use Rattle.tlsf_region.specs.Bytes.{block_bytes}
+use Rattle.tlsf_region.specs.Region.{Reads}
+use Rattle.tlsf_region.specs.Bytes.{IsSizeOf, block_bytes}
 use Rattle.tlsf_region.specs.Lends.{lends_block, written}
 use Rattle.tlsf_region.proofs.Sizes.{size_is}
 use Rattle.tlsf_region.proofs.Loans.{none_lent, some_lent, is_some, is_none, written_bytes, live_bytes_are, live_bytes_none}
@@ -83,11 +82,11 @@ bytes_mut_spec 𝓤 𝓛 𝓜 𝓡 wired =
     calls_at ! (framed 𝓤 𝓛.H 𝓜 𝓣) G (lent_len_met 𝓤 𝓛 𝓜 𝓡 (code.calls-tlsf_region::region::Region::lent_len 𝓡.env wired)) z
     (and_then ! (get ! refl) (and_then ! (get ! refl) (no_more !))) (λ v.
     use1 𝓛 (later (some (λ (n : ℕ). ((‵ (flft (α ∷ []) full_share) ⊛ ‵ ftrue) ⊛ ‵ (u32.own_val n (v ∷ []))) ⊛ some (λ (ws : Lasts g.ended z.0.0 z.0.3). ‵ (lasts g.ended z.0.0 z.0.3 ws)
-    ⊛ raw (fact 𝓤 (0 < n → block_size (λ slot. slot == p.slot) p.place s.now.content ≡ Ok n)) ⊛ raw (fact 𝓤 (0 < n → p.place + n ≤ length s.now.bytes))
-    ⊛ raw (fact 𝓤 (n ≡ 0 → is_live (λ slot. slot == p.slot) p.place (blocks_of s.now.content.pools) ≡ false)) ⊛ raw (fact 𝓤 (WasRead 1 s.now ws.0)) ⊛ raw (fact 𝓤 (ws.0.bytes ≡ s.now.bytes)))))) (id⊢ 𝓤 _) $
+    ⊛ raw (fact 𝓤 (0 < n → IsSizeOf p n s.now.content s.now.bytes))
+    ⊛ raw (fact 𝓤 (n ≡ 0 → is_live (λ slot. slot == p.slot) p.place (blocks_of s.now.content.pools) ≡ false)) ⊛ raw (fact 𝓤 (Reads 1 s.now ws.0)))))) (id⊢ 𝓤 _) $
     await ! tt $ pick ! (λ n. split ! $ split ! $ split ! $ lft_end ! tt $ move ! (2 ∷ []) $ fsplit ! $ feq_l ! (λ is_n. flt_l ! (λ fits.
     lands_as ! (ap only is_n) refl (tt, record { fits = fits }) $
-    move ! (2 ∷ []) $ pick ! (λ ws. split ! $ move ! (1 ∷ []) $ split ! $ heard ! _ (λ told. split ! $ heard ! _ (λ within. split ! $ heard ! _ (λ stale. split ! $ heard ! _ (λ read. heard ! _ (λ same.
+    move ! (2 ∷ []) $ pick ! (λ ws. split ! $ move ! (1 ∷ []) $ split ! $ heard ! _ (λ told. split ! $ heard ! _ (λ stale. heard ! _ (λ read.
     fsplit ! $ fsplit ! $
     -- [the loan's last value; its borrow; of the pointer; α is over; nothing; the pointer; what the lender keeps]
     move ! (3 ∷ 6 ∷ 0 ∷ []) $ use3 𝓛 (later (‵ (Ref κ (record s { now = ws.0 })) ⊛ ‵ (flft κ q))) (comes_back 𝓛 R (named 0) κ (α ∷ []) q s.ghost_name b o δ s.now ws.0) $ await ! tt $ split ! $
@@ -95,7 +94,7 @@ bytes_mut_spec 𝓤 𝓛 𝓜 𝓡 wired =
     first ! $ branches ! (get ! refl)
     (λ none. sets ! (agg ! (and_then ! (lit ! tt) (no_more !))) refl (tt, (record { fits = lit< tt }, tt)) $
     fsplit3 ! $ move ! (1 ∷ []) $ use1 𝓛 (‵ (fres s.ghost_name (R.coded.code ws.0))) (𝓛.names.obs-res s.ghost_name (R.coded.code ws.0)) $
-    use1 𝓛 (‵ (lends_block s p None)) (none_lent 𝓛 R (Array u8 0) s.ghost_name _ _ ws.0 (λ last. tt) (read, same)) $
+    use1 𝓛 (‵ (lends_block s p None)) (none_lent 𝓛 R (Array u8 0) s.ghost_name _ _ ws.0 (λ last. tt) read) $
     use0 𝓛 (‵ ((Opt.the_row (MutSlice (named 0) κ u8)).own_val None (live 0 vnil ∷ []))) (none_of 𝓛 (MutSlice (named 0) κ u8)) $
     -- [no slice; what is lent; two parts of self; the token of κ]
     returns_within ! (W.post y) refl (look_at ! 0 refl) $ free_all ! refl $ keep ! (0 ∷ 4 ∷ 1 ∷ []) $
@@ -106,7 +105,7 @@ bytes_mut_spec 𝓤 𝓛 𝓜 𝓡 wired =
     sets ! (addr ! (through ! refl (stop !))) refl (tt, tt) $
     move ! (5 ∷ []) $ owned ! u32 _ (uint_Makes 𝓛 w32) n (vint w32 n ∷ []) (refl, fits) $ nothing ! $ move ! (1 ∷ 0 ∷ []) $ join ! $ move ! (1 ∷ 0 ∷ []) $ join ! $ move ! (1 ∷ 0 ∷ []) $ join ! $
     nothing ! $ move ! (2 ∷ 0 ∷ []) $ join ! $ join ! $
-    let room : p.place + n ≤ length ws.0.bytes = omega (arith, within any, ap length same) in
+    let room : p.place + n ≤ length ws.0.bytes = omega (arith, (told any).within, ap length read.bytes) in
     use0 𝓛 (raw (fact 𝓤 (p.place + n ≤ length ws.0.bytes))) (fact_i 𝓤 _ (emp 𝓤) room) $ move ! (1 ∷ 0 ∷ []) $
     let F = triple_of 𝓛 h.signature (h.spec 𝓛 𝓜.mem 𝓡.returns) in
     let x : F.Ghost = ((κs, qs, tt, (record s { now = ws.0 }, (p, (n, tt))), (vs, (us, (vint w32 n ∷ [], tt)))), tt) in
@@ -123,12 +122,13 @@ bytes_mut_spec 𝓤 𝓛 𝓜 𝓡 wired =
     -- [the slice; the token of κ; nothing; what is lent]
     move ! (3 ∷ []) $ pick ! (λ ws'. split ! $ move ! (1 ∷ []) $ split ! $ move ! (1 ∷ []) $ heard ! _ (λ now.
     use1 𝓛 (‵ (lends_block s p (Some r))) (some_lent 𝓛 R (Array u8 0) s.ghost_name _ _ r.ghost_name (written p.place ws.0) ws.0 (λ last. (
-      record { content = read.content; rows = read.rows; floor = read.floor; bound = read.bound },
-      (λ long. written_bytes p.place n last s.now ws.0 same (within any) (long ∙ (size_is p s.now.content n (told any)).1)),
-    )) (read, same)) $
+      record { content = read.unchanged.content; rows = read.unchanged.rows },
+      read.bound,
+      (λ long. written_bytes p.place n last s.now ws.0 read.bytes (told any).within (long ∙ (size_is p s.now.content n (told any).told).1)),
+    )) read) $
     sets ! (agg ! (and_then ! (lit ! tt) (and_then ! (get ! refl) (no_more !)))) refl (tt, (record { fits = lit< tt }, ((tt, (record { fits = is.0.1.0 }, tt)), tt))) $
     -- [what is lent; what lasts; the slice; the token of κ]
     move ! (2 ∷ []) $ use1 𝓛 (‵ ((Opt.the_row Lent).own_val (Some r) (live 1 (vcons w vnil) ∷ []))) (Some-of 𝓛 Lent r w) $
     returns ! (look_at ! 0 refl) $ free_all ! refl $ keep ! (0 ∷ 3 ∷ 1 ∷ []) $
     suffices ! _ (ends_at 𝓛 f.ended stayed c y (live 1 (vcons w vnil)) (Some r) (tt, (tt, tt)) (tt, (tt, tt))) $
-    nothing ! $ nothing ! $ fjoin ! $ nothing ! $ fjoin ! $ join ! $ nothing ! $ move ! (2 ∷ 0 ∷ []) $ join ! $ join ! $ frame ! $ says ! (ap Some (now ∙ ap (λ bytes. block_bytes p.place n bytes) same) ∙ sym (live_bytes_are p n s.now.content s.now.bytes (told any))) $ done !))))))))))))))))))))
+    nothing ! $ nothing ! $ fjoin ! $ nothing ! $ fjoin ! $ join ! $ nothing ! $ move ! (2 ∷ 0 ∷ []) $ join ! $ join ! $ frame ! $ says ! (ap Some (now ∙ ap (λ bytes. block_bytes p.place n bytes) read.bytes) ∙ sym (live_bytes_are p n s.now.content s.now.bytes (told any).told)) $ done !))))))))))))))))))

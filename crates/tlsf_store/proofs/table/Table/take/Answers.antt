@@ -23,7 +23,7 @@ invariant_of-self c =
     let within : c.from-index.result < length items = omega (arith, taken.within, shown_length items c.args.self.now c.self.view_is, c.from-index.ensures) in
     let is : c.index.result.now ≡ record_at items slot =
     c.index.ensures ∙ (get_or_default items c.from-index.result c.index.result.now blank within ∙ ap (λ v. record_at items v) c.from-index.ensures) in
-    rw (c.from-index.ensures, c.free.ensures, c.next_word-self-inside.ensures ∙ ap (λ v. v.next) is)
+    rw (c.from-index.ensures, (c.pack.ensures ∙ c.blank.ensures), c.next_word-self-inside.ensures ∙ ap (λ v. v.next) is)
     (record {
       exact = c.self.invariant.exact;
       fits = omega (arith, c.self.invariant.fits, length-set items slot (blank_in Free));
@@ -33,4 +33,4 @@ invariant_of-self c =
 pub returns : goal.returns
 returns c =
     let taken : Taken c.self.inside.items.items c.args.self.now c.self.inside.first c.self.inside.vacant = taking c in
-    (taken.within, taken.was, rw (c.from-index.ensures, c.free.ensures) taken.changed.view)
+    (taken.within, taken.was, rw (c.from-index.ensures, (c.pack.ensures ∙ c.blank.ensures)) taken.changed.view)

@@ -1,5 +1,5 @@
 use Rattle.std.proofs.Common.{◌≡◌, replicate, vec_capacity}
-use Rattle.tlsf_region.proofs.zeros.zeros.Given as goal
+use Rattle.tlsf_region.proofs.region.Region.create.Given as goal
 
 abbrev pub invariant-loop-done : goal.invariant-loop-done
 invariant-loop-done l =
