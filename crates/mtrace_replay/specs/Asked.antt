@@ -1,10 +1,10 @@
 -- What lines ask the lists of the heap for, by the lowest size of the class.
-use Rattle.std.specs.Prelude.{ℕ, max, List, [], ◌∷◌, length, Option, Some, None, Ok, if◌then◌else◌}
+use Rattle.std.specs.Prelude.{ℕ, max, List, [], ◌∷◌, Option, Some, None, Ok, if◌then◌else◌}
 use Rattle.tlsf_class.specs.Classes.{unit}
 use Rattle.tlsf_heap.specs.Sizing.{class_size}
 use Rattle.mtrace_log.specs.declared.event.Event.TheVariants.{Alloc, New, Aligned}
 use Rattle.mtrace_replay.specs.Started.{Bare}
-use Rattle.mtrace_replay.specs.Moment.{ReadLine, Moment, asked_size, moment}
+use Rattle.mtrace_replay.specs.Moment.{ReadLine, asked_size}
 use Rattle.mtrace_replay.specs.History.{next_moment, moments}
 use Rattle.mtrace_replay.specs.Totals.{is_served}
 

@@ -2,13 +2,7 @@
 use Rattle.std.specs.Prelude.{◌≡◌, ℕ, ◌+◌, ◌<◌, ◌≤◌, ◌==◌}
 use Rattle.mtrace_replay.specs.declared.key.Standing.{Standing}
 
--- 1 where the first is at most the second, else 0
-pub record Reaches (first second answer : ℕ) : Type 0 where
-  pub one_or_none : answer ≤ 1
-  pub reaches : answer ≡ 1 → first ≤ second
-  pub above : answer ≡ 0 → second < first
-
--- one comparison of two addresses, which was counted
+-- One comparison of two addresses, which was counted: 1 where the own one is at most the other, else 0.
 pub record StandsTo (own other : ℕ) (standing : Standing) (counted_old counted_new : ℕ) : Type 0 where
   pub one_or_none : standing.reaches ≤ 1
   pub reaches : standing.reaches ≡ 1 → own ≤ other

@@ -1,7 +1,6 @@
 //! What is held, by address.
 
 ghost use Rattle.std.specs.Prelude.{◌≡◌, ◌≢◌, ℕ, ◌+◌, ◌<◌, ◌≤◌, ◌^◌, option_map, option_to_list, [], length, map, None, Some, IfOk, if◌then◌else◌, ◌==◌, is_some, true};
-ghost use Rattle.mtrace_replay.specs.Keys.{Rows};
 ghost use Rattle.mtrace_replay.specs.Key.{holding_of, IsRow};
 ghost use Rattle.mtrace_replay.specs.Index.{held_at, held_bytes, held_rounded, AreInOrder, LooksUp, FindsAddress, TellsWhether, Counts, IsFound, IsNewSlot};
 

@@ -1,7 +1,7 @@
 //! A key of the index: an address, and the block that it is held under, if it is.
 
 ghost use Rattle.std.specs.Prelude.{◌≡◌, None, not, is_some};
-ghost use Rattle.mtrace_replay.specs.Compare.{Reaches, StandsTo};
+ghost use Rattle.mtrace_replay.specs.Compare.{StandsTo};
 
 use mtrace_log::Addr;
 use tlsf_heap::Ptr;

@@ -1,6 +1,6 @@
 //! The runs that write the reports of a log.
 
-ghost use Rattle.std.specs.Prelude.{◌≡◌, ◌+◌, ◌++◌, false, [], IfOk, if◌then◌else◌};
+ghost use Rattle.std.specs.Prelude.{◌≡◌, ◌+◌, ◌++◌, false, [], IfOk};
 ghost use Rattle.mtrace_log.specs.Output.{Puts};
 ghost use Rattle.mtrace_replay.specs.Texts.{diagnostics_text, report_text};
 ghost use Rattle.mtrace_replay.specs.Replay.{entries};

@@ -1,7 +1,7 @@
 //! How much memory is always enough for a program, without a log of it.
 
 ghost use Rattle.std.specs.Prelude.{◌≡◌, ◌<◌};
-ghost use Rattle.mtrace_replay.specs.Size.{align_of, are_bad_bounds, blocks_bytes, size_text, RunsSize};
+ghost use Rattle.mtrace_replay.specs.Size.{align_of, blocks_bytes, size_text, RunsSize};
 
 use crate::fit_text::{push_records, push_size_line};
 use crate::flush::flush_behind;
