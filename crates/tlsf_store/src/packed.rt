@@ -5,6 +5,7 @@ ghost use Rattle.tlsf_class.specs.Classes.{unit};
 ghost use Rattle.tlsf_store.specs.declared.records.State.TheVariants.{Vacant};
 ghost use Rattle.tlsf_store.specs.Records.{most_records, blank, is_vacant, IsBelow, IsKept};
 ghost use Rattle.tlsf_store.specs.Slots.{link_of};
+ghost use Rattle.tlsf_store.specs.Table.{seen};
 
 use super::slots::{MISSING, link_of, link_word};
 use super::{Record, Slot, State};
@@ -70,6 +71,16 @@ impl Packed {
             prev_free: link_of(self.prev_free),
             next_free: link_of(self.next_free),
         }
+    }
+
+    /// The record as callers see it: a vacant one holds nothing, whatever links it to the next.
+    pub(crate) fn unpack(&self) -> Record
+        ensures { result ≡ seen self.now }
+    {
+        if self.is_vacant() {
+            return Record::blank(State::Vacant);
+        }
+        self.unpack_used()
     }
 
     /// A vacant record, with the word of the link to the next vacant one.

@@ -97,11 +97,7 @@ impl Table {
         ensures kept { IsKept (length self.now) result }
         ensures vacant { result.state ≡ Vacant → result ≡ blank }
     {
-        let item = &self.items[slot.index()];
-        if item.is_vacant() {
-            return Record::blank(State::Vacant);
-        }
-        item.unpack_used()
+        self.items[slot.index()].unpack()
     }
 
     /// The record of a slot that isn't vacant.
