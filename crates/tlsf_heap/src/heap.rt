@@ -349,6 +349,7 @@ impl Heap {
     /// that class alone. Each block is of a pool, and each free one in a list. The bitmaps agree with the lists. Each
     /// vacant record is once on the chain of vacant records. Those are the rules that an image is tested by, the
     /// bitmaps and that chain. There are more touches than records.
+    #[tactic(auto, using(crate::proofs::Images::Whole::stand_whole, crate::proofs::Inner::Followed::records_are))]
     pub fn check(&mut self) -> bool
         ensures whole { result ≡ true }
         ensures unchanged { IsUnchanged self.old self.new }

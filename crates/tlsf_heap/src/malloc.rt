@@ -34,9 +34,7 @@ pub(crate) fn malloc(store: &mut Store, n: u64) -> Result<Ptr, Refusal>
     if n == 0 {
         return Err(Refusal::ZeroSize);
     }
-    let Some(asked) = round(n) else {
-        return Err(Refusal::NoFit);
-    };
+    let asked = round(n).ok_or(Refusal::NoFit)?;
     allocate(store, asked)
 }
 
@@ -50,9 +48,7 @@ pub(crate) fn allocate(store: &mut Store, asked: u32) -> Result<Ptr, Refusal>
     requires size { IsSize asked }
     ensures { AnswersOver result (IsServed (λ slot. malloc_rounded slot (Some asked))) (λ refusal old. (slot : ℕ) → malloc_rounded slot (Some asked) old ≡ Err refusal) malloc_touches store.old store.new }
 {
-    let Some((class, slot)) = pick(store, asked) else {
-        return Err(Refusal::NoFit);
-    };
+    let (class, slot) = pick(store, asked).ok_or(Refusal::NoFit)?;
     take(store, class, slot, asked)
 }
 

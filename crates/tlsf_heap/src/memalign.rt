@@ -41,13 +41,9 @@ pub(crate) fn memalign(store: &mut Store, align: u64, n: u64) -> Result<Ptr, Ref
     if n == 0 {
         return Err(Refusal::ZeroSize);
     }
-    let Some(asked) = round(n) else {
-        return Err(Refusal::NoFit);
-    };
+    let asked = round(n).ok_or(Refusal::NoFit)?;
     let align = align as u32;
-    let Some((class, slot)) = pick(store, size_asked(align, asked)) else {
-        return Err(Refusal::NoFit);
-    };
+    let (class, slot) = pick(store, size_asked(align, asked)).ok_or(Refusal::NoFit)?;
     split_aligned(store, class, slot, align, asked)
 }
 

@@ -42,9 +42,7 @@ pub(crate) fn realloc(store: &mut Store, ptr: Option<Ptr>, n: u64) -> Result<Opt
     let Some(block) = live(store, ptr) else {
         return Err(Refusal::BadPointer);
     };
-    let Some(asked) = round(n) else {
-        return Err(Refusal::NoFit);
-    };
+    let asked = round(n).ok_or(Refusal::NoFit)?;
     let given = resize(store, ptr, Span::of(Slot(ptr.slot()), &block), asked)?;
     Ok(Some(given))
 }

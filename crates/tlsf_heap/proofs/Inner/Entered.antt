@@ -10,7 +10,7 @@ use Rattle.tlsf_store.specs.Cells.{Cells, head_at}
 use Rattle.tlsf_class.specs.Classes.{class}
 use Rattle.tlsf_store.specs.declared.pools.Pool.{Pool as StoredPool}
 use Rattle.tlsf_heap.specs.Inner.Edits.{IsUsed}
-use Rattle.tlsf_heap.specs.Inner.Entries.{entries_of, with_entry, free_record, pool_entered, pool_put}
+use Rattle.tlsf_heap.specs.Inner.Entries.{entries_of}
 use Rattle.tlsf_heap.specs.Inner.Nodes.{Node, Area, Layout, Listed, turned, entered, pool_node, area_of_one, entries_in, with_area, pool_laid}
 use Rattle.tlsf_heap.specs.Inner.Positions.{plug, Position}
 use Rattle.tlsf_heap.specs.Inner.Represents.{Represents}
@@ -20,7 +20,7 @@ use Rattle.tlsf_heap.proofs.Inserted.{map-inserted}
 use Rattle.tlsf_heap.proofs.Content.FreeLists.{times-cons}
 use Rattle.tlsf_heap.proofs.Inner.Used.{stands_used, head_used}
 use Rattle.tlsf_heap.proofs.Inner.Linked.{linked_laid}
-use Rattle.tlsf_heap.proofs.Inner.PoolMoves.{pool_enters}
+use Rattle.tlsf_heap.proofs.Inner.PoolMoves.{pool_enters, with_entry, free_record, pool_entered, pool_put}
 
 -- where the entry's area will stand: the areas in front of it, nearest first, and those behind
 pub record Place (entry : StoredPool) (passed areas : List Area) : Type 0 where

@@ -1,13 +1,12 @@
 -- A pool of one block, which is in no list, enters and leaves.
-use Rattle.std.proofs.Common.{◌≡◌, ℕ, ◌+◌, ◌≤◌, Bool, false, ◌&&◌, List, [], ◌∷◌, set, refl, sym, ap, ◌∙◌, subst, arith, count_by, inl, inr}
+use Rattle.std.proofs.Common.{◌≡◌, ℕ, ◌+◌, ◌≤◌, Bool, false, ◌&&◌, List, [], ◌∷◌, set, refl, sym, ap, ◌∙◌, subst, arith, count_by, inl, inr, None}
 use Rattle.std.proofs.lemmas.Bool.{cases_eq, eq-eqb, ne_eqb}
 use Rattle.std.proofs.lemmas.List.{length-set}
 use Rattle.tlsf_store.specs.declared.records.Record.{Record}
 use Rattle.tlsf_store.specs.Records.{blank, record_at}
-use Rattle.tlsf_store.specs.Cells.{Cells}
+use Rattle.tlsf_store.specs.Cells.{Cells, with_record}
 use Rattle.tlsf_store.proofs.RecordLaws.{record_at-set_same, record_at-set_other}
 use Rattle.tlsf_store.specs.declared.pools.Pool.{Pool as StoredPool}
-use Rattle.tlsf_heap.specs.Inner.Entries.{free_record, pool_put, pool_dropped}
 use Rattle.tlsf_heap.specs.Good.{times}
 use Rattle.tlsf_heap.specs.Inner.Nodes.{Node, Area, has_slot, nodes_of, nodes_in, is_listed, is_listed_in, pool_node, area_of_one, entries_in}
 use Rattle.tlsf_heap.specs.Inner.Positions.{plug, Position}
@@ -17,6 +16,31 @@ use Rattle.tlsf_heap.proofs.Inner.Plugs.{all_parts, all_plugged, count-nodes, co
 use Rattle.tlsf_heap.proofs.Content.FreeLists.{times-cons}
 use Rattle.tlsf_heap.proofs.Inner.Chains.{uses_most, used_below, chains_same, unlisted, unlisted_nowhere, index_same, listed_within, AtNode, at_node}
 use Rattle.tlsf_heap.proofs.Inner.Taken.{counted_apart}
+use Rattle.tlsf_class.specs.Classes.{class}
+use Rattle.tlsf_store.specs.declared.records.State.TheVariants.{Free}
+use Rattle.tlsf_heap.specs.Pools.{inserted}
+use Rattle.tlsf_heap.specs.Inner.Edits.{linked}
+use Rattle.tlsf_heap.specs.Inner.Entries.{entries_of, with_entries}
+
+-- the entries in order of base, with this one among them
+abbrev pub with_entry : StoredPool → List StoredPool → List StoredPool
+with_entry entry entries = inserted (λ e. e.base) entry entries
+
+-- the record of a free block without neighbours
+abbrev pub free_record : ℕ → ℕ → Record
+free_record place size = record { place = place; size = size; state = Free; prev = None; next = None; prev_free = None; next_free = None }
+
+-- these are the entries, and the entry's first slot is of the pool's one free block, which is in no list
+abbrev pub pool_put : StoredPool → List StoredPool → Cells → Cells
+pool_put entry entries cells = with_entries entries (with_record cells entry.first (free_record entry.base entry.bytes))
+
+-- the entry's pool is one free block, first in its class's list
+abbrev pub pool_entered : StoredPool → Cells → Cells
+pool_entered entry cells = linked (class entry.bytes) entry.first (pool_put entry (with_entry entry (entries_of cells.pools)) cells)
+
+-- these are the entries, and the slot is vacant
+abbrev pub pool_dropped : ℕ → List StoredPool → Cells → Cells
+pool_dropped slot entries cells = with_entries entries (with_record cells slot blank)
 
 module _ (cells : Cells) (count : ℕ) (front behind : List Area) (lists : List (List Node)) (entry : StoredPool) (taken : List ℕ)
     (was : Represents cells (record { count = count; areas = plug front behind; lists = lists; taken = entry.first ∷ taken })) where

@@ -15,7 +15,7 @@ use Rattle.tlsf_heap.specs.Content.{Block, Pool, Content}
 use Rattle.tlsf_heap.specs.Lists.{unlink}
 use Rattle.tlsf_heap.specs.Good.{AreGoodPools, IsGood}
 use Rattle.tlsf_heap.specs.Pools.{is_based, is_unused, without_pool, remove_found, remove_pool}
-use Rattle.tlsf_heap.specs.Inner.Entries.{entries_of, padded, pool_dropped}
+use Rattle.tlsf_heap.specs.Inner.Entries.{entries_of, padded}
 use Rattle.tlsf_heap.specs.Inner.Nodes.{InUse, Listed, Node, Area, turned, left, has_slot, nodes_of, block_of, pool_of, content_by, entries_in}
 use Rattle.tlsf_heap.specs.Inner.Positions.{plug, Position, filled, is_loose}
 use Rattle.tlsf_heap.specs.Inner.Represents.{IsChain, pool_views, first_slot, Represents}
@@ -28,7 +28,7 @@ use Rattle.tlsf_heap.proofs.Inner.Followed.{content_is, stood_for}
 use Rattle.tlsf_heap.proofs.Inner.Live.{NodeAt, at_found, found_laid, found_stands, found_listed, node_agrees_once}
 use Rattle.tlsf_heap.proofs.Inner.Located.{Located}
 use Rattle.tlsf_heap.proofs.Inner.Standing.{entries_are, content_is_good}
-use Rattle.tlsf_heap.proofs.Inner.PoolMoves.{pool_leaves}
+use Rattle.tlsf_heap.proofs.Inner.PoolMoves.{pool_leaves, pool_dropped}
 use Rattle.tlsf_heap.proofs.Meaning.Places.{alike, by_places, places-left}
 
 -- a pool is found and unused, or in use

@@ -8,14 +8,15 @@ use Rattle.tlsf_heap.specs.Content.{Content}
 use Rattle.tlsf_store.specs.Records.{record_at}
 use Rattle.tlsf_heap.specs.Inner.Edits.{linked, unlinked_by}
 use Rattle.tlsf_heap.specs.Inner.Spans.{span_of, split_by}
-use Rattle.tlsf_heap.specs.Inner.Entries.{pool_entered}
 use Rattle.tlsf_heap.specs.Free.{after_free}
 use Rattle.tlsf_heap.specs.Malloc.{malloc}
 use Rattle.tlsf_heap.specs.Pools.{created, with_pool}
 use Rattle.std.specs.Prelude.{Ok}
 use Rattle.tlsf_heap.specs.Inner.Nodes.{Node, Layout, InUse, Listed, content_by, nodes_in, left, entered}
-use Rattle.tlsf_heap.specs.Inner.Positions.{Position, filled, laid, freed_layout}
+use Rattle.tlsf_heap.specs.Inner.Positions.{Position, filled, laid}
 use Rattle.tlsf_heap.specs.Inner.Represents.{pool_views, list_views, in_pool, in_list, AreLinked, first_slot}
+use Rattle.tlsf_heap.proofs.Inner.PoolMoves.{pool_entered}
+use Rattle.tlsf_heap.proofs.Meaning.Freed.{freed_layout}
 
 -- a pool of 1024 bytes in a store of 4 records
 abbrev entry : StoredPool

@@ -7,8 +7,8 @@ use Rattle.tlsf_heap.specs.Content.{Block, Pool, Content}
 use Rattle.tlsf_heap.specs.Lists.{link}
 use Rattle.tlsf_heap.specs.Free.{if_free, unlink_block, size_of, start_of, free_block, after_free}
 use Rattle.tlsf_heap.specs.Good.{IsGood}
-use Rattle.tlsf_heap.specs.Inner.Nodes.{NodeState, InUse, Listed, Loose, Node, turned, owner_of, block_of, pool_of, content_by, is_listed}
-use Rattle.tlsf_heap.specs.Inner.Positions.{Position, filled, laid, is_loose, listed_first, past, left_by, merged_with_front, merged_with_behind, position_past, merged_node, freed_layout}
+use Rattle.tlsf_heap.specs.Inner.Nodes.{NodeState, InUse, Listed, Loose, Node, turned, owner_of, block_of, pool_of, content_by, is_listed, Layout, entered}
+use Rattle.tlsf_heap.specs.Inner.Positions.{Position, filled, laid, is_loose, listed_first, past, left_by, merged_with_front, merged_with_behind, position_past}
 use Rattle.tlsf_heap.proofs.Counts.{one_if, count-cons}
 use Rattle.tlsf_heap.proofs.Inner.Lists.{length-left}
 use Rattle.tlsf_heap.proofs.Meaning.BlockPositions.{filled_pools}
@@ -16,6 +16,16 @@ use Rattle.tlsf_heap.proofs.Meaning.Places.{block_position, pools_are, AgreeOnce
 use Rattle.tlsf_heap.proofs.Meaning.NodeBlocks.{first_block}
 use Rattle.tlsf_heap.proofs.Meaning.FreeFirst.{past_free, free_first, merged_of}
 use Rattle.tlsf_heap.proofs.Meaning.FreedIsGood.{after_is}
+
+-- the loose node that is left of a node and those beside it
+abbrev pub merged_node : Position → Node → List Node → Node
+merged_node position node nodes = merged_with_behind (listed_first nodes) (merged_with_front (listed_first position.before) (turned Loose node))
+
+-- the layout after the node at the position was freed: one listed node is left of it and those beside it
+abbrev pub freed_layout : ℕ → Position → Node → List Node → List (List Node) → List ℕ → Layout
+freed_layout count position node nodes lists taken =
+    let merged = turned Listed (merged_node position node nodes) in
+    laid count (position_past position) (merged ∷ past nodes) (entered merged (left_by (listed_first nodes) (left_by (listed_first position.before) lists))) taken
 
 -- no node is loose
 abbrev pub NoneLoose : List Node → Type 0

@@ -3,12 +3,12 @@ use Rattle.std.proofs.Common.{◌≡◌, ℕ, false, [], ◌∷◌, map, Some, N
 use Rattle.tlsf_class.specs.Classes.{class, low}
 use Rattle.tlsf_store.specs.Cells.{Cells, empty_cells, with_taken}
 use Rattle.tlsf_store.specs.declared.pools.Pool.{Pool as StoredPool}
-use Rattle.tlsf_heap.specs.Inner.Entries.{pool_entered}
 use Rattle.tlsf_heap.specs.Pools.{created, with_pool}
 use Rattle.tlsf_heap.specs.Cursors.{rows_by, rest_of}
 use Rattle.tlsf_heap.specs.Inner.Nodes.{Layout, content_by, entered, pool_node, entries_in, pool_laid}
 use Rattle.tlsf_heap.specs.Inner.Represents.{pool_views, in_pool, AreLinked}
 use Rattle.tlsf_heap.proofs.Inner.Empty.{empty}
+use Rattle.tlsf_heap.proofs.Inner.PoolMoves.{pool_entered}
 
 abbrev pool : ℕ → ℕ → ℕ → StoredPool
 pool base bytes first = record { base = base; bytes = bytes; first = first }

@@ -2,7 +2,7 @@
 -- it, merged.
 use Rattle.std.specs.Prelude.{ℕ, List, [], ◌∷◌, ◌+◌, Bool, true, false, Option, Some, None, if◌then◌else◌}
 use Rattle.tlsf_store.specs.declared.pools.Pool.{Pool as StoredPool}
-use Rattle.tlsf_heap.specs.Inner.Nodes.{Node, Area, Layout, NodeState, Listed, Loose, turned, is_listed, left, entered}
+use Rattle.tlsf_heap.specs.Inner.Nodes.{Node, Area, Layout, NodeState, Loose, is_listed, left}
 
 -- the items in front, nearest first, and then those behind
 abbrev pub plug : {A : Type 0} → List A → List A → List A
@@ -60,13 +60,3 @@ merged_with_behind (Some behind) node = record node { size = node.size + behind.
 -- the position without a listed node in front
 abbrev pub position_past : Position → Position
 position_past position = record position { before = past position.before }
-
--- the loose node that is left of a node and those beside it
-abbrev pub merged_node : Position → Node → List Node → Node
-merged_node position node nodes = merged_with_behind (listed_first nodes) (merged_with_front (listed_first position.before) (turned Loose node))
-
--- the layout after the node at the position was freed: one listed node is left of it and those beside it
-abbrev pub freed_layout : ℕ → Position → Node → List Node → List (List Node) → List ℕ → Layout
-freed_layout count position node nodes lists taken =
-    let merged = turned Listed (merged_node position node nodes) in
-    laid count (position_past position) (merged ∷ past nodes) (entered merged (left_by (listed_first nodes) (left_by (listed_first position.before) lists))) taken

@@ -1,8 +1,9 @@
 use Rattle.std.proofs.Common.{◌≡◌, List}
 use Rattle.tlsf_store.specs.declared.pools.Pool.{Pool as StoredPool}
-use Rattle.tlsf_heap.specs.Inner.Entries.{entries_of, with_entry, pool_put}
+use Rattle.tlsf_heap.specs.Inner.Entries.{entries_of}
 use Rattle.tlsf_heap.proofs.Inserted.{insert_is}
 use Rattle.tlsf_heap.proofs.Inner.Entered.{Enters, pool_is_laid}
+use Rattle.tlsf_heap.proofs.Inner.PoolMoves.{with_entry, pool_put}
 use Rattle.tlsf_heap.proofs.add_pool.put_pool.Goals as goal
 
 -- the cells once the pool is there
