@@ -57,7 +57,7 @@ impl<R: Read> Source for FromRead<R> {
             self.calls += 1;
             self.reader.read(buf).map_err(|_| Failed)
         };
-        self.trace.add(Call::pulled(&answer));
+        self.trace.add(&Call::pulled(&answer));
         answer
     }
 }
@@ -76,7 +76,7 @@ impl<R: Read + Seek> Again for FromRead<R> {
         ensures counted { calls_left self.new ≡ calls_left self.old }
     {
         let answer = self.reader.rewind().map_err(|_| Failed);
-        self.trace.add(Call::began(&answer));
+        self.trace.add(&Call::began(&answer));
         answer
     }
 }

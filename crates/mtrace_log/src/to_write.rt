@@ -48,7 +48,7 @@ impl<W: Write> Sink for ToWrite<W> {
         ensures told { writer_trace self.new ≡ offered (length bytes.now) result ∷ writer_trace self.old }
     {
         let answer = self.writer.write(bytes).map_err(|_| Failed);
-        self.trace.add(Call::offered(bytes.len(), &answer));
+        self.trace.add(&Call::offered(bytes.len(), &answer));
         answer
     }
 
@@ -62,7 +62,7 @@ impl<W: Write> Sink for ToWrite<W> {
         ensures told { writer_trace self.new ≡ flushed result ∷ writer_trace self.old }
     {
         let answer = self.writer.flush().map_err(|_| Failed);
-        self.trace.add(Call::flushed(&answer));
+        self.trace.add(&Call::flushed(&answer));
         answer
     }
 }

@@ -89,18 +89,18 @@ impl Sink for MemorySink {
     {
         let count = bytes.len().min(self.room).min(self.piece);
         if count == 0 && !bytes.is_empty() {
-            self.trace.add(Call::Failed);
+            self.trace.add(&Call::Failed);
             return match self.full {
                 Full::Fails => Err(Failed),
                 Full::TakesNone => Ok(0),
             };
         }
         if self.bytes.extend_from_slice(&bytes[..count]).is_err() {
-            self.trace.add(Call::Failed);
+            self.trace.add(&Call::Failed);
             return Err(Failed);
         }
         self.room -= count;
-        self.trace.add(Call::Took(count));
+        self.trace.add(&Call::Took(count));
         Ok(count)
     }
 
@@ -114,10 +114,10 @@ impl Sink for MemorySink {
         ensures kept { IsSink (sink_taken self.old) (sink_piece self.old) (sink_room self.old) (sink_full self.old) (flush_fails self.old) (flushed result ∷ sink_trace self.old) self.new }
     {
         if self.flush_fails {
-            self.trace.add(Call::FlushFailed);
+            self.trace.add(&Call::FlushFailed);
             return Err(Failed);
         }
-        self.trace.add(Call::Flushed);
+        self.trace.add(&Call::Flushed);
         Ok(())
     }
 }

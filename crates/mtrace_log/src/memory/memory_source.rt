@@ -84,7 +84,7 @@ impl Source for MemorySource<'_> {
         ensures called { IsCalled (pulled result) result self.old self.new }
     {
         if self.fails() {
-            self.trace.add(Call::Failed);
+            self.trace.add(&Call::Failed);
             return Err(Failed);
         }
         let count = self.rest.len().min(self.piece).min(buf.len());
@@ -92,7 +92,7 @@ impl Source for MemorySource<'_> {
         buf[..count].copy_from_slice(front);
         self.rest = back;
         let answer = Ok(count);
-        self.trace.add(Call::pulled(&answer));
+        self.trace.add(&Call::pulled(&answer));
         answer
     }
 }
@@ -111,11 +111,11 @@ impl Again for MemorySource<'_> {
         ensures called { IsCalled (began result) result self.old self.new }
     {
         if self.fails() {
-            self.trace.add(Call::Failed);
+            self.trace.add(&Call::Failed);
             return Err(Failed);
         }
         self.rest = self.whole;
-        self.trace.add(Call::Began);
+        self.trace.add(&Call::Began);
         Ok(())
     }
 }

@@ -6,11 +6,10 @@ use mir.Val.{vstruct, vnil}
 use base.Logic.{SProp, ent, emp, via, fst∗}
 use prog.Memory.{Memory}
 use prog.Routine.{Routine}
-use prog.Wp.{Calls, Loops, WpFn, Tables}
+use prog.Wp.{Calls, Loops, WpFn}
 use types.Logic.{Logic}
 use contract.Monad.{Fun}
-use contract.Running.{tables, tables_of}
-use sound.WpLaws.{WpFn-mono}
+use contract.Running.{tables}
 use types.Kit.{‵, raw, ◌$◌, ◌∵◌, !, qed, move, suffices, done}
 use types.Run.{no_more, returns, enter}
 use types.Part.{agg}
@@ -18,12 +17,11 @@ use types.ByLocal.{alloc_all, pass_all, free_all, look_at, sets}
 use denote.RattleType.{owns}
 use denote.Shadow.{pure_i}
 use denote.Triple.Entry.{on_entry, alive}
-use denote.Triple.Spec.{Meets, triple_of}
-use denote.Triple.Table.{entered}
-use denote.Triple.Walked.{says, Stays, walk_of, Walks, ends_at, walked, walk_Meets}
+use denote.Triple.Walked.{says, Stays, walk_of, ends_at}
 use Rattle.mtrace_log.specs.contracts.trace.Trace.new.Key.{name as key}
 use Rattle.mtrace_log.specs.contracts.trace.Trace.new as f
-use Rattle.mtrace_log.proofs.trace.Trace.new.Statement as stated
+use Rattle.std.proofs.raw_atomic.Walks.{proved}
+use Rattle.mtrace_log.proofs.trace.Trace.new.Statement.{statement}
 use Rattle.mtrace_log.proofs.trace.Trace.new.Code as code
 use Rattle.mtrace_log.specs.contracts.trace.Trace as made
 
@@ -45,20 +43,8 @@ module _ {M : Type 1} {𝓤 : Ura M} (𝓛 : Logic 𝓤) (mem : Memory → SProp
       says ! refl $ pure_i ! (made.the_row.own_val (record { calls = [] }) (vstruct vnil ∷ [])) ((λ vss. (tt, tt)), tt) ((tt, (refl, tt)), tt) $
       move ! (1 ∷ 2 ∷ 0 ∷ []) $ done !)
 
-  walks : Walks 𝓛 f.ended stayed (WpFn 𝓤 H C Λ code.function) (f.clauses 𝓛 mem run)
-  walks =
-      walked 𝓛 f.ended stayed (f.clauses 𝓛 mem run) (WpFn 𝓤 H C Λ code.function) (λ κs. tt) (λ κs. tt)
-      (λ κs qs bounds a g are. via 𝓤 _ (fst∗ 𝓤 _ (emp 𝓤)) walk)
-
-meets : {M : Type 1} {𝓤 : Ura M} (𝓛 : Logic 𝓤) (mem : Memory → SProp 𝓤) (run : Routine → Fun 𝓤) (𝓣 : Tables 𝓤 𝓛.H)
-    → Meets 𝓛 f.signature (WpFn 𝓤 𝓛.H 𝓣.C 𝓣.Λ code.function) (f.spec 𝓛 mem run)
-meets {𝓤 = 𝓤} 𝓛 mem run 𝓣 =
-    walk_Meets 𝓛 f.ended stayed tt (f.clauses 𝓛 mem run) (WpFn 𝓤 𝓛.H 𝓣.C 𝓣.Λ code.function)
-    (WpFn-mono 𝓤 𝓛.H 𝓛.laws 𝓣 code.function) (walks 𝓛 mem run 𝓣.C 𝓣.Λ)
-
-pub new_spec : {M : Type 1} → stated.statement M
-unfolding tables_of
+pub new_spec : {M : Type 1} → statement M
 new_spec 𝓤 𝓛 𝓜 𝓡 wired =
-    entered 𝓤 𝓛.H (triple_of 𝓛 f.signature (f.spec 𝓛 𝓜.mem 𝓡.returns))
-    (tables 𝓤 𝓛.H 𝓜 𝓡 𝓡.env).C (tables 𝓤 𝓛.H 𝓜 𝓡 𝓡.env).Λ key code.function (code.unfolded 𝓤 𝓛.H 𝓜 𝓡 wired)
-    (meets 𝓛 𝓜.mem 𝓡.returns (tables_of 𝓤 𝓛.H 𝓜 (tables 𝓤 𝓛.H 𝓜 𝓡 𝓡.env)))
+    let 𝓣 = tables 𝓤 𝓛.H 𝓜 𝓡 𝓡.env in
+    proved 𝓛 f.ended stayed (f.clauses 𝓛 𝓜.mem 𝓡.returns) 𝓜 𝓡 tt key code.function (code.unfolded 𝓤 𝓛.H 𝓜 𝓡 wired) (λ κs. tt) (λ κs. tt)
+    (λ κs qs bounds a _ are. via 𝓤 _ (fst∗ 𝓤 _ (emp 𝓤)) (walk 𝓛 𝓜.mem 𝓡.returns 𝓣.C 𝓣.Λ))
