@@ -452,7 +452,7 @@ function showRange(tables, from, to) {
   `Grown by site, ${range}`);
   tables.calls.set(rows.filter((row) => row.calls).map((row) => [row.row, row.calls, row.asked]), `Calls by site, ${range}`);
   tables.temporary.set(rows.filter((row) => row.temporary)
-    .map((row) => [row.row, row.temporary, row.calls, row.temporary / row.calls]),
+    .map((row) => [row.row, row.temporary, row.calls, Math.min(1, row.temporary / row.calls)]),
   `Temporary: freed before another block was given, ${range}`);
   tables.sizes.set(sizesBetween(from, to), `Sizes, ${range}`);
 }
