@@ -53,12 +53,19 @@ struct control {
 
 typedef char scrambling_is_undone[SCRAMBLE * UNSCRAMBLE == 1u ? 1 : -1];
 
+/* Eight bytes are copied: by a load and a store, also where -ffreestanding takes the compiler's
+ * own memcpy away. */
+static inline void copy_front(void *to, const void *from)
+{
+    (void)__builtin_memcpy(to, from, FRONT);
+}
+
 /* A heap, where the program has one there; else null. */
 static inline struct control *control_of(void *tlsf)
 {
     uintptr_t magic = 0;
     if (tlsf != NULL) {
-        (void)memcpy(&magic, tlsf, sizeof magic);
+        copy_front(&magic, tlsf);
     }
     return magic == (uintptr_t)tlsf + MAGIC ? (struct control *)tlsf : NULL;
 }
@@ -67,14 +74,14 @@ static inline struct control *control_of(void *tlsf)
 static inline uint64_t unscrambled(const void *ptr)
 {
     uint64_t front;
-    (void)memcpy(&front, (const unsigned char *)ptr - FRONT, FRONT);
+    copy_front(&front, (const unsigned char *)ptr - FRONT);
     return (front - (uintptr_t)ptr) * UNSCRAMBLE;
 }
 
 static inline void write_front(void *ptr, size_t size, uint64_t slot)
 {
     uint64_t front = (((uint64_t)(size / UNIT) << SLOT_BITS) + slot) * SCRAMBLE + (uintptr_t)ptr;
-    (void)memcpy((unsigned char *)ptr - FRONT, &front, FRONT);
+    copy_front((unsigned char *)ptr - FRONT, &front);
 }
 
 static inline bool has_place(const struct pool *pool, uint32_t place)

@@ -167,7 +167,7 @@ def grown_most(log):
     first, last = log.rows[lows.first_of(tenth)][0], log.rows[lows.first_of(tenth + 1) - 1][0]
     end = log.at_end.get(log.locations[site], (0, 0))[0]
     return f"{log.name_of(log.locations[site])}: from {counted(low, 'byte')} after line {log.rows[point][0]:,} to at least " \
-        f"{low + grown:,} " + (f"in a tenth of the log: at each line looked at from {first:,} to {last:,}" if first < last else f"after line {first:,}") + \
+        f"{low + grown:,} " + (f"at all points of lines {first:,} to {last:,}" if first < last else f"after line {first:,}") + \
         f"; {counted(end, 'byte')} at the end."
 
 
@@ -200,7 +200,7 @@ def pool_words(fit, step):
     """What `fit` tells, in a line."""
     sure, safe, least = (told_pool(fit, f"{name} pool") for name in ("sure", "safe", "least"))
     tried = f", tried in steps of {step:,}" if step else ""
-    within = "log with no more blocks, no more bytes in units of 16, and no request larger with its alignment"
+    within = "log within this one's most blocks, most bytes in units of 16, and largest request with its alignment"
     return (f"sure {sure}, for any {within}; " if sure else f"none is sure for each {within}; ") + \
         (f"safe {safe}, for this one; least {least}; {told_number(fit['records'])} records{tried}." if safe else
          "none serves this log, as the greatest refuses lines.")
