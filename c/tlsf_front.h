@@ -8,8 +8,6 @@
 #ifndef TLSF_FRONT_H
 #define TLSF_FRONT_H
 
-#include <string.h>
-
 #include "tlsf.h"
 #include "tlsf_heap.h"
 
@@ -53,19 +51,15 @@ struct control {
 
 typedef char scrambling_is_undone[SCRAMBLE * UNSCRAMBLE == 1u ? 1 : -1];
 
-/* Eight bytes are copied: by a load and a store, also where -ffreestanding takes the compiler's
- * own memcpy away. */
-static inline void copy_front(void *to, const void *from)
-{
-    (void)__builtin_memcpy(to, from, FRONT);
-}
+/* Eight bytes are copied by __builtin_memcpy: a load and a store, also where -ffreestanding takes
+ * the compiler's own memcpy away. */
 
 /* A heap, where the program has one there; else null. */
 static inline struct control *control_of(void *tlsf)
 {
     uintptr_t magic = 0;
     if (tlsf != NULL) {
-        copy_front(&magic, tlsf);
+        (void)__builtin_memcpy(&magic, tlsf, sizeof magic);
     }
     return magic == (uintptr_t)tlsf + MAGIC ? (struct control *)tlsf : NULL;
 }
@@ -74,14 +68,14 @@ static inline struct control *control_of(void *tlsf)
 static inline uint64_t unscrambled(const void *ptr)
 {
     uint64_t front;
-    copy_front(&front, (const unsigned char *)ptr - FRONT);
+    (void)__builtin_memcpy(&front, (const unsigned char *)ptr - FRONT, FRONT);
     return (front - (uintptr_t)ptr) * UNSCRAMBLE;
 }
 
 static inline void write_front(void *ptr, size_t size, uint64_t slot)
 {
     uint64_t front = (((uint64_t)(size / UNIT) << SLOT_BITS) + slot) * SCRAMBLE + (uintptr_t)ptr;
-    copy_front((unsigned char *)ptr - FRONT, &front);
+    (void)__builtin_memcpy((unsigned char *)ptr - FRONT, &front, FRONT);
 }
 
 static inline bool has_place(const struct pool *pool, uint32_t place)
