@@ -1,6 +1,6 @@
 /* How large a pool is always enough: the functions of tlsf_heap.h and tlsf.h beside the definitions,
- * an order of requests for which no smaller pool is enough, and random programs that stay within
- * their limits, some of them made to fragment. */
+ * an order of requests that is refused on just the bytes of a bound and served on 16 more, and
+ * random programs that stay within their limits, some of them made to fragment. */
 #include <stdlib.h>
 #include <string.h>
 
