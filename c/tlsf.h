@@ -110,7 +110,7 @@ typedef struct tlsf_figures {
     size_t bytes_free;      /* of the pools, beside live blocks and the 8 in front of each */
     size_t blocks_live;
     size_t largest_request; /* tlsf_malloc finds a block for as many bytes; 0 where none is free */
-    size_t largest_free;    /* what the largest free block serves: from largest_request to this */
+    size_t largest_free;    /* no free block serves more: the most lies between these two */
     uint32_t records;       /* of the table */
     uint32_t records_used;  /* one for each block, live or free */
     size_t refusals[TLSF_REFUSALS];
