@@ -1,14 +1,15 @@
 /* tlsf.h: the calls of Matthew Conte's tlsf 3.1, by their names and signatures, over a proved heap.
  *
- * A program written for his library compiles against this header as it is. docs/C.md has a table of
- * what differs. The heap behind it is proved; these calls, in tlsf.c, aren't: its head says what
- * they rely on. In short: a pointer is a multiple of 16; a block has at most 1,073,741,800 bytes; a
- * heap has at most eight pools. A call that can't be served answers a null pointer. A pointer that
- * is no live block's is refused and changes nothing. A stale one can be that of a later block, and
- * frees it.
+ * A program written for his library compiles unchanged against this header. docs/C.md has a table
+ * of the differences. The heap below is proved. These calls, in tlsf.c, aren't: the comment at the
+ * head of tlsf.c says what they rely on. In short, a pointer is a multiple of 16. A block has at
+ * most 1,073,741,800 bytes, and a heap has at most eight pools. A call that can't be served answers
+ * a null pointer. A pointer that no live block has is refused, and nothing changes. But a stale
+ * pointer can equal that of a later block. To free it frees that block.
  *
- * All memory is what the program hands in. It begins at a multiple of 8, and isn't used by the
- * program until the heap or the pool is gone. One call on a heap at a time.
+ * The heap takes no memory but what the program hands in. This memory begins at a multiple of 8. Of
+ * it the program uses only its blocks, until the heap or the pool is gone. Only one call on a heap
+ * runs at a time.
  */
 #ifndef TLSF_H
 #define TLSF_H
@@ -28,101 +29,109 @@ extern "C" {
 typedef void *tlsf_t;
 typedef void *pool_t;
 
-/* A heap without a pool, in tlsf_size() bytes. */
+/* Makes a heap without a pool, in tlsf_size() bytes. */
 tlsf_t tlsf_create(void *mem);
 
-/* A heap and its first pool, in `bytes` bytes, or a null pointer where tlsf_add_pool would refuse
- * the pool. It has one record, and one more for each 112 bytes above tlsf_size_records(0), at most
- * 65,535. Each block takes a record, live or free. */
+/* Makes a heap and its first pool in `bytes` bytes. Answers a null pointer where tlsf_add_pool
+ * would refuse the pool. The heap has one record, and one more for each 112 bytes above
+ * tlsf_size_records(0), at most 65,535. A record is a row of the heap's table. Each block, live or
+ * free, takes one. */
 tlsf_t tlsf_create_with_pool(void *mem, size_t bytes);
 
-/* A heap with `records` records, from 1 to 65,535, and a pool in what is left of the bytes, where
- * that is 24 or more; or a null pointer (this call isn't Conte's). tlsf_size() is for 1,024
- * records, or as many as the library was built with. A record takes 16 bytes. */
+/* Makes a heap with `records` records, from 1 to 65,535. What is left of the bytes is a pool, if it
+ * is 24 bytes or more. Answers a null pointer where one of these can't be made (this call isn't
+ * Conte's). tlsf_size() bytes are enough for 1,024 records, or for as many as the library was built
+ * with. A record takes 16 bytes. */
 tlsf_t tlsf_create_records(void *mem, size_t bytes, uint32_t records);
 
-/* The heap is gone: its pointers are refused from then on. The memory is the program's again. */
+/* Ends the heap. From then on its pointers are refused, and the memory is the program's again. */
 void tlsf_destroy(tlsf_t tlsf);
 
-/* The first pool: the one that the heap was made with, or else the first that was added. Where it
- * is gone the next that is added takes its place; until then, as where there never was one, the
- * answer is a null pointer. */
+/* Answers the first pool: the one that the heap was made with, or else the first that was added.
+ * After it was removed, the next pool that is added takes its place. While there is no first pool,
+ * the answer is a null pointer. */
 pool_t tlsf_get_pool(tlsf_t tlsf);
 
-/* One more pool: all whole units of 16 bytes from `mem` on, or from 8 bytes behind it where `mem` is
- * a multiple of 16. Or a null pointer: where that is no unit, or more than 1,073,741,808 bytes; for
- * a ninth pool; for memory that the heap has already; where no record is vacant; where the pools
- * would have some 4 GiB together. */
+/* Adds a pool: all whole units of 16 bytes from `mem` on, or from `mem` + 8 on where `mem` is a
+ * multiple of 16. Answers a null pointer where that is no unit, or more than 1,073,741,808 bytes.
+ * It does so, too, where the heap has eight pools, has some of this memory already, or has no
+ * vacant record. The last reason is that all pools together would have some 4 GiB. */
 pool_t tlsf_add_pool(tlsf_t tlsf, void *mem, size_t bytes);
 
-/* The pool is gone, unless a block of it is live: then it stays. */
+/* Removes the pool. A pool with a live block stays. */
 void tlsf_remove_pool(tlsf_t tlsf, pool_t pool);
 
-/* A block, or a null pointer; for no bytes a null pointer. Where a call would answer null for want
- * of a block that surely has the bytes, one more list is looked at: so a pool that is one free block
- * serves all its bytes. */
+/* Answers a block, or a null pointer. For 0 bytes it answers a null pointer. Where no free list has
+ * a block that is surely large enough, the call looks at one more list before it answers null. So a
+ * pool that is one free block serves all its bytes. */
 void *tlsf_malloc(tlsf_t tlsf, size_t bytes);
 
-/* As tlsf_malloc, at a multiple of align: a power of two up to 2^21. */
+/* As tlsf_malloc, but the block begins at a multiple of `align`, which is a power of two up to
+ * 2^21. */
 void *tlsf_memalign(tlsf_t tlsf, size_t align, size_t bytes);
 
-/* The block with room for `size` bytes: where it is, or another at a multiple of 16, with its bytes
- * copied. A refused block stays as it was, and the answer is a null pointer. With a null pointer it
- * is a malloc; for no bytes it is a free, and the answer a null pointer. */
+/* Gives the block room for `size` bytes. It stays where it is, or moves to another multiple of 16,
+ * with its bytes copied. A refused call answers a null pointer, and the block stays as it was. With
+ * a null pointer the call is a tlsf_malloc. For 0 bytes it is a tlsf_free, and answers a null
+ * pointer. */
 void *tlsf_realloc(tlsf_t tlsf, void *ptr, size_t size);
 
-/* The block is free. Nothing is done where the pointer is null or no live block's. */
+/* Frees the block. Does nothing where the pointer is null, or no live block has it. */
 void tlsf_free(tlsf_t tlsf, void *ptr);
 
-/* The bytes of a live block; 0 for a null pointer. Of any other pointer the 8 bytes in front are
- * read: it is 0 for one that was freed, but not where its heap is gone. tlsf_live_size is exact. */
+/* Answers the bytes of a live block, and 0 for a null pointer. For any other pointer the call reads
+ * the 8 bytes in front. It answers 0 for a freed pointer, but perhaps not for one whose heap is
+ * gone. tlsf_live_size is exact. */
 size_t tlsf_block_size(void *ptr);
 
-/* The bytes of a live block of this heap, else 0. Nothing is read in front of a pointer into none
- * of its pools (this call isn't Conte's). */
+/* Answers the bytes of a live block of this heap, else 0. It reads nothing in front of a pointer
+ * that lies in no pool of the heap (this call isn't Conte's). */
 size_t tlsf_live_size(tlsf_t tlsf, const void *ptr);
 
 /* What the heap refuses. TLSF_REFUSALS is how many kinds there are. */
 enum tlsf_refusal {
-    TLSF_REFUSED_NO_FIT = 0,     /* no free block is surely as large, or no block may be */
+    TLSF_REFUSED_NO_FIT = 0,     /* no free block is surely large enough, or none can be */
     TLSF_REFUSED_TABLE_FULL = 1, /* a rest would be left, and no record is vacant */
-    TLSF_REFUSED_POINTER = 2,    /* the pointer is no live block's */
+    TLSF_REFUSED_POINTER = 2,    /* no live block has the pointer */
     TLSF_REFUSED_ALIGNMENT = 3,  /* no power of two, or above 2^21 */
     TLSF_REFUSED_FRONT = 4,      /* a live block's pointer, but the 8 bytes in front were changed */
     TLSF_REFUSALS = 5
 };
 
-/* Called with each refusal of tlsf_malloc, tlsf_memalign, tlsf_realloc and tlsf_free: what it is, the
- * pointer or a null pointer, the bytes asked for or 0, and the program's own `user`. It runs within
- * the call that is refused, and makes none on this heap. */
+/* The hook is called at each refusal of tlsf_malloc, tlsf_memalign, tlsf_realloc and tlsf_free. It
+ * gets the kind of refusal, the pointer or null, the bytes asked for or 0, and the program's own
+ * `user`. It runs within the refused call, and must make no call on this heap. */
 typedef void (*tlsf_refusal_hook)(enum tlsf_refusal what, const void *ptr, size_t bytes,
                                   void *user);
 
-/* Has each refusal told from now on; a null pointer ends that (this call isn't Conte's). A pointer
- * whose front was changed is told from any other by a reading of the pool's chain, hook or not: then
- * the call touches the table once for each block. No bytes and a null pointer are no refusal. */
+/* Sets the hook that is told of each refusal from now on. A null pointer ends this (this call isn't
+ * Conte's). To find out whether the 8 bytes in front of a live block were changed, a refused call
+ * may walk the pool. It does so with or without a hook, and touches the table once for each block.
+ * A request for 0 bytes, and to free a null pointer, are no refusals. */
 void tlsf_set_refusal_hook(tlsf_t tlsf, tlsf_refusal_hook hook, void *user);
 
 /* Figures of a heap. The bytes of a block are those that tlsf_block_size tells. */
 typedef struct tlsf_figures {
     size_t bytes_live;      /* of the live blocks */
     size_t most_bytes_live; /* the most that they had at once */
-    size_t bytes_free;      /* of the pools, beside live blocks and the 8 in front of each */
+    size_t bytes_free;      /* of the pools, without live blocks and the 8 bytes in front of each */
     size_t blocks_live;
-    size_t largest_request; /* tlsf_malloc finds a block for as many bytes; 0 where none is free */
-    size_t largest_free;    /* no free block serves more: the most lies between these two */
+    size_t largest_request; /* tlsf_malloc finds a block for this many bytes; 0 if none is free */
+    size_t largest_free;    /* no free block serves more: the true number is between the two */
     uint32_t records;       /* of the table */
     uint32_t records_used;  /* one for each block, live or free */
     size_t refusals[TLSF_REFUSALS];
 } tlsf_figures;
 
-/* Puts the figures into *figures, in constant time: 3 touches of the table. 0, or -1 where there is
- * no heap, and *figures stays (this call isn't Conte's). */
+/* Puts the figures into *figures, in constant time: 3 touches of the table. Answers 0. Where there
+ * is no heap it answers -1, and *figures stays as it was (this call isn't Conte's). */
 int tlsf_stats(tlsf_t tlsf, tlsf_figures *figures);
 
-/* The bytes that tlsf_create needs; what a block's address is a multiple of; the least and the
- * greatest block; how many bytes more than n a pool has to have, so that it serves a block of n
- * (a multiple of 8, for a program that moves an address by it); what a block takes beside its bytes. */
+/* tlsf_size: the bytes that tlsf_create needs. tlsf_align_size: the address of each block is a
+ * multiple of it. tlsf_block_size_min, tlsf_block_size_max: the bytes of the least and of the
+ * greatest block. tlsf_pool_overhead: a pool of so many bytes more than n serves a block of n
+ * bytes. It is a multiple of 8, for a program that moves an address by it. tlsf_alloc_overhead: the
+ * bytes that a block takes beside its own. */
 size_t tlsf_size(void);
 size_t tlsf_align_size(void);
 size_t tlsf_block_size_min(void);
@@ -133,22 +142,22 @@ size_t tlsf_alloc_overhead(void);
 /* The bytes that tlsf_create_records needs in front of a pool (this call isn't Conte's). */
 size_t tlsf_size_records(uint32_t records);
 
-/* The bytes with which tlsf_create_records, for 2 * blocks + 3 records, makes a heap that never
- * answers null: in whatever order blocks are asked for and given back, as long as at most `blocks`
- * are live, of at most `bytes` bytes together, each rounded up to 16, and none is asked for with more
- * than `largest` bytes or by tlsf_memalign above 16. 0 where there is no such heap (this call isn't
- * Conte's). */
+/* Answers the bytes with which tlsf_create_records, for 2 * blocks + 3 records, makes a heap that
+ * never answers null. These conditions have to hold. At most `blocks` blocks are live. They have at
+ * most `bytes` bytes together, each rounded up to 16. No block is asked for with more than
+ * `largest` bytes, or by tlsf_memalign above 16. The order of the calls doesn't matter. Answers 0
+ * where no heap is enough (this call isn't Conte's). */
 size_t tlsf_sure_bytes(uint32_t blocks, size_t bytes, size_t largest);
 
 /* Calls the walker with each block of the pool, live or free, in order of address. A null pointer
- * stands for a walker that prints. Blocks are read 64 at a time, each time from the end of the last
- * one on. So the walker may allocate and free. Each 64 blocks take a reading of the pool's whole
- * chain: it is no call for a path that has to be quick. */
+ * stands for a walker that prints. Blocks are read 64 at a time, each time from the end of the
+ * block read last. So the walker may allocate and free. For each 64 blocks the pool's whole chain
+ * is read, so this call isn't for a path that has to be quick. */
 typedef void (*tlsf_walker)(void *ptr, size_t size, int used, void *user);
 void tlsf_walk_pool(pool_t pool, tlsf_walker walker, void *user);
 
-/* 0 where all is whole, else less than 0: the table, and the 8 bytes in front of each live block, of
- * all pools or of one. */
+/* Checks the table, and the 8 bytes in front of each live block, of all pools or of one. Answers 0
+ * where all is whole, else less than 0. */
 int tlsf_check(tlsf_t tlsf);
 int tlsf_check_pool(pool_t pool);
 

@@ -1,7 +1,8 @@
-// tlsf.hpp: a memory resource of C++17 over a heap of tlsf.h, for std::pmr's containers. Not proved.
+// tlsf.hpp: a memory resource of C++17 over a heap of tlsf.h, for std::pmr's containers. It isn't
+// proved.
 //
-// It takes no memory but the heap's. One call on a heap at a time, as tlsf.h has it: threads put a
-// lock around their containers.
+// It takes no memory but the heap's. Only one call on a heap runs at a time, as with tlsf.h. So
+// threads put a lock around their containers.
 #ifndef TLSF_HPP
 #define TLSF_HPP
 
@@ -14,14 +15,15 @@
 
 class tlsf_resource : public std::pmr::memory_resource {
 public:
-    /// Over a heap that the program made. The program ends it, after the last container is gone.
+    /// A resource over a heap that the program made. The program ends the heap, after the last
+    /// container is gone.
     explicit tlsf_resource(tlsf_t heap) noexcept : heap_(heap), made_(false)
     {
     }
 
-    /// Over a heap of its own in `bytes` bytes of memory, as tlsf_create_with_pool makes it. It ends
-    /// with the resource. Throws std::bad_alloc where the memory is too small, or begins at no
-    /// multiple of 8.
+    /// A resource over a heap of its own, which tlsf_create_with_pool makes in `bytes` bytes of
+    /// memory. The heap ends with the resource. Throws std::bad_alloc where the memory is too
+    /// small, or begins at no multiple of 8.
     tlsf_resource(void *memory, std::size_t bytes)
         : heap_(tlsf_create_with_pool(memory, bytes)), made_(true)
     {
@@ -47,8 +49,8 @@ public:
     }
 
 protected:
-    /// A block at a multiple of `align`, a power of two up to 2^21. For no bytes it is a block of
-    /// one. Throws std::bad_alloc where the heap refuses it.
+    /// Answers a block at a multiple of `align`, which is a power of two up to 2^21. For 0 bytes it
+    /// is a block of one byte. Throws std::bad_alloc where the heap refuses the request.
     void *do_allocate(std::size_t bytes, std::size_t align) override
     {
         void *block = tlsf_memalign(heap_, align, bytes == 0 ? 1 : bytes);
@@ -58,7 +60,7 @@ protected:
         return block;
     }
 
-    /// The block is free. Nothing is done where the pointer is no live block's.
+    /// Frees the block. Does nothing where no live block has the pointer.
     void do_deallocate(void *block, std::size_t, std::size_t) noexcept override
     {
         tlsf_free(heap_, block);
