@@ -7,9 +7,9 @@
  * a null pointer. A pointer that no live block has is refused, and nothing changes. But a stale
  * pointer can equal that of a later block. To free it frees that block.
  *
- * The heap takes no memory but what the program hands in. This memory begins at a multiple of 8. Of
- * it the program uses only its blocks, until the heap or the pool is gone. Only one call on a heap
- * runs at a time.
+ * The heap takes no memory but what the program hands in, which begins at a multiple of 8. Until
+ * the heap or the pool is gone, the program uses only its blocks in this memory. Only one call on a
+ * heap runs at a time.
  */
 #ifndef TLSF_H
 #define TLSF_H
@@ -53,9 +53,11 @@ void tlsf_destroy(tlsf_t tlsf);
 pool_t tlsf_get_pool(tlsf_t tlsf);
 
 /* Adds a pool: all whole units of 16 bytes from `mem` on, or from `mem` + 8 on where `mem` is a
- * multiple of 16. Answers a null pointer where that is no unit, or more than 1,073,741,808 bytes.
- * It does so, too, where the heap has eight pools, has some of this memory already, or has no
- * vacant record. The last reason is that all pools together would have some 4 GiB. */
+ * multiple of 16. Answers a null pointer where
+ * - this is no unit, or more than 1,073,741,808 bytes
+ * - the heap has eight pools already, or some of this memory
+ * - no record is vacant
+ * - all pools together would have some 4 GiB. */
 pool_t tlsf_add_pool(tlsf_t tlsf, void *mem, size_t bytes);
 
 /* Removes the pool. A pool with a live block stays. */
@@ -127,11 +129,12 @@ typedef struct tlsf_figures {
  * is no heap it answers -1, and *figures stays as it was (this call isn't Conte's). */
 int tlsf_stats(tlsf_t tlsf, tlsf_figures *figures);
 
-/* tlsf_size: the bytes that tlsf_create needs. tlsf_align_size: the address of each block is a
- * multiple of it. tlsf_block_size_min, tlsf_block_size_max: the bytes of the least and of the
- * greatest block. tlsf_pool_overhead: a pool of so many bytes more than n serves a block of n
- * bytes. It is a multiple of 8, for a program that moves an address by it. tlsf_alloc_overhead: the
- * bytes that a block takes beside its own. */
+/* tlsf_size: the bytes that tlsf_create needs.
+ * tlsf_align_size: the address of each block is a multiple of it.
+ * tlsf_block_size_min, tlsf_block_size_max: the bytes of the least and of the greatest block.
+ * tlsf_pool_overhead: a pool of n bytes and this many serves a block of n bytes. It is a multiple
+ * of 8, for a program that moves an address by it.
+ * tlsf_alloc_overhead: the bytes that a block takes beside its own. */
 size_t tlsf_size(void);
 size_t tlsf_align_size(void);
 size_t tlsf_block_size_min(void);

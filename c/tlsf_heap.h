@@ -57,10 +57,9 @@ extern "C" {
 #define TLSF_HEAP_RECORDS_MOST 65535u
 
 /* With this many records no call is refused for want of a record, while at most `blocks` blocks are
- * live in `pools` pools. A block that is asked for counts as live. Each block, live or free, takes
- * a record. A pool has at most one free block more than live blocks. A realloc that moves its block
- * holds one block more. Where `blocks` blocks are live already, and tlsf_heap_memalign is asked for
- * another, it can take one record more. */
+ * live in `pools` pools. A block that is asked for counts as live, and may be aligned. Each block,
+ * live or free, takes a record, and a pool has at most one free block more than live blocks. The
+ * number also has room for the second block that a realloc holds while it moves the first. */
 #define TLSF_HEAP_RECORDS(blocks, pools) (2u * (blocks) + (pools) + 1u)
 
 /* How many bytes tlsf_heap_create_in and tlsf_heap_load_in take for a heap of `records` records:
@@ -190,8 +189,8 @@ enum tlsf_status tlsf_heap_create(uint32_t records, tlsf_heap *out);
 /* As tlsf_heap_create, with the table in the `bytes` bytes at memory. These bytes are the heap's
  * until it is destroyed. No other memory is taken. TLSF_HEAP_TABLE_BYTES tells how many bytes are
  * enough.
- * Answers 0, or TLSF_BAD_COUNT as above. Answers TLSF_BAD_MEMORY exactly where there are fewer
- * bytes, or where memory is null or no multiple of 16. This call isn't proved. */
+ * Answers 0, or TLSF_BAD_COUNT as above. Else it answers TLSF_BAD_MEMORY exactly where there are
+ * fewer bytes, or where memory is null or no multiple of 16. This call isn't proved. */
 enum tlsf_status tlsf_heap_create_in(void *memory, size_t bytes, uint32_t records, tlsf_heap *out);
 
 /* Ends the heap, gives its memory back, and leaves zeros in *heap. Memory that the program handed
@@ -247,8 +246,8 @@ uint32_t tlsf_heap_records_used(const tlsf_heap *heap);
 
 /* The most bytes for which tlsf_heap_malloc finds a block now, and 0 where no block is free.
  * tlsf_heap_malloc never answers TLSF_NO_FIT for this many bytes or fewer, and always does for
- * more. At most 2 touches. The largest free block has at least this many bytes, but is of the same
- * class. So it has less than tlsf_heap_class_step of this number more. */
+ * more. At most 2 touches. The number is the lowest size of a class, and the largest free block is
+ * of that class. So the block exceeds the number by less than tlsf_heap_class_step of it. */
 uint32_t tlsf_heap_largest_request(const tlsf_heap *heap);
 
 /* Puts blocks of the pool that begins at the place base into rows, in order of place. These blocks
@@ -290,9 +289,9 @@ enum tlsf_status tlsf_heap_load(const unsigned char *bytes, size_t length, tlsf_
 
 /* As tlsf_heap_load, but the table lies in the `bytes` bytes at memory, as for tlsf_heap_create_in.
  * The image doesn't overlap these bytes.
- * Answers 0, or the status of the first broken rule as above. Answers TLSF_BAD_MEMORY exactly where
- * the bytes are fewer than TLSF_HEAP_TABLE_BYTES of the image's records, or where memory is null or
- * no multiple of 16. This call isn't proved. */
+ * Answers 0, or the status of the first broken rule as above. Else it answers TLSF_BAD_MEMORY
+ * exactly where the bytes are fewer than TLSF_HEAP_TABLE_BYTES of the image's records, or where
+ * memory is null or no multiple of 16. This call isn't proved. */
 enum tlsf_status tlsf_heap_load_in(void *memory, size_t bytes, const unsigned char *image,
                                    size_t length, tlsf_heap *out);
 

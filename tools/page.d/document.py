@@ -193,17 +193,28 @@ def head_lines(log):
     yield "Not freed", f"{counted(end[1], 'byte')} in {counted(end[2], 'block')}{greatest(log, log.at_end)}." if end[2] else \
         "Nothing: no memory leaks."
     yield "Grows most", grown_most(log)
-    yield "Pools to give", pool_words(dict(log.fit), log.step)
+    yield "Pools to give", pool_words(log)
 
 
-def pool_words(fit, step):
-    """What `fit` tells, in a line."""
+def pool_words(log):
+    """What `fit` tells, in a line, and what the sure pool rests on."""
+    fit = dict(log.fit)
     sure, safe, least = (told_pool(fit, f"{name} pool") for name in ("sure", "safe", "least"))
-    tried = f", tried in steps of {step:,}" if step else ""
-    within = "log within this one's most blocks, most bytes in units of 16, and largest request with its alignment"
-    return (f"sure {sure}, for any {within}; " if sure else f"none is sure for each {within}; ") + \
-        (f"safe {safe}, for this one; least {least}; {told_number(fit['records'])} records{tried}." if safe else
-         "none serves this log, as the greatest refuses lines.")
+    tried = f", tried in steps of {log.step:,}" if log.step else ""
+    return (f"sure {sure}; " if sure else "none is sure; ") + \
+        (f"safe {safe}, for this log; least {least}; {told_number(fit['records'])} records{tried}." if safe else
+         "none serves this log, as the greatest refuses lines.") + (f" The sure pool serves any log {within_words(log)}." if sure else "")
+
+
+def within_words(log):
+    """What a log has to keep to, so that this one's sure pool serves it."""
+    if not log.numbers:
+        return "within this one's most blocks, most bytes in units of 16, and largest request with its alignment"
+    most = log.numbers.largest
+    aligned = f" at a multiple of {most.align:,}" if most.align > 16 else ""
+    return f"of at most {counted(log.numbers.blocks, 'block')} and {counted(log.numbers.size, 'byte')} in units of 16, " \
+        f"with no request above that of line {most.line:,}: {counted(most.size, 'byte')}{aligned} (class size {most.class_size:,}) " \
+        f"at {log.name_of(most.location)}"
 
 
 def told_number(text):

@@ -65,7 +65,7 @@ class Reading:
     """A log that is read line by line. Lines that a report found something wrong with are read by what it says."""
 
     def __init__(self):
-        self.held, self.sites, self.numbers = {}, Sites(), Numbers()
+        self.held, self.sites, self.numbers, self.aligned = {}, Sites(), Numbers(), set()
         self.last = self.taken = None
 
     def take_whole(self, lines):
@@ -85,6 +85,8 @@ class Reading:
                 _, location, form, address, size = words
             else:
                 location, form, address, size = parts_of(words)
+                if form == b"*":
+                    self.aligned.add((words[-2], size))
             if form != b"+" and not self.gives(form, address, last) or address == NIL:
                 continue
             number, power = numbers[size]
@@ -96,6 +98,10 @@ class Reading:
             held[address] = number, location
             last = address
         self.last = last
+
+    def requests(self):
+        """Alignment and size of all that was asked for, in the digits of the log."""
+        return self.aligned | {(b"0x1", size) for size in self.numbers}
 
     def gives(self, form, address, last):
         """Whether a line of another form gives a block; what it takes is taken."""
@@ -162,7 +168,7 @@ def read_up_to(log, reading, number, point, faulty, bad):
 
 def read_log(path, points, found, progress):
     """The locations of a log in order of appearance, and for each point the changes since the one before: by site, and by power of
-    two the calls and bytes."""
+    two the calls and bytes. And what was asked for."""
     reading, indices = Reading(), {}
     faulty = faulty_lines(found)
     bad = next(faulty)
@@ -175,7 +181,7 @@ def read_log(path, points, found, progress):
             changes.append(snapshot(reading, indices))
             powers.append([tuple(power) for power in reading.numbers.powers])
     gc.enable()
-    return list(indices), changes, powers
+    return list(indices), changes, powers, reading.requests()
 
 
 def points_of(lines, peak, count):

@@ -2,11 +2,13 @@
 import json
 import os
 import re
+import sys
 from collections import Counter
 from concurrent.futures import ThreadPoolExecutor
 from itertools import accumulate
 
 import reports
+import sizing
 from log import CHANGE, points_of, read_log
 from reports import Differs, Report, give_up
 from texts import shown, site_name
@@ -14,6 +16,7 @@ from texts import shown, site_name
 # So many sites are told one by one, with so many bytes of names; and of the greatest of these so many changes between the points.
 MOST_SITES, MOST_TEXT, MOST_CHANGES = 5000, 800_000, 60_000
 MOST_DIAGNOSTICS = 500
+MODULE = re.compile(rb"(?:^|<)([^<]+?):[\[(]")
 FRAME = re.compile(rb"(?:(.+):)?\[(0x[0-9a-f]+)\]", re.S)
 
 
@@ -25,7 +28,7 @@ class Study:
         self.path = os.path.join(".", path) if path.startswith("-") else path
         self.name, self.heap = shown(os.fsencode(os.path.basename(path))), reports.heap_words(heap)
         self.program, self.progress = program, progress
-        self.running = []
+        self.running, self.numbers = [], None
         before = self.state()
         try:
             self.read(count)
@@ -58,16 +61,18 @@ class Study:
         timeline = self.report("timeline", "--points", str(count), *self.heap)
         sites, leaks = self.report("sites", *self.heap), self.report("leaks", *self.heap)
         self.kinds = Counter()
-        self.first_diagnostics = []
+        self.first_diagnostics, self.unserved = [], set()
         self.first_refused = None
         points = points_of(self.lines, self.peak, count)
         later = ThreadPoolExecutor(1).submit(self.look_at_heap, timeline, points)
         try:
-            self.locations, self.changes, self.powers = read_log(self.path, points, self.counted(first, end), self.progress)
+            self.locations, self.changes, self.powers, requests = read_log(self.path, points, self.counted(first, end), self.progress)
         except (IndexError, KeyError, ValueError) as error:
             raise Differs(f"{self.path} isn't what the reports say of it") from error
         self.progress.tell("the pools that the log needs are tried")
         later.result()
+        if self.first_refused is None:
+            self.numbers = sizing.numbers_of(self.path, requests, self.unserved, dict(self.fit))
         self.at_peak, self.at_end = reports.read_sites(sites.text())
         self.leaks = reports.read_leaks(leaks.text())
 
@@ -77,6 +82,8 @@ class Study:
             self.kinds[kind] += 1
             if kind == reports.REFUSED and self.first_refused is None:
                 self.first_refused = line
+            if kind in sizing.ASKS_NOTHING:
+                self.unserved.add(line)
             if len(self.first_diagnostics) < MOST_DIAGNOSTICS:
                 self.first_diagnostics.append((line, said))
             yield line, kind, said
@@ -148,6 +155,15 @@ class Study:
         self.progress.tell("source lines are looked for")
         locations = [self.locations[site] for site in self.kept if self.locations[site]]
         self.told = dict(zip(locations, reports.told_lines(tool, locations))) if tool else {}
+        for module in self.newer_modules() if tool else []:
+            self.progress.end()
+            print(f"tlsf-page: {module} is newer than {self.name}: its source lines may be others", file=sys.stderr)
+
+    def newer_modules(self):
+        """Programs and libraries that were changed after the log was written, whose source lines are told."""
+        written = os.stat(self.path).st_mtime_ns
+        names = {module for location, told in self.told.items() if told != location for module in MODULE.findall(location)}
+        return [shown(name) for name in sorted(names) if os.path.exists(name) and os.stat(name).st_mtime_ns > written]
 
     def told_of(self, location):
         """A location as source-lines tells it."""

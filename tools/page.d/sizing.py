@@ -1,0 +1,56 @@
+"""What the sure pool rests on: the most blocks, the most bytes, and the largest request of a log (docs/USING.md)."""
+from collections import namedtuple
+
+from log import parts_of
+from reports import ALREADY_HELD, STRAY, UNIT, Differs
+
+# The first line that asks for the most: its number, location, bytes, alignment and class size.
+Largest = namedtuple("Largest", "line location size align class_size")
+Numbers = namedtuple("Numbers", "blocks size largest")
+# A line with one of these asks the heap for nothing.
+ASKS_NOTHING = {ALREADY_HELD, STRAY}
+
+
+def rounded(number, unit):
+    """The least multiple of the unit at or above the number."""
+    return -(-number // unit) * unit
+
+
+def class_size(align, size):
+    """The lowest size of the first class whose blocks all hold the request, as docs/USING.md has it."""
+    needed = rounded(max(size, 1), UNIT) + max(align - UNIT, 0)
+    return rounded(needed, max(UNIT, 1 << needed.bit_length() >> 6))
+
+
+def request_of(line):
+    """Alignment and size in digits that a line asks for, and its location; nothing where it asks for none."""
+    words = line.split()
+    location, form, _, size = parts_of(words)
+    if form == b"*":
+        return words[-2], size, location
+    return (b"0x1", size, location) if form in (b"+", b">") else None
+
+
+def largest_of(path, requests, unserved):
+    """The first of the log's lines that ask for the most, all of which are served; of one class that with the most bytes."""
+    wanted = max(((class_size(int(align, 16), int(size, 16)), int(size, 16)), align, size) for align, size in requests)
+    with open(path, "rb") as log:
+        for number, line in enumerate(log, 1):
+            if line.rstrip(b"\n").endswith(b" " + wanted[2]) and number not in unserved:
+                asked = request_of(line)
+                if asked and class_size(int(asked[0], 16), int(asked[1], 16)) == wanted[0][0]:
+                    return Largest(number, asked[2], wanted[0][1], int(asked[0], 16), wanted[0][0])
+    raise Differs(f"{path} has no line that asks for the most")
+
+
+def numbers_of(path, requests, unserved, fit):
+    """The three numbers of the sure pool that fit tells. With another class size the bytes would be none that this log holds."""
+    sure, blocks, peak = (int(text) if text.isdigit() else None
+                          for text in (fit[name].split()[0] for name in ("sure pool", "held at most", "peak")))
+    if not sure or not requests:
+        return None
+    largest = largest_of(path, requests, unserved)
+    size = sure - UNIT - (blocks + 1) * (largest.class_size - UNIT)
+    if not peak <= size <= peak + UNIT * blocks:
+        raise Differs(f"the numbers differ in the sure pool: {size} bytes in units of {UNIT}, and {peak} bytes at the peak")
+    return Numbers(blocks, size, largest)
