@@ -166,8 +166,8 @@ def grown_most(log):
     low = next(value for value, at in lows.lows if at == point)
     first, last = log.rows[lows.first_of(tenth)][0], log.rows[lows.first_of(tenth + 1) - 1][0]
     end = log.at_end.get(log.locations[site], (0, 0))[0]
-    return f"{log.name_of(log.locations[site])}: from {counted(low, 'byte')} after line {log.rows[point][0]:,} to at least " \
-        f"{low + grown:,} " + (f"at all points of lines {first:,} to {last:,}" if first < last else f"after line {first:,}") + \
+    return f"{log.name_of(log.locations[site])}: {counted(low, 'byte')} after line {log.rows[point][0]:,}, then {low + grown:,} or more " + \
+        (f"at each point of lines {first:,} to {last:,}" if first < last else f"after line {first:,}") + \
         f"; {counted(end, 'byte')} at the end."
 
 
@@ -203,18 +203,28 @@ def pool_words(log):
     tried = f", tried in steps of {log.step:,}" if log.step else ""
     return (f"sure {sure}; " if sure else "none is sure; ") + \
         (f"safe {safe}, for this log; least {least}; {told_number(fit['records'])} records{tried}." if safe else
-         "none serves this log, as the greatest refuses lines.") + (f" The sure pool serves any log {within_words(log)}." if sure else "")
+         "none serves this log, as the greatest refuses lines.") + \
+        (f" The sure pool serves any log {within_words(log)}." if sure else f" {needs_words(log)}" if log.numbers else "")
 
 
 def within_words(log):
     """What a log has to keep to, so that this one's sure pool serves it."""
     if not log.numbers:
         return "within this one's most blocks, most bytes in units of 16, and largest request with its alignment"
+    return f"of at most {counted(log.numbers.blocks, 'block')} and {counted(log.numbers.size, 'byte')} in units of 16, " \
+        f"with no request above that of {request_words(log)}"
+
+
+def needs_words(log):
+    """What makes a sure pool too large, or needs too many records."""
+    return f"It holds {counted(log.numbers.blocks, 'block')}, and its largest request is that of {request_words(log)}."
+
+
+def request_words(log):
+    """The largest request."""
     most = log.numbers.largest
     aligned = f" at a multiple of {most.align:,}" if most.align > 16 else ""
-    return f"of at most {counted(log.numbers.blocks, 'block')} and {counted(log.numbers.size, 'byte')} in units of 16, " \
-        f"with no request above that of line {most.line:,}: {counted(most.size, 'byte')}{aligned} (class size {most.class_size:,}) " \
-        f"at {log.name_of(most.location)}"
+    return f"line {most.line:,}: {counted(most.size, 'byte')}{aligned} (class size {most.class_size:,}) at {log.name_of(most.location)}"
 
 
 def told_number(text):

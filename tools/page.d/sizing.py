@@ -44,12 +44,15 @@ def largest_of(path, requests, unserved):
 
 
 def numbers_of(path, requests, unserved, fit):
-    """The three numbers of the sure pool that fit tells. With another class size the bytes would be none that this log holds."""
+    """The three numbers of the sure pool; without one the bytes aren't known. By another class size they would be none that this
+    log can hold."""
     sure, blocks, peak = (int(text) if text.isdigit() else None
                           for text in (fit[name].split()[0] for name in ("sure pool", "held at most", "peak")))
-    if not sure or not requests:
+    if not requests:
         return None
     largest = largest_of(path, requests, unserved)
+    if not sure:
+        return Numbers(blocks, None, largest)
     size = sure - UNIT - (blocks + 1) * (largest.class_size - UNIT)
     if not peak <= size <= peak + UNIT * blocks:
         raise Differs(f"the numbers differ in the sure pool: {size} bytes in units of {UNIT}, and {peak} bytes at the peak")
