@@ -1,20 +1,21 @@
-/* tlsf.c: the calls of Conte's tlsf over the proved heap of tlsf_heap.h. Not proved.
+/* tlsf.c: the calls of Conte's tlsf over the proved heap of tlsf_heap.h. They aren't proved.
  *
- * The heap hands out places, from 0 to 2^32 - 1. It chooses each block, and knows whether a place
- * and a slot are a live block's: that is proved. This file turns places into addresses and back:
+ * The heap hands out places, from 0 to 2^32 - 1. It chooses each block, and knows whether a live
+ * block has a place and a slot: that is proved. This file turns places into addresses and back:
  *
  * - The control part, at the start of the memory handed in, keeps each pool's address and places.
  * - A block begins eight bytes in front of its pointer. Its place is as far behind the pool's first
- *   place as the pointer behind the first pointer, and equals the pointer modulo TLSF_MOST_ALIGN. So
- *   where the place is a multiple of an alignment, the pointer is one too.
- * - The eight bytes in front of a pointer, its front, keep the block's slot and size, scrambled with
- *   the pointer: so a byte that is changed there shows, and a copy elsewhere.
+ *   place as the pointer behind the first pointer, and equals the pointer modulo TLSF_MOST_ALIGN.
+ *   So where the place is a multiple of an alignment, the pointer is one too.
+ * - The eight bytes in front of a pointer, its front, keep the block's slot and size, scrambled
+ *   with the pointer. So a byte that is changed there shows, and so does a front copied to
+ *   elsewhere.
  * - A pointer is taken where it lies in a pool of the heap, its front is whole, and the heap has a
- *   live block there with that slot. So a null, stale or interior pointer is refused, and one of
- *   another heap. A pointer into no pool is refused unread.
- * - Not seen: a stale pointer where a later block begins. tlsf_block_size has no heap: it tells what
- *   a whole front does, which a freed block has no more, but one of a heap that is gone. A pool_t is
- *   read by its calls, but not by tlsf_remove_pool.
+ *   live block there with that slot. So a null, stale or interior pointer is refused, and so is one
+ *   of another heap. Nothing is read in front of a pointer into no pool.
+ * - A stale pointer where a later block begins isn't seen. tlsf_block_size gets no heap, so it
+ *   tells the size in any whole front. A freed block has none, but a block of a heap that is gone
+ *   may still have one. A pool_t is read by its calls, but not by tlsf_remove_pool.
  */
 #include "tlsf.h"
 
@@ -38,8 +39,9 @@
 #define TLSF_WALK_ROWS 64u
 #endif
 
-/* What a build for several threads sets, both: each call has the lock of its heap to its end. They
- * are given what the call was: a heap, a null pointer, or what the program takes for a heap. */
+/* A build for several threads defines both macros. Each call has the lock of its heap to its end.
+ * The macros get the call's first argument: a heap, a null pointer, or what the program takes for
+ * a heap. */
 #ifdef TLSF_LOCK
 static void unlock(const tlsf_t *tlsf) { TLSF_UNLOCK(*tlsf); }
 #define LOCKED(tlsf) \
