@@ -45,10 +45,10 @@ def largest_of(path, requests, unserved):
 
 def numbers_of(path, requests, unserved, fit):
     """The three numbers of the sure pool; without one the bytes aren't known. By another class size they would be none that this
-    log can hold."""
+    log can hold. Where the greatest pool refuses lines none of them is told."""
     sure, blocks, peak = (int(text) if text.isdigit() else None
                           for text in (fit[name].split()[0] for name in ("sure pool", "held at most", "peak")))
-    if not requests:
+    if not requests or not fit["records"].isdigit():
         return None
     largest = largest_of(path, requests, unserved)
     if not sure:
