@@ -55,7 +55,8 @@ pool_t tlsf_get_pool(tlsf_t tlsf);
 /* Adds a pool: all whole units of 16 bytes from `mem` on, or from `mem` + 8 on where `mem` is a
  * multiple of 16. Answers a null pointer where
  * - this is no unit, or more than 1,073,741,808 bytes
- * - the heap has eight pools already, or some of this memory
+ * - the heap has eight pools already
+ * - the heap has some of this memory already
  * - no record is vacant
  * - all pools together would have some 4 GiB. */
 pool_t tlsf_add_pool(tlsf_t tlsf, void *mem, size_t bytes);
