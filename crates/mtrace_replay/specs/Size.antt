@@ -1,6 +1,7 @@
 -- How much memory is always enough for a program that keeps to bounds told beforehand.
 use Rattle.std.specs.Prelude.{◌≡◌, ◌≢◌, ◌⊎◌, ◌↔◌, ℕ, ◌*◌, Bool, not, List, ◌++◌, Option, Some, None, unwrap_or, Result, Err, IfOk, IfErr, IsErrOf, IsTrue, codes}
 use Rattle.mtrace_log.specs.Shown.{WriterState}
+use Rattle.tlsf_class.specs.Rounding.{round}
 use Rattle.tlsf_heap.specs.Memalign.{is_alignment}
 use Rattle.tlsf_heap.specs.Sizing.{class_size, sure_records, sure_pool}
 use Rattle.mtrace_replay.specs.declared.size.Bounds.{Bounds}
@@ -8,7 +9,7 @@ use Rattle.mtrace_replay.specs.declared.status.Status.{Status}
 use Rattle.mtrace_replay.specs.declared.status.Status.TheVariants.{Clean}
 use Rattle.mtrace_replay.specs.declared.status.RunFault.{RunFault}
 use Rattle.mtrace_replay.specs.declared.status.RunFault.TheVariants.{Write, BadSettings}
-use Rattle.mtrace_replay.specs.Moment.{rounded_bytes}
+use Rattle.mtrace_replay.specs.Moment.{asked_size, rounded_bytes}
 use Rattle.mtrace_replay.specs.Saving.{PutsAndFlushes}
 use Rattle.mtrace_replay.specs.Texts.{record_lines, size_line}
 
@@ -20,10 +21,10 @@ align_of bounds = unwrap_or bounds.align 1
 abbrev pub are_bad_bounds : Bounds → Bool
 are_bad_bounds bounds = not (is_alignment (align_of bounds))
 
--- the bytes told, rounded up, or else as many blocks as there are, each of the largest size
+-- the bytes told, rounded up, but as they are above the greatest size; or else as many blocks as there are, each of the largest size
 abbrev pub blocks_bytes : (blocks largest : ℕ) → Option ℕ → ℕ
 blocks_bytes blocks largest None = blocks * rounded_bytes largest
-blocks_bytes blocks largest (Some bytes) = rounded_bytes bytes
+blocks_bytes blocks largest (Some bytes) = unwrap_or (round (asked_size bytes)) bytes
 
 -- the records with their table, and the pool that is always enough
 abbrev pub size_text : Bounds → List ℕ

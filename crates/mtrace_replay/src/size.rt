@@ -7,9 +7,10 @@ use crate::fit_text::{push_records, push_size_line};
 use crate::flush::flush_behind;
 use crate::line_text::LineText;
 use crate::status::{RunFault, Status};
-use crate::step::rounded_bytes;
+use crate::step::{asked_size, rounded_bytes};
 use arrayvec::ArrayVec;
 use mtrace_log::{Sink, put_all};
+use tlsf_class::round;
 use tlsf_heap::{class_size, is_alignment, sure_pool};
 
 /// What a program keeps to, whatever it asks for and in whatever order.
@@ -32,12 +33,16 @@ fn align_of(bounds: Bounds) -> u64
     bounds.align.unwrap_or(1)
 }
 
-/// The bytes in live blocks, in whole units: those told, or those of as many blocks of the largest size.
+/// The bytes in live blocks, in whole units: those told, or those of as many blocks of the largest size. Bytes above the
+/// greatest size are as told: no pool has as many.
 fn bytes_of(bounds: Bounds) -> u64
     ensures { result ≡ blocks_bytes bounds.blocks bounds.largest bounds.bytes }
 {
     match bounds.bytes {
-        Some(bytes) => rounded_bytes(bytes),
+        Some(bytes) => match round(asked_size(bytes)) {
+            Some(whole) => u64::from(whole),
+            None => bytes,
+        },
         None => u64::from(bounds.blocks) * rounded_bytes(bounds.largest),
     }
 }

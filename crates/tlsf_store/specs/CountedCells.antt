@@ -1,11 +1,11 @@
--- What contracts see of a store: its cells, and how often they were touched. A touch is one read or
--- write of a record, a class head, a bitmap word, the vacant mark or a pool entry.
+-- What contracts see of a store: its cells, and how often they were touched. A touch reads or writes a
+-- record, a class head, a bitmap word, the vacant mark or a pool entry, or does both.
 use Rattle.std.specs.Prelude.{◌≡◌, ℕ, ◌+◌}
 use Rattle.tlsf_store.specs.Cells.{Cells}
 
 pub record CountedCells : Type 0 where
   pub cells : Cells
-  -- how often a cell was read or written
+  -- how often a cell was touched
   pub touches : ℕ
 
 -- these cells are left, after n touches

@@ -30,7 +30,7 @@ struct Row {
     text: &'static [u8],
 }
 
-const ROWS: [Row; 13] = [
+const ROWS: [Row; 15] = [
     Row {
         bounds: LEAST,
         text: b"records: 5\ntable: 1776 bytes\nsure pool: 32 bytes\n",
@@ -106,6 +106,21 @@ const ROWS: [Row; 13] = [
     Row {
         bounds: Bounds {
             bytes: Some(1_073_741_793),
+            ..LEAST
+        },
+        text: b"records: 5\ntable: 1776 bytes\nsure pool: -\n",
+    },
+    // More than any pool has.
+    Row {
+        bounds: Bounds {
+            bytes: Some(1_073_741_809),
+            ..LEAST
+        },
+        text: b"records: 5\ntable: 1776 bytes\nsure pool: -\n",
+    },
+    Row {
+        bounds: Bounds {
+            bytes: Some(u64::MAX),
             ..LEAST
         },
         text: b"records: 5\ntable: 1776 bytes\nsure pool: -\n",
