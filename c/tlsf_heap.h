@@ -281,7 +281,8 @@ enum tlsf_status tlsf_heap_save(const tlsf_heap *heap, unsigned char *bytes, siz
 /* Fills *out with the heap whose image is in the `length` bytes at bytes. Each block that was live
  * is live again, with its place and its slot. The bytes need not be trusted. *out is filled exactly
  * where they break none of the twelve rules, unless memory is refused. The heap doesn't need the
- * bytes afterwards. At most 5 touches for each record and 8 for each of the 704 classes.
+ * bytes afterwards. Where it is served, at most 5 touches for each record and 8 for each of the 704
+ * classes.
  * Answers 0, or TLSF_OUT_OF_MEMORY. For the first rule that is broken it answers TLSF_BROKEN_MAGIC
  * to TLSF_BROKEN_ON_LISTS, and asks for no memory. Where length is 0, bytes still points to a byte.
  * Where *out is filled, what it held before is overwritten, so a heap in use would be lost. */
