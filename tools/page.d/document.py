@@ -203,7 +203,7 @@ def pool_words(log):
     tried = f", tried in steps of {log.step:,}" if log.step else ""
     return (f"sure {sure}; " if sure else "none is sure; ") + \
         (f"safe {safe}, for this log; least {least}; {told_number(fit['records'])} records{tried}." if safe else
-         "none serves this log, as the greatest refuses lines.") + \
+         "no single pool serves this log, as the largest refuses lines.") + \
         (f" The sure pool serves any log {within_words(log)}." if sure else f" {needs_words(log)}" if log.numbers else "")
 
 
