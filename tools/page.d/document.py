@@ -204,25 +204,25 @@ def pool_words(log):
     return (f"sure {sure}; " if sure else "none is sure; ") + \
         (f"safe {safe}, for this log; least {least}; {told_number(fit['records'])} records{tried}." if safe else
          "no single pool serves this log, as the largest refuses lines.") + \
-        (f" The sure pool serves any log {within_words(log)}." if sure else f" {needs_words(log)}" if log.numbers else "")
+        (f" The sure pool serves any log {within_words(log)}." if sure else f" {needs_words(log)}" if log.limits else "")
 
 
 def within_words(log):
     """What a log has to keep to, so that this one's sure pool serves it."""
-    if not log.numbers:
+    if not log.limits:
         return "within this one's most blocks, most bytes in units of 16, and largest request with its alignment"
-    return f"of at most {counted(log.numbers.blocks, 'block')} and {counted(log.numbers.size, 'byte')} in units of 16, " \
+    return f"of at most {counted(log.limits.blocks, 'block')} and {counted(log.limits.whole_bytes, 'byte')} in units of 16, " \
         f"with no request above that of {request_words(log)}"
 
 
 def needs_words(log):
     """What makes a sure pool too large, or needs too many records."""
-    return f"It holds {counted(log.numbers.blocks, 'block')}, and its largest request is that of {request_words(log)}."
+    return f"The log holds {counted(log.limits.blocks, 'block')}, and its largest request is that of {request_words(log)}."
 
 
 def request_words(log):
     """The largest request."""
-    most = log.numbers.largest
+    most = log.limits.largest
     aligned = f" at a multiple of {most.align:,}" if most.align > 16 else ""
     return f"line {most.line:,}: {counted(most.size, 'byte')}{aligned} (class size {most.class_size:,}) at {log.name_of(most.location)}"
 

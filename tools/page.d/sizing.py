@@ -1,12 +1,13 @@
 """What the sure pool rests on: the most blocks, the most bytes, and the largest request of a log (docs/USING.md)."""
 from collections import namedtuple
 
-from log import parts_of
+from log import NIL, parts_of
 from reports import ALREADY_HELD, STRAY, UNIT, Differs
 
 # The first line that asks for the most: its number, location, bytes, alignment and class size.
 Largest = namedtuple("Largest", "line location size align class_size")
-Numbers = namedtuple("Numbers", "blocks size largest")
+# Most blocks, most bytes in these, each rounded up, and the largest request.
+Limits = namedtuple("Limits", "blocks whole_bytes largest")
 # A line with one of these asks the heap for nothing.
 ASKS_NOTHING = {ALREADY_HELD, STRAY}
 
@@ -25,10 +26,10 @@ def class_size(align, size):
 def request_of(line):
     """Alignment and size in digits that a line asks for, and its location; nothing where it asks for none."""
     words = line.split()
-    location, form, _, size = parts_of(words)
+    location, form, address, size = parts_of(words)
     if form == b"*":
         return words[-2], size, location
-    return (b"0x1", size, location) if form in (b"+", b">") else None
+    return (b"0x1", size, location) if form in (b"+", b">") and address != NIL else None
 
 
 def largest_of(path, requests, unserved):
@@ -43,7 +44,7 @@ def largest_of(path, requests, unserved):
     raise Differs(f"{path} has no line that asks for the most")
 
 
-def numbers_of(path, requests, unserved, fit):
+def limits_of(path, requests, unserved, fit):
     """The three numbers of the sure pool; without one the bytes aren't known. By another class size they would be none that this
     log can hold. Where the greatest pool refuses lines none of them is told."""
     sure, blocks, peak = (int(text) if text.isdigit() else None
@@ -52,8 +53,8 @@ def numbers_of(path, requests, unserved, fit):
         return None
     largest = largest_of(path, requests, unserved)
     if not sure:
-        return Numbers(blocks, None, largest)
-    size = sure - UNIT - (blocks + 1) * (largest.class_size - UNIT)
-    if not peak <= size <= peak + UNIT * blocks:
-        raise Differs(f"the numbers differ in the sure pool: {size} bytes in units of {UNIT}, and {peak} bytes at the peak")
-    return Numbers(blocks, size, largest)
+        return Limits(blocks, None, largest)
+    whole_bytes = sure - UNIT - (blocks + 1) * (largest.class_size - UNIT)
+    if not peak <= whole_bytes <= peak + UNIT * blocks:
+        raise Differs(f"the numbers differ in the sure pool: {whole_bytes} bytes in units of {UNIT}, and {peak} bytes at the peak")
+    return Limits(blocks, whole_bytes, largest)

@@ -6,6 +6,7 @@ import sys
 from collections import Counter
 from concurrent.futures import ThreadPoolExecutor
 from itertools import accumulate
+from urllib.parse import unquote_to_bytes
 
 import reports
 import sizing
@@ -28,7 +29,7 @@ class Study:
         self.path = os.path.join(".", path) if path.startswith("-") else path
         self.name, self.heap = shown(os.fsencode(os.path.basename(path))), reports.heap_words(heap)
         self.program, self.progress = program, progress
-        self.running, self.numbers = [], None
+        self.running, self.limits = [], None
         before = self.state()
         try:
             self.read(count)
@@ -72,7 +73,7 @@ class Study:
         self.progress.tell("the pools that the log needs are tried")
         later.result()
         if self.first_refused is None:
-            self.numbers = sizing.numbers_of(self.path, requests, self.unserved, dict(self.fit))
+            self.limits = sizing.limits_of(self.path, requests, self.unserved, dict(self.fit))
         self.at_peak, self.at_end = reports.read_sites(sites.text())
         self.leaks = reports.read_leaks(leaks.text())
 
@@ -162,7 +163,7 @@ class Study:
     def newer_modules(self):
         """Programs and libraries that were changed after the log was written, whose source lines are told."""
         written = os.stat(self.path).st_mtime_ns
-        names = {module for location, told in self.told.items() if told != location for module in MODULE.findall(location)}
+        names = {unquote_to_bytes(module) for location, told in self.told.items() if told != location for module in MODULE.findall(location)}
         return [shown(name) for name in sorted(names) if os.path.exists(name) and os.stat(name).st_mtime_ns > written]
 
     def told_of(self, location):
