@@ -10,6 +10,12 @@ ghost use Rattle.tlsf_heap.specs.Run.{Run};
 ghost use Rattle.tlsf_heap.specs.Sizing.{most_refusing, sure_records};
 ghost use Rattle.tlsf_heap.specs.Within.{IsLargeEnough, StaysWithin, IsNotFull};
 
+ghost use Rattle.std.specs.Prelude.{◌≢◌, Some, true};
+ghost use Rattle.tlsf_heap.specs.Memalign.{is_alignment, size_asked};
+ghost use Rattle.tlsf_heap.specs.Room.{HasRoom, HasRoomAligned};
+ghost use Rattle.tlsf_heap.specs.Sizing.{class_size};
+ghost use Rattle.tlsf_heap.specs.Within.{AsksAtMost, TakesWithin};
+
 use crate::Heaped;
 
 /// No request of a run is refused for want of a block or of a record, where the run stays within bounds and the heap
@@ -25,4 +31,15 @@ pub fn runs_within_find_room<H: Heaped>()
 pub fn one_pool_is_large_enough()
     ensures { (blocks bytes size records base pool : ℕ) (content : Content ℕ) → add_pool base pool (created records) ≡ Ok content
         → most_refusing 1 blocks bytes size < pool → sure_records blocks ≤ records → IsGood content × IsLargeEnough blocks bytes size content }
+{}
+
+/// What is within bounds, on a heap large enough for them, has room.
+pub fn within_has_room()
+    ensures plain { (blocks bytes size n : ℕ) (content : Content ℕ) → IsLargeEnough blocks bytes size content → TakesWithin blocks bytes size (λ m. m) n content → HasRoom n content }
+    ensures aligned { (blocks bytes size align n : ℕ) (content : Content ℕ) → IsLargeEnough blocks bytes size content → TakesWithin blocks bytes size (size_asked align) n content → HasRoomAligned align n content }
+{}
+
+/// A request for no more bytes, at no greater alignment, asks for no larger class.
+pub fn smaller_asks_less()
+    ensures { (most_align most size align n : ℕ) → class_size most_align most ≡ Some size → is_alignment align ≡ true → align ≤ most_align → n ≢ 0 → n ≤ most → AsksAtMost size (size_asked align) n }
 {}
