@@ -10,6 +10,11 @@ ghost use Rattle.tlsf_heap.specs.Run.{Run};
 ghost use Rattle.tlsf_heap.specs.Sizing.{most_refusing, sure_records};
 ghost use Rattle.tlsf_heap.specs.Within.{IsLargeEnough, StaysWithin, IsNotFull};
 
+ghost use Rattle.std.specs.Prelude.{◌≢◌, Err, IsOk};
+ghost use Rattle.tlsf_heap.specs.declared.refusal.Refusal.TheVariants.{NoFit};
+ghost use Rattle.tlsf_heap.specs.Malloc.{malloc};
+ghost use Rattle.tlsf_heap.specs.Content.{used_records};
+
 use crate::Heaped;
 
 /// No request of a run is refused for want of a block or of a record, where the run stays within bounds and the heap
@@ -25,4 +30,9 @@ pub fn runs_within_find_room<H: Heaped>()
 pub fn one_pool_is_large_enough()
     ensures { (blocks bytes size records base pool : ℕ) (content : Content ℕ) → add_pool base pool (created records) ≡ Ok content
         → most_refusing 1 blocks bytes size < pool → sure_records blocks ≤ records → IsGood content × IsLargeEnough blocks bytes size content }
+{}
+
+/// Where a record is left, malloc of some bytes is served unless no block fits.
+pub fn a_record_left_serves()
+    ensures { (slot n : ℕ) (content : Content ℕ) → n ≢ 0 → used_records content < content.records → malloc slot n content ≢ Err NoFit → IsOk (malloc slot n content) }
 {}
