@@ -1,6 +1,6 @@
 -- A run that stays within its bounds is refused neither for want of a block nor for want of a record.
 use Rattle.std.proofs.Common.{◌≡◌, ◌≢◌, ℕ, ◌+◌, ◌-◌, ◌*◌, ◌<◌, ◌≤◌, Bool, List, [], ◌∷◌, length, map, Option, Some, None, Ok, Err, ◌⊎◌, inl, inr, refl, sym, ap, ◌∙◌, subst, arith, All}
-use Rattle.std.specs.Prelude.{◌==◌, Result}
+use Rattle.std.specs.Prelude.{◌==◌, Result, IsTrue}
 use Rattle.std.proofs.lemmas.Bool.{cases_Bool, eq-eqb}
 use Rattle.std.proofs.lemmas.List.{length-map}
 use Rattle.std.proofs.lemmas.List.Elements.{All-cons}
@@ -182,11 +182,14 @@ module _ (blocks bytes size : ℕ) where
       let some = some_bytes owner n content why (not_other why ZeroSize (λ e. cc) (λ e. cc) want) refused in
       room_serves owner n content why enough.good (room_within blocks bytes size (λ m. m) 1 n content (omega arith) enough.large (within some)) refused
 
-  memalign_served : (why : Refusal) → IsWant why → (owner align n : ℕ) (content : Content ℕ) → IsEnough content → AllWithin (size_asked align) n content → memalign owner align n content ≡ Err why → ⊥
+  memalign_served : (why : Refusal) → IsWant why → (owner align n : ℕ) (content : Content ℕ) → IsEnough content → (IsTrue (is_alignment align) → AllWithin (size_asked align) n content) → memalign owner align n content ≡ Err why → ⊥
   memalign_served why want owner align n content enough within refused =
       let aligned = not_other why BadAlign (λ e. cc) (λ e. cc) want in
       let some = some_aligned_bytes owner align n content why aligned (not_other why ZeroSize (λ e. cc) (λ e. cc) want) refused in
-      aligned (aligned_room_serves owner align n content why enough.good (room_within blocks bytes size (size_asked align) 2 n content (omega arith) enough.large (within some)) refused)
+      elim (cases_Bool (is_alignment align)) [
+        | inl good ↦ aligned (aligned_room_serves owner align n content why enough.good (room_within blocks bytes size (size_asked align) 2 n content (omega arith) enough.large (within good some)) refused)
+        | inr bad ↦ (let is : memalign owner align n content ≡ Err BadAlign = rw bad refl in aligned (cc))
+      ]
 
   -- a realloc asks for a block, or names no live block
   realloc_served : (why : Refusal) → IsWant why → (owner : ℕ) (pointer : Option (ℕ × ℕ)) (n : ℕ) (content : Content ℕ) → IsEnough content → AllWithin (λ m. m) n content → realloc (λ a b. a == b) owner pointer n content ≡ Err why → ⊥
