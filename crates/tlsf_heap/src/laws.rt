@@ -1,14 +1,15 @@
 //! Laws of the definitions, each the contract of a function that does nothing.
 
-ghost use Rattle.std.specs.Prelude.{◌≡◌, ℕ, ◌<◌, ◌≤◌, List, Ok, All};
+ghost use Rattle.std.specs.Prelude.{◌≡◌, ℕ, ◌*◌, ◌<◌, ◌≤◌, List, Some, Ok, All};
 ghost use Rattle.tlsf_heap.specs.declared.request.Request.{Request};
 ghost use Rattle.tlsf_heap.specs.declared.answer.Answer.{Answer};
 ghost use Rattle.tlsf_heap.specs.Content.{Content};
 ghost use Rattle.tlsf_heap.specs.Pools.{created, add_pool};
 ghost use Rattle.tlsf_heap.specs.Good.{IsGood};
 ghost use Rattle.tlsf_heap.specs.Run.{Run};
-ghost use Rattle.tlsf_heap.specs.Sizing.{most_refusing, sure_records};
+ghost use Rattle.tlsf_heap.specs.Sizing.{class_size, most_refusing, sure_records};
 ghost use Rattle.tlsf_heap.specs.Within.{IsLargeEnough, StaysWithin, IsNotFull};
+ghost use Rattle.tlsf_heap.specs.OneSize.{HasRecords, StaysOfSize};
 
 use crate::Heaped;
 
@@ -25,4 +26,13 @@ pub fn runs_within_find_room<H: Heaped>()
 pub fn one_pool_is_large_enough()
     ensures { (blocks bytes size records base pool : ℕ) (content : Content ℕ) → add_pool base pool (created records) ≡ Ok content
         → most_refusing 1 blocks bytes size < pool → sure_records blocks ≤ records → IsGood content × IsLargeEnough blocks bytes size content }
+{}
+
+/// Blocks of one size alone, the lowest of a class, waste nothing. A heap was just created and given one pool, of at least as
+/// many bytes as `blocks` such blocks have. It has records for as many such blocks as have the bytes of the pool, or two for
+/// each of the `blocks`. Then no request of a run that holds at most `blocks` of them at once is refused for want of a block
+/// or of a record, in whatever order they are asked for and given back.
+pub fn blocks_of_one_size_find_room<H: Heaped>()
+    ensures { (blocks size records base pool : ℕ) (requests : List Request) (answers : List Answer) (old new : Content ℕ) (before after : ℕ) (run : Run H.lacks requests answers old new before after)
+        → add_pool base pool (created records) ≡ Ok old → class_size 1 size ≡ Some size → blocks * size ≤ pool → HasRecords blocks size pool records → StaysOfSize blocks size H.lacks requests answers old new before after run → All IsNotFull answers }
 {}
