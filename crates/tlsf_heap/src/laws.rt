@@ -13,6 +13,7 @@ ghost use Rattle.tlsf_heap.specs.Room.{HasRoom, HasRoomAligned};
 ghost use Rattle.tlsf_heap.specs.Run.{Run};
 ghost use Rattle.tlsf_heap.specs.Sizing.{class_size, most_refusing, sure_records};
 ghost use Rattle.tlsf_heap.specs.Within.{AsksAtMost, IsLargeEnough, IsNotFull, StaysWithin, TakesWithin};
+ghost use Rattle.tlsf_heap.specs.OneSize.{HasRecords, StaysOfSize};
 
 use crate::Heaped;
 
@@ -45,4 +46,13 @@ pub fn smaller_asks_less()
 /// Where a record is left, malloc of some bytes is served unless no block fits.
 pub fn a_record_left_serves()
     ensures { (slot n : ℕ) (content : Content ℕ) → n ≢ 0 → used_records content < content.records → malloc slot n content ≢ Err NoFit → IsOk (malloc slot n content) }
+{}
+
+/// Blocks of one size alone, the lowest of a class, waste nothing. A heap was just created and given one pool, of at least as
+/// many bytes as `blocks` such blocks have. It has records for as many such blocks as have the bytes of the pool, or two for
+/// each of the `blocks`. Then no request of a run that holds at most `blocks` of them at once is refused for want of a block
+/// or of a record, in whatever order they are asked for and given back.
+pub fn blocks_of_one_size_find_room<H: Heaped>()
+    ensures { (blocks size records base pool : ℕ) (requests : List Request) (answers : List Answer) (old new : Content ℕ) (before after : ℕ) (run : Run H.lacks requests answers old new before after)
+        → add_pool base pool (created records) ≡ Ok old → class_size 1 size ≡ Some size → blocks * size ≤ pool → HasRecords blocks size pool records → StaysOfSize blocks size H.lacks requests answers old new before after run → All IsNotFull answers }
 {}
