@@ -32,7 +32,7 @@ pub record EndsEarly (many : ℕ) (reader_old reader_new : ReaderState) : Type 0
 -- The reader failed before it gave this many lines, or has fewer.
 abbrev pub StopsEarly : (many : ℕ) (reader_old reader_new : ReaderState) → Type 0
 StopsEarly many reader_old reader_new =
-    ((first : List ReadLine) × FailedInPiece reader_old reader_new first) ⊎ EndsEarly many reader_old reader_new
+    ((first : List ReadLine) × (length first < many) × FailedInPiece reader_old reader_new first) ⊎ EndsEarly many reader_old reader_new
 
 -- the reader, where it has begun again
 abbrev pub begun_again : ReaderState → ReaderState

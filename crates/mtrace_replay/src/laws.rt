@@ -19,6 +19,9 @@ ghost use Rattle.mtrace_replay.specs.Held.{IsHeldUnder};
 ghost use Rattle.mtrace_replay.specs.Entry.{Entry};
 ghost use Rattle.mtrace_replay.specs.Sites.{Site, AreSites};
 
+ghost use Rattle.mtrace_replay.specs.declared.totals.Totals.{Totals};
+ghost use Rattle.mtrace_replay.specs.Totals.{AreTotals, IsMost};
+
 use tlsf_heap::{Heap, Heaped};
 
 /// An address is held under a line exactly where that line asked for it and was served, and no later line
@@ -79,4 +82,10 @@ pub fn all_pools_stand()
 /// made.
 pub fn nothing_is_lacked()
     ensures { ⟦<Heap as Heaped>⟧.lacks → ⊥ }
+{}
+
+/// The totals of a history are one.
+pub fn one_totals()
+    ensures totals { (start : Bare) (past : List Moment) (one other : Totals) → AreTotals start past one → AreTotals start past other → one ≡ other }
+    ensures most { (measure : List Given → ℕ) (past : List Moment) (one other : ℕ) → IsMost measure past one → IsMost measure past other → one ≡ other }
 {}

@@ -5,6 +5,8 @@ pub mod SlotsLeft
 pub mod Implied
 pub mod Room
 pub mod Within
+pub mod Cut
+pub mod OneSize
 pub mod AlignedImplied
 pub mod RemovedPool
 pub mod Realloc

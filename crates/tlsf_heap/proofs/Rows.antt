@@ -1,4 +1,5 @@
 -- Worked rows, computed by the definitions.
 mod Heap
 mod Run
+mod OneSize
 mod Pools

@@ -24,6 +24,7 @@ pub mod PlainHeap
 pub mod Implied
 pub mod Room
 pub mod Within
+pub mod OneSize
 pub mod Sizing
 pub mod Inner
 pub mod Images

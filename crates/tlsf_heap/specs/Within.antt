@@ -1,5 +1,5 @@
 -- Runs that stay within bounds told beforehand: of live blocks, of the bytes in them, and of what a request asks the lists for.
-use Rattle.std.specs.Prelude.{◌≡◌, ◌≢◌, ℕ, ◌+◌, ◌*◌, ◌<◌, ◌≤◌, List, ◌∷◌, length, Some, ⊤}
+use Rattle.std.specs.Prelude.{◌≡◌, ◌≢◌, ℕ, ◌+◌, ◌*◌, ◌<◌, ◌≤◌, List, ◌∷◌, length, Some, IsTrue, ⊤}
 use Rattle.tlsf_class.specs.Classes.{low, need}
 use Rattle.tlsf_class.specs.Rounding.{round}
 use Rattle.tlsf_heap.specs.declared.request.Request.{Request}
@@ -8,7 +8,7 @@ use Rattle.tlsf_heap.specs.declared.answer.Answer.{Answer}
 use Rattle.tlsf_heap.specs.declared.answer.Answer.TheVariants.{Refused}
 use Rattle.tlsf_heap.specs.declared.refusal.Refusal.TheVariants.{NoFit, TableFull}
 use Rattle.tlsf_heap.specs.Content.{Content, blocks_of}
-use Rattle.tlsf_heap.specs.Memalign.{size_asked}
+use Rattle.tlsf_heap.specs.Memalign.{is_alignment, size_asked}
 use Rattle.tlsf_heap.specs.Implied.{live_blocks}
 use Rattle.tlsf_heap.specs.Room.{live_bytes, pool_bytes}
 use Rattle.tlsf_heap.specs.Sizing.{most_refusing}
@@ -34,7 +34,7 @@ abbrev pub IsWithin : (blocks bytes size : ℕ) → Request → Content ℕ → 
 IsWithin blocks bytes size (AddPool base pool) content = ⊥
 IsWithin blocks bytes size (RemovePool base) content = ⊥
 IsWithin blocks bytes size (Malloc n) content = n ≢ 0 → TakesWithin blocks bytes size (λ m. m) n content
-IsWithin blocks bytes size (Memalign align n) content = n ≢ 0 → TakesWithin blocks bytes size (size_asked align) n content
+IsWithin blocks bytes size (Memalign align n) content = IsTrue (is_alignment align) → n ≢ 0 → TakesWithin blocks bytes size (size_asked align) n content
 IsWithin blocks bytes size (Realloc pointer n) content = n ≢ 0 → TakesWithin blocks bytes size (λ m. m) n content
 IsWithin blocks bytes size request content = ⊤
 

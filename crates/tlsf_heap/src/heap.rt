@@ -238,6 +238,7 @@ impl Heap {
     pub fn realloc(&mut self, ptr: Option<Ptr>, n: u64) -> Result<Option<Ptr>, Refusal>
         ensures ok { IfOk result (λ given. IsMoved (realloc_ptr ptr n) ptr given self.old.content self.new.content) }
         ensures refused { Refuses result (λ refusal. (slot : ℕ) → realloc_ptr ptr n slot self.old.content ≡ Err refusal) (IsUnchanged self.old self.new) }
+        ensures no_fit { result ≡ Err NoFit → NoneFits n self.old.content }
         ensures table_full { result ≡ Err TableFull → HasFewRecords self.old.content }
         ensures room { HasRoom n self.old.content → IfErr result (λ refusal. refusal ≡ BadPointer) }
         ensures bound { AtMost realloc_touches self.old.touches self.new.touches }

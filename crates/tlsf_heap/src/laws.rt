@@ -1,14 +1,19 @@
 //! Laws of the definitions, each the contract of a function that does nothing.
 
-ghost use Rattle.std.specs.Prelude.{◌≡◌, ℕ, ◌<◌, ◌≤◌, List, Ok, All};
+ghost use Rattle.std.specs.Prelude.{◌≡◌, ◌≢◌, ℕ, ◌*◌, ◌<◌, ◌≤◌, List, Some, Ok, Err, IsOk, All, true};
 ghost use Rattle.tlsf_heap.specs.declared.request.Request.{Request};
 ghost use Rattle.tlsf_heap.specs.declared.answer.Answer.{Answer};
-ghost use Rattle.tlsf_heap.specs.Content.{Content};
+ghost use Rattle.tlsf_heap.specs.declared.refusal.Refusal.TheVariants.{NoFit};
+ghost use Rattle.tlsf_heap.specs.Content.{Content, used_records};
 ghost use Rattle.tlsf_heap.specs.Pools.{created, add_pool};
 ghost use Rattle.tlsf_heap.specs.Good.{IsGood};
+ghost use Rattle.tlsf_heap.specs.Malloc.{malloc};
+ghost use Rattle.tlsf_heap.specs.Memalign.{is_alignment, size_asked};
+ghost use Rattle.tlsf_heap.specs.Room.{HasRoom, HasRoomAligned};
 ghost use Rattle.tlsf_heap.specs.Run.{Run};
-ghost use Rattle.tlsf_heap.specs.Sizing.{most_refusing, sure_records};
-ghost use Rattle.tlsf_heap.specs.Within.{IsLargeEnough, StaysWithin, IsNotFull};
+ghost use Rattle.tlsf_heap.specs.Sizing.{class_size, most_refusing, sure_records};
+ghost use Rattle.tlsf_heap.specs.Within.{AsksAtMost, IsLargeEnough, IsNotFull, StaysWithin, TakesWithin};
+ghost use Rattle.tlsf_heap.specs.OneSize.{HasRecords, StaysOfSize};
 
 use crate::Heaped;
 
@@ -25,4 +30,29 @@ pub fn runs_within_find_room<H: Heaped>()
 pub fn one_pool_is_large_enough()
     ensures { (blocks bytes size records base pool : ℕ) (content : Content ℕ) → add_pool base pool (created records) ≡ Ok content
         → most_refusing 1 blocks bytes size < pool → sure_records blocks ≤ records → IsGood content × IsLargeEnough blocks bytes size content }
+{}
+
+/// What is within bounds, on a heap large enough for them, has room.
+pub fn within_has_room()
+    ensures plain { (blocks bytes size n : ℕ) (content : Content ℕ) → IsLargeEnough blocks bytes size content → TakesWithin blocks bytes size (λ m. m) n content → HasRoom n content }
+    ensures aligned { (blocks bytes size align n : ℕ) (content : Content ℕ) → IsLargeEnough blocks bytes size content → TakesWithin blocks bytes size (size_asked align) n content → HasRoomAligned align n content }
+{}
+
+/// A request for no more bytes, at no greater alignment, asks for no larger class.
+pub fn smaller_asks_less()
+    ensures { (most_align most size align n : ℕ) → class_size most_align most ≡ Some size → is_alignment align ≡ true → align ≤ most_align → n ≢ 0 → n ≤ most → AsksAtMost size (size_asked align) n }
+{}
+
+/// Where a record is left, malloc of some bytes is served unless no block fits.
+pub fn a_record_left_serves()
+    ensures { (slot n : ℕ) (content : Content ℕ) → n ≢ 0 → used_records content < content.records → malloc slot n content ≢ Err NoFit → IsOk (malloc slot n content) }
+{}
+
+/// Blocks of one size alone, the lowest of a class, waste nothing. A heap was just created and given one pool, of at least as
+/// many bytes as `blocks` such blocks have. It has records for as many such blocks as have the bytes of the pool, or two for
+/// each of the `blocks`. Then no request of a run that holds at most `blocks` of them at once is refused for want of a block
+/// or of a record, in whatever order they are asked for and given back.
+pub fn blocks_of_one_size_find_room<H: Heaped>()
+    ensures { (blocks size records base pool : ℕ) (requests : List Request) (answers : List Answer) (old new : Content ℕ) (before after : ℕ) (run : Run H.lacks requests answers old new before after)
+        → add_pool base pool (created records) ≡ Ok old → class_size 1 size ≡ Some size → blocks * size ≤ pool → HasRecords blocks size pool records → StaysOfSize blocks size H.lacks requests answers old new before after run → All IsNotFull answers }
 {}

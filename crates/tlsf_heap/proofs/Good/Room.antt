@@ -22,7 +22,7 @@ use Rattle.tlsf_heap.proofs.Content.ReallocCases.{realloc_reasons}
 use Rattle.tlsf_heap.proofs.Good.Implied.{no_fit, malloc_full, few_blocks}
 use Rattle.tlsf_heap.proofs.Good.AlignedImplied.{aligned_no_fit, aligned_full}
 
-product_le : (a b c : ℕ) → a ≤ b → a * c ≤ b * c
+pub product_le : (a b c : ℕ) → a ≤ b → a * c ≤ b * c
 product_le zero b c l = omega arith
 product_le (suc a) zero c l = absurd (omega (arith, l))
 product_le (suc a) (suc b) c l = omega (arith, product_le a b c (omega (arith, l)))
@@ -30,7 +30,7 @@ product_le (suc a) (suc b) c l = omega (arith, product_le a b c (omega (arith, l
 one_more : (a c : ℕ) → suc a * c ≡ c + a * c
 one_more a c = omega arith
 
-add_product : (a b c : ℕ) → (a + b) * c ≡ a * c + b * c
+pub add_product : (a b c : ℕ) → (a + b) * c ≡ a * c + b * c
 add_product zero b c = omega arith
 add_product (suc a) b c = omega (arith, add_product a b c)
 
@@ -80,11 +80,11 @@ module _ {A : Type 0} where
   free_count-append [] back = omega arith
   free_count-append (block ∷ front) back = omega (arith, free_count-append front back, count-cons (λ b. is_free b) block front, count-cons (λ b. is_free b) block (front ++ back))
 
-  front_of : (P : Block A → Type 0) (front back : List (Block A)) → AllByRecursion P (front ++ back) → AllByRecursion P front
+  pub front_of : (P : Block A → Type 0) (front back : List (Block A)) → AllByRecursion P (front ++ back) → AllByRecursion P front
   front_of P [] back all = tt
   front_of P (block ∷ front) back all = (all.0, front_of P front back all.1)
 
-  back_of : (P : Block A → Type 0) (front back : List (Block A)) → AllByRecursion P (front ++ back) → AllByRecursion P back
+  pub back_of : (P : Block A → Type 0) (front back : List (Block A)) → AllByRecursion P (front ++ back) → AllByRecursion P back
   back_of P [] back all = all
   back_of P (block ∷ front) back all = back_of P front back all.1
 

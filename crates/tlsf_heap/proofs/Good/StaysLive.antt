@@ -38,7 +38,7 @@ module _ {A : Type 0} where
   free_at_own : (block : Block A) → is_free block ≡ true → is_free_at block.place block ≡ true
   free_at_own block free = ap (λ b. b && is_free block) (eq-eqb block.place block.place refl) ∙ free
 
-  found_stands : (kind : Block A → Bool) (place : ℕ) (blocks : List (Block A)) (found : Found place blocks) → kind found.block ≡ true → 1 ≤ count_by kind blocks
+  pub found_stands : (kind : Block A → Bool) (place : ℕ) (blocks : List (Block A)) (found : Found place blocks) → kind found.block ≡ true → 1 ≤ count_by kind blocks
   found_stands kind place blocks found passes =
       omega (arith, ap (count_by kind) found.whole, count-append kind found.front (found.block ∷ found.back), count-cons kind found.block found.back, ap one_if passes)
 

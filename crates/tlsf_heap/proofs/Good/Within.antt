@@ -1,6 +1,6 @@
 -- A run that stays within its bounds is refused neither for want of a block nor for want of a record.
 use Rattle.std.proofs.Common.{◌≡◌, ◌≢◌, ℕ, ◌+◌, ◌-◌, ◌*◌, ◌<◌, ◌≤◌, Bool, List, [], ◌∷◌, length, map, Option, Some, None, Ok, Err, ◌⊎◌, inl, inr, refl, sym, ap, ◌∙◌, subst, arith, All}
-use Rattle.std.specs.Prelude.{◌==◌, Result}
+use Rattle.std.specs.Prelude.{◌==◌, Result, IsTrue}
 use Rattle.std.proofs.lemmas.Bool.{cases_Bool, eq-eqb}
 use Rattle.std.proofs.lemmas.List.{length-map}
 use Rattle.std.proofs.lemmas.List.Elements.{All-cons}
@@ -37,21 +37,21 @@ use Rattle.tlsf_heap.proofs.Good.Room.{room_serves, aligned_room_serves}
 use Rattle.tlsf_heap.proofs.Content.PoolCases.{pool_added}
 
 -- a refusal for want of a block, or of a record
-abbrev IsWant : Refusal → Type 0
+abbrev pub IsWant : Refusal → Type 0
 IsWant why = (why ≡ NoFit) ⊎ (why ≡ TableFull)
 
-not_other : (why other : Refusal) → (NoFit ≢ other) → (TableFull ≢ other) → IsWant why → why ≢ other
+pub not_other : (why other : Refusal) → (NoFit ≢ other) → (TableFull ≢ other) → IsWant why → why ≢ other
 not_other why other fit full (inl is) e = fit (sym is ∙ e)
 not_other why other fit full (inr is) e = full (sym is ∙ e)
 
-not_bad : (why : Refusal) → IsWant why → why ≢ BadPointer
+pub not_bad : (why : Refusal) → IsWant why → why ≢ BadPointer
 not_bad why = not_other why BadPointer (λ e. cc) (λ e. cc)
 
 -- what every request but those of pools leaves as it was
-record Keeps {A : Type 0} (old new : Content A) : Type 0 where
-  pools : length new.pools ≡ length old.pools
-  bytes : pool_bytes new.pools ≡ pool_bytes old.pools
-  records : new.records ≡ old.records
+pub record Keeps {A : Type 0} (old new : Content A) : Type 0 where
+  pub pools : length new.pools ≡ length old.pools
+  pub bytes : pool_bytes new.pools ≡ pool_bytes old.pools
+  pub records : new.records ≡ old.records
 
 module _ {A : Type 0} where
   replaced_bytes : (place : ℕ) (others : List (Block A)) (pools : List (Pool A)) → pool_bytes (map (replaced_in place others) pools) ≡ pool_bytes pools
@@ -66,7 +66,7 @@ module _ {A : Type 0} where
   without_bytes None pools = refl
   without_bytes (Some block) pools = replaced_bytes block.place [] pools
 
-  malloc_keeps : (owner : A) (n : ℕ) (content : Content A) (given : ℕ × Content A) → malloc owner n content ≡ Ok given → Keeps content given.1
+  pub malloc_keeps : (owner : A) (n : ℕ) (content : Content A) (given : ℕ × Content A) → malloc owner n content ≡ Ok given → Keeps content given.1
   malloc_keeps owner n content given served =
       let gave = malloc_gave owner content n given served in
       subst (λ (g : ℕ × Content A). Keeps content g.1) gave.4 (record {
@@ -75,7 +75,7 @@ module _ {A : Type 0} where
         records = refl;
       })
 
-  memalign_keeps : (owner : A) (align n : ℕ) (content : Content A) (given : ℕ × Content A) → memalign owner align n content ≡ Ok given → Keeps content given.1
+  pub memalign_keeps : (owner : A) (align n : ℕ) (content : Content A) (given : ℕ × Content A) → memalign owner align n content ≡ Ok given → Keeps content given.1
   memalign_keeps owner align n content given served =
       let gave = memalign_given owner align n content given served in
       subst (λ (g : ℕ × Content A). Keeps content g.1) gave.1 (record {
@@ -84,7 +84,7 @@ module _ {A : Type 0} where
         records = refl;
       })
 
-  freed_keeps : (place : ℕ) (content : Content A) → Keeps content (after_free place content)
+  pub freed_keeps : (place : ℕ) (content : Content A) → Keeps content (after_free place content)
   freed_keeps place content =
       let previous : Option (Block A) = free_previous place content in
       let next : Option (Block A) = free_next place content in
@@ -94,7 +94,7 @@ module _ {A : Type 0} where
         records = refl;
       }
 
-  realloc_keeps : (same : A → A → Bool) (owner : A) (pointer : Option (ℕ × A)) (n : ℕ) (content : Content A) (given : Option (ℕ × A) × Content A) → realloc same owner pointer n content ≡ Ok given → Keeps content given.1
+  pub realloc_keeps : (same : A → A → Bool) (owner : A) (pointer : Option (ℕ × A)) (n : ℕ) (content : Content A) (given : Option (ℕ × A) × Content A) → realloc same owner pointer n content ≡ Ok given → Keeps content given.1
   realloc_keeps same owner None n content given served = of (malloc owner n content) refl served
     where
       of : (answer : Result (ℕ × Content A) Refusal) → malloc owner n content ≡ answer → given_anew owner answer ≡ Ok given → Keeps content given.1
@@ -119,23 +119,23 @@ module _ {A : Type 0} where
       given served
 
   -- free and block_size are refused for the pointer alone
-  free_refused : (is_meant : A → Bool) (place : ℕ) (content : Content A) (refusal : Refusal) → free is_meant place content ≡ Err refusal → refusal ≡ BadPointer
+  pub free_refused : (is_meant : A → Bool) (place : ℕ) (content : Content A) (refusal : Refusal) → free is_meant place content ≡ Err refusal → refusal ≡ BadPointer
   free_refused is_meant place content refusal e = elim (cases_Bool (is_live is_meant place (blocks_of content.pools))) [
     | inl live ↦ let is : free is_meant place content ≡ Ok (after_free place content) = rw live refl in absurd (cc)
     | inr stale ↦ let refused : free is_meant place content ≡ Err BadPointer = rw stale refl in cc
   ]
 
-  size_refused : (is_meant : A → Bool) (place : ℕ) (content : Content A) (refusal : Refusal) → block_size is_meant place content ≡ Err refusal → refusal ≡ BadPointer
+  pub size_refused : (is_meant : A → Bool) (place : ℕ) (content : Content A) (refusal : Refusal) → block_size is_meant place content ≡ Err refusal → refusal ≡ BadPointer
   size_refused is_meant place content refusal e = elim (cases_Bool (is_live is_meant place (blocks_of content.pools))) [
     | inl live ↦ let is : block_size is_meant place content ≡ Ok (size_at place (blocks_of content.pools)) = rw live refl in absurd (cc)
     | inr stale ↦ let refused : block_size is_meant place content ≡ Err BadPointer = rw stale refl in cc
   ]
 
   -- no request for no bytes is refused for want of a block or of a record
-  some_bytes : (owner : A) (n : ℕ) (content : Content A) (refusal : Refusal) → refusal ≢ ZeroSize → malloc owner n content ≡ Err refusal → n ≢ 0
+  pub some_bytes : (owner : A) (n : ℕ) (content : Content A) (refusal : Refusal) → refusal ≢ ZeroSize → malloc owner n content ≡ Err refusal → n ≢ 0
   some_bytes owner n content refusal other refused = λ nothing. other (let zero_size : malloc owner n content ≡ Err ZeroSize = ap (λ k. malloc owner k content) nothing in cc)
 
-  some_aligned_bytes : (owner : A) (align n : ℕ) (content : Content A) (refusal : Refusal) → refusal ≢ BadAlign → refusal ≢ ZeroSize → memalign owner align n content ≡ Err refusal → n ≢ 0
+  pub some_aligned_bytes : (owner : A) (align n : ℕ) (content : Content A) (refusal : Refusal) → refusal ≢ BadAlign → refusal ≢ ZeroSize → memalign owner align n content ≡ Err refusal → n ≢ 0
   some_aligned_bytes owner align n content refusal aligned other refused = λ nothing. elim (cases_Bool (is_alignment align)) [
     | inl is ↦ let zero_size : memalign owner align n content ≡ Err ZeroSize = rw (is, eq-eqb n 0 nothing) refl in other (cc)
     | inr isn't ↦ let bad : memalign owner align n content ≡ Err BadAlign = rw isn't refl in aligned (cc)
@@ -182,11 +182,14 @@ module _ (blocks bytes size : ℕ) where
       let some = some_bytes owner n content why (not_other why ZeroSize (λ e. cc) (λ e. cc) want) refused in
       room_serves owner n content why enough.good (room_within blocks bytes size (λ m. m) 1 n content (omega arith) enough.large (within some)) refused
 
-  memalign_served : (why : Refusal) → IsWant why → (owner align n : ℕ) (content : Content ℕ) → IsEnough content → AllWithin (size_asked align) n content → memalign owner align n content ≡ Err why → ⊥
+  memalign_served : (why : Refusal) → IsWant why → (owner align n : ℕ) (content : Content ℕ) → IsEnough content → (IsTrue (is_alignment align) → AllWithin (size_asked align) n content) → memalign owner align n content ≡ Err why → ⊥
   memalign_served why want owner align n content enough within refused =
       let aligned = not_other why BadAlign (λ e. cc) (λ e. cc) want in
       let some = some_aligned_bytes owner align n content why aligned (not_other why ZeroSize (λ e. cc) (λ e. cc) want) refused in
-      aligned (aligned_room_serves owner align n content why enough.good (room_within blocks bytes size (size_asked align) 2 n content (omega arith) enough.large (within some)) refused)
+      elim (cases_Bool (is_alignment align)) [
+        | inl good ↦ aligned (aligned_room_serves owner align n content why enough.good (room_within blocks bytes size (size_asked align) 2 n content (omega arith) enough.large (within good some)) refused)
+        | inr bad ↦ (let is : memalign owner align n content ≡ Err BadAlign = rw bad refl in aligned (cc))
+      ]
 
   -- a realloc asks for a block, or names no live block
   realloc_served : (why : Refusal) → IsWant why → (owner : ℕ) (pointer : Option (ℕ × ℕ)) (n : ℕ) (content : Content ℕ) → IsEnough content → AllWithin (λ m. m) n content → realloc (λ a b. a == b) owner pointer n content ≡ Err why → ⊥

@@ -34,7 +34,7 @@ returns-in-Err-clause-next g c =
           let came = calls_to_fault reads start.calls c.args.lines.now c.advance.new.self c.args.reader.now c.advance.new.reader _ _ c.in-Err.field-0 gave.0 c.in-Err.ensures.calls c.in-Err.ensures.fault in
           let why = replaying_fault reads settings c.args.lines.now c.advance.new.self c.args.replay.now start c.args.reader.now c.advance.new.reader c.in-Err.field-0
           so_far c.in-Err.ensures.fault c.in-Err.ensures.nothing_held came in
-          inl (so_far.lines, failed_in_piece start (reads c.advance.new.reader) so_far.lines (omega (arith, so_far.count, up, within)) why);
+          inl (so_far.lines, omega (arith, so_far.count, up), failed_in_piece start (reads c.advance.new.reader) so_far.lines (omega (arith, so_far.count, up, within)) why);
       whole = c.advance.ensures.whole;
       records = refl;
     }

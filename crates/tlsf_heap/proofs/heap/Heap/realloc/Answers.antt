@@ -8,7 +8,7 @@ use Rattle.tlsf_heap.specs.Inner.Following.{content_of}
 use Rattle.tlsf_heap.specs.Malloc.{malloc}
 use Rattle.tlsf_heap.specs.Realloc.{realloc}
 use Rattle.tlsf_heap.proofs.Inner.Standing.{content_is_good}
-use Rattle.tlsf_heap.proofs.Good.Implied.{malloc_full}
+use Rattle.tlsf_heap.proofs.Good.Implied.{malloc_full, no_fit}
 use Rattle.tlsf_heap.proofs.Good.Room.{realloc_room_serves}
 use Rattle.tlsf_heap.proofs.Content.MallocCases.{malloc_lacks_none}
 use Rattle.tlsf_heap.proofs.Content.ReallocCases.{realloc_refused}
@@ -50,3 +50,11 @@ pub returns-clause-room : goal.returns-clause-room
 returns-clause-room c =
     rw (← c.self.view_is) (λ room. each_err c.realloc.result (λ refusal. refusal ≡ BadPointer)
     (λ refusal is. realloc_room_serves 0 (λ a b. a == b) (place_and_slot c.args.ptr) c.args.n (content_of c.self.inside.store.cells) refusal (content_is_good c.self.inside.store.cells c.self.invariant) room (refused_anew c refusal is)))
+
+pub returns-clause-no_fit : goal.returns-clause-no_fit
+returns-clause-no_fit c = λ is.
+    rw (← c.self.view_is) (λ m k rounds needed. elim (realloc_refused 0 NoFit (λ a b. a == b) (place_and_slot c.args.ptr) c.args.n (content_of c.self.inside.store.cells) (refused_anew c NoFit is)) [
+      | inl asked ↦ no_fit 0 c.args.n (content_of c.self.inside.store.cells) (content_is_good c.self.inside.store.cells c.self.invariant) asked m k rounds needed
+      | inr (inl fit) ↦ absurd (cc)
+      | inr (inr bad) ↦ absurd (cc)
+    ])
