@@ -13,6 +13,10 @@ use Rattle.mtrace_log.specs.declared.line.Line.{Line}
 use Rattle.mtrace_log.specs.declared.line.ReadFault.{ReadFault}
 use Rattle.mtrace_log.specs.declared.line.ReadFault.TheVariants.{ReaderFailed, TooManyLines}
 
+-- the most bytes that a reader is asked for at once
+abbrev pub most_asked : ℕ
+most_asked = 4096
+
 -- lines are still read, or the end was told, or a fault was answered
 pub data Stage : Type 0 where
   Reading : Stage

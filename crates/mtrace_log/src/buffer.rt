@@ -1,8 +1,9 @@
 //! The bytes that were asked of a reader and aren't read yet.
-ghost use Rattle.std.specs.Prelude.{◌≡◌, ◌<◌, ◌==◌, ◌∷◌, [], length, true, IfOk, OnErr, MatchOption};
+ghost use Rattle.std.specs.Prelude.{◌≡◌, ◌<◌, ◌≤◌, ◌==◌, ◌∷◌, [], length, true, IfOk, OnErr, MatchOption};
 ghost use Rattle.std.specs.Io.KnownBytes.{prepend_known, IsAtEnd};
 ghost use Rattle.mtrace_log.specs.Buffer.{Buffered, TakesBufferedLine};
 ghost use Rattle.mtrace_log.specs.Frequent.{IsFrequent};
+ghost use Rattle.mtrace_log.specs.Progress.{most_asked};
 ghost use Rattle.mtrace_log.specs.Trace.{pulled};
 
 use crate::failed::Failed;
@@ -65,6 +66,13 @@ impl Buffer {
         ensures { result.now ≡ self.now.unread }
     {
         &self.bytes[self.start..self.end]
+    }
+
+    /// Says how many bytes are unread at most, and does nothing.
+    pub(crate) fn holds_few(&self)
+        ensures { length self.now.unread ≤ most_asked }
+    {
+        let _bytes = &self.bytes;
     }
 
     /// Takes the unread bytes before the first newline as a line, and passes over the newline; false where there is none.

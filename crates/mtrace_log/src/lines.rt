@@ -1,6 +1,6 @@
-ghost use Rattle.std.specs.Prelude.{◌≡◌, ◌<◌, [], length, Some};
+ghost use Rattle.std.specs.Prelude.{◌≡◌, ◌<◌, ◌≤◌, [], length, Some};
 ghost use Rattle.mtrace_log.specs.Bytes.{Lacks, newline};
-ghost use Rattle.mtrace_log.specs.Progress.{Reading, greatest_number, Says, GivesLine, PassesLine, Advances};
+ghost use Rattle.mtrace_log.specs.Progress.{Reading, greatest_number, most_asked, Says, GivesLine, PassesLine, Advances};
 
 use crate::buffer::Buffer;
 use crate::event::{Event, LineFault};
@@ -111,6 +111,13 @@ impl Lines {
             Stage::Ended => Ok(None),
             Stage::Faulted(fault) => Err(fault),
         }
+    }
+
+    /// Says how many bytes were asked of the reader at most that belong to no line yet, and does nothing.
+    pub fn holds_few(&self)
+        ensures { length self.now.held ≤ most_asked }
+    {
+        self.buffer.holds_few();
     }
 
     /// What the line says that was passed last, with its location where it lies; before the first, what an empty line says.

@@ -1,7 +1,7 @@
 -- The first lines of a log, read and replayed.
 use Rattle.std.proofs.Common.{◌≡◌, ◌<◌, ◌≤◌, ◌∷◌, ℕ, List, length, refl, sym, subst, arith, ◌⊎◌, inl, inr}
 use Rattle.std.specs.Prelude.{Result, Ok, Err}
-use Rattle.mtrace_log.specs.Progress.{Progress, Stage, Reading, Ended, Faulted, to_come, greatest_number}
+use Rattle.mtrace_log.specs.Progress.{Progress, Stage, Reading, Ended, Faulted, to_come, greatest_number, most_asked}
 use Rattle.mtrace_log.specs.Shown.{ReaderState}
 use Rattle.mtrace_log.specs.declared.call.Call.TheVariants.{Gave, Began}
 use Rattle.mtrace_log.proofs.TraceLemmas.{moved_none}
@@ -18,8 +18,8 @@ use Rattle.mtrace_replay.proofs.ReplayingLemmas.{used_to_end, no_line, replaying
 
 -- what was read so far
 pub read_first : (settings : Settings) (progress : Progress) (replay : Replayed) (start now : ReaderState) → (so_far : IsReplaying settings progress replay start now)
-    → HasReadFirst progress.count start.left now.left so_far.lines
-read_first settings progress replay start now so_far = record { count = sym so_far.count; unused = progress.held; read = by_stage progress.stage refl so_far.read }
+    → length progress.held ≤ most_asked → HasReadFirst progress.count start.left now.left so_far.lines
+read_first settings progress replay start now so_far few = record { count = sym so_far.count; unused = progress.held; few = few; read = by_stage progress.stage refl so_far.read }
   where
     by_stage : (stage : Stage) → progress.stage ≡ stage → HasReadSo stage start.left (to_come progress now.left) so_far.lines
         → HasRead start.left (to_come progress now.left) so_far.lines ⊎ HasReadAll start.left now.left so_far.lines
@@ -30,10 +30,10 @@ read_first settings progress replay start now so_far = record { count = sym so_f
 -- as many lines as were wanted
 pub first_at_most : (many : ℕ) (settings : Settings) (progress : Progress) (replay : Replayed) (start now : ReaderState)
     → (so_far : IsReplaying settings progress replay start now) → progress.count ≡ many
-    → HasReplayedFirst many settings replay start.left now.left
-first_at_most many settings progress replay start now so_far all = record {
+    → length progress.held ≤ most_asked → HasReplayedFirst many settings replay start.left now.left
+first_at_most many settings progress replay start now so_far all few = record {
   lines = so_far.lines;
-  read = subst (λ n. HasReadFirst n start.left now.left so_far.lines) all (read_first settings progress replay start now so_far);
+  read = subst (λ n. HasReadFirst n start.left now.left so_far.lines) all (read_first settings progress replay start now so_far few);
   stands = so_far.stands;
 }
 
@@ -58,20 +58,20 @@ has_begun reader_old reader_middle left_is whole_is calls_are = λ i. record { l
 
 -- the lines up to one, from the first on, are the first lines
 pub first_up_to : {E : Type 0} (many : ℕ) (result : Result (Unit {0}) E) (new : Progress) (replay_old replay_new : Replayed) (reader_old reader_new : ReaderState)
-    → many ≤ greatest_number → ReplaysUpTo many result no_line new replay_old replay_new (begun_again reader_old) reader_new
+    → many ≤ greatest_number → length new.held ≤ most_asked → ReplaysUpTo many result no_line new replay_old replay_new (begun_again reader_old) reader_new
     → ReplaysFirst many result replay_old replay_new reader_old reader_new
-first_up_to many (Ok done) new replay_old replay_new reader_old reader_new within up =
+first_up_to many (Ok done) new replay_old replay_new reader_old reader_new within few up =
     let start = begun_again reader_old in
     let none = moved_none Gave start.calls in
     record {
       done = λ settings stands.
-          first_at_most many settings new replay_new start reader_new (up.replaying settings start (replaying_start settings replay_old start stands)).now up.reached;
+          first_at_most many settings new replay_new start reader_new (up.replaying settings start (replaying_start settings replay_old start stands)).now up.reached few;
       not_failed = (up.gave start (none, inl none)).1;
       read = tt;
       whole = up.whole;
       records = up.records;
     }
-first_up_to many (Err failed) new replay_old replay_new reader_old reader_new within up = record {
+first_up_to many (Err failed) new replay_old replay_new reader_old reader_new within few up = record {
   done = tt;
   not_failed = tt;
   read = λ settings stands.

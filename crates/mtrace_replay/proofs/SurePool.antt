@@ -1,11 +1,12 @@
 -- A log on one pool is refused neither for want of a block nor for want of a record, where the pool is large enough for what
 -- is held and asked for.
-use Rattle.std.proofs.Common.{◌≡◌, ℕ, ◌+◌, ◌-◌, ◌*◌, ◌<◌, ◌≤◌, true, List, [], ◌∷◌, length, Some, None, refl, sym, ap, ◌∙◌, subst, arith}
+use Rattle.std.proofs.Common.{◌≡◌, ℕ, ◌+◌, ◌-◌, ◌*◌, ◌<◌, ◌≤◌, true, List, [], ◌∷◌, length, Some, None, Err, inl, inr, refl, sym, ap, ◌∙◌, subst, arith}
 use Rattle.std.specs.List.{AllByRecursion}
+use Rattle.std.proofs.lemmas.Bool.{cases_Bool}
 use Rattle.tlsf_class.specs.Classes.{unit}
-use Rattle.tlsf_heap.specs.declared.refusal.Refusal.TheVariants.{NoFit}
+use Rattle.tlsf_heap.specs.declared.refusal.Refusal.TheVariants.{NoFit, BadAlign}
 use Rattle.tlsf_heap.specs.Content.{Pool, blocks_of, used_records}
-use Rattle.tlsf_heap.specs.Memalign.{size_asked}
+use Rattle.tlsf_heap.specs.Memalign.{is_alignment, size_asked, memalign}
 use Rattle.tlsf_heap.specs.Good.{IsGood}
 use Rattle.tlsf_heap.specs.Implied.{live_blocks}
 use Rattle.tlsf_heap.specs.Room.{live_bytes, pool_bytes, HasRoomFor}
@@ -41,8 +42,10 @@ module _ (most bytes size : ℕ) where
   act_fits idle content enough of refused = refused
   act_fits (give entry None) content enough of refused =
       room_serves tt (asked_size entry.size) content NoFit enough.good (room (λ m. m) 1 (asked_size entry.size) content (omega arith) enough of) refused
-  act_fits (give entry (Some align)) content enough of refused =
-      let other = aligned_room_serves tt align (asked_size entry.size) content NoFit enough.good (room (size_asked align) 2 (asked_size entry.size) content (omega arith) enough of) refused in absurd (cc)
+  act_fits (give entry (Some align)) content enough of refused = elim (cases_Bool (is_alignment align)) [
+    | inl good ↦ (let other = aligned_room_serves tt align (asked_size entry.size) content NoFit enough.good (room (size_asked align) 2 (asked_size entry.size) content (omega arith) enough (of good)) refused in absurd (cc))
+    | inr bad ↦ (let is : memalign tt align (asked_size entry.size) content ≡ Err BadAlign = rw bad refl in absurd (cc))
+  ]
   act_fits (take address place) content enough of refused = refused
   act_fits (move old place entry) content enough of refused =
       let other = realloc_room_serves tt (λ one other. true) (Some (place, tt)) (asked_size entry.size) content NoFit enough.good (room (λ m. m) 1 (asked_size entry.size) content (omega arith) enough of) refused in absurd (cc)

@@ -1,8 +1,8 @@
 -- A log that is read until a line is refused.
-use Rattle.std.proofs.Common.{◌≡◌, ◌≢◌, ◌<◌, ◌≤◌, ℕ, List, [], ◌∷◌, ◌++◌, map, refl, sym, ap, ◌∙◌, subst, inl, inr, true, false, append_assoc}
+use Rattle.std.proofs.Common.{◌≡◌, ◌≢◌, ◌<◌, ◌≤◌, ℕ, List, [], ◌∷◌, ◌++◌, length, map, refl, sym, ap, ◌∙◌, subst, inl, inr, true, false, append_assoc}
 use Rattle.std.specs.List.{AllByRecursion}
 use Rattle.std.specs.Prelude.{Result, Ok, Err, OnOk, OnErr}
-use Rattle.mtrace_log.specs.Progress.{Progress}
+use Rattle.mtrace_log.specs.Progress.{Progress, most_asked}
 use Rattle.mtrace_log.specs.Trace.{HasNotFailed}
 use Rattle.mtrace_log.specs.declared.call.Call.{Call}
 use Rattle.mtrace_log.specs.declared.call.Call.TheVariants.{Gave, Failed, Began, Ended as ToldEnd}
@@ -16,15 +16,15 @@ use Rattle.mtrace_replay.proofs.AgainLemmas.{read_first, has_begun}
 
 -- no line is refused
 pub tried_served : (many : ℕ) (settings : Settings) (progress : Progress) (replay : Replayed) (start now : ReaderState) → (so_far : IsReplaying settings progress replay start now)
-    → progress.count ≡ many → replay.totals.refused ≡ 0 → IsTried settings many true start.left now.left
-tried_served many settings progress replay start now so_far all none =
-    (so_far.lines, subst (λ n. HasReadFirst n start.left now.left so_far.lines) all (read_first settings progress replay start now so_far), sym so_far.stands.totals.refused ∙ none)
+    → length progress.held ≤ most_asked → progress.count ≡ many → replay.totals.refused ≡ 0 → IsTried settings many true start.left now.left
+tried_served many settings progress replay start now so_far few all none =
+    (so_far.lines, subst (λ n. HasReadFirst n start.left now.left so_far.lines) all (read_first settings progress replay start now so_far few), sym so_far.stands.totals.refused ∙ none)
 
 -- a line is refused
 pub tried_refused : (many : ℕ) (settings : Settings) (progress : Progress) (replay : Replayed) (start now : ReaderState) → IsReplaying settings progress replay start now
-    → progress.count ≤ many → 0 < replay.totals.refused → IsTried settings many false start.left now.left
-tried_refused many settings progress replay start now so_far few some =
-    (so_far.lines, progress.count, few, read_first settings progress replay start now so_far, subst (λ n. 0 < n) so_far.stands.totals.refused some)
+    → length progress.held ≤ most_asked → progress.count ≤ many → 0 < replay.totals.refused → IsTried settings many false start.left now.left
+tried_refused many settings progress replay start now so_far few within some =
+    (so_far.lines, progress.count, within, read_first settings progress replay start now so_far few, subst (λ n. 0 < n) so_far.stands.totals.refused some)
 
 gave_no_failure : (counts : List ℕ) → AllByRecursion (λ call. call ≢ Failed) (map Gave counts)
 gave_no_failure [] = tt

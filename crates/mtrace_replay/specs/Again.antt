@@ -1,8 +1,9 @@
 -- A log that is read again.
-use Rattle.std.specs.Prelude.{◌≡◌, ◌≢◌, ◌⊎◌, ℕ, ◌<◌, List, [], ◌∷◌, length, reverse, Result, Ok, Err, IfOk, IfErr, OnOk, OnErr, IsErrOf}
+use Rattle.std.specs.Prelude.{◌≡◌, ◌≢◌, ◌⊎◌, ℕ, ◌<◌, ◌≤◌, List, [], ◌∷◌, length, reverse, Result, Ok, Err, IfOk, IfErr, OnOk, OnErr, IsErrOf}
 use Rattle.std.specs.Io.KnownBytes.{prepend_known}
 use Rattle.mtrace_log.specs.Shown.{Bytes, ReaderState, WriterState}
 use Rattle.mtrace_log.specs.HasRead.{HasRead, HasReadAll}
+use Rattle.mtrace_log.specs.Progress.{most_asked}
 use Rattle.mtrace_log.specs.Trace.{HasNotFailed, HasGivenAll}
 use Rattle.mtrace_replay.specs.declared.settings.Settings.{Settings}
 use Rattle.mtrace_replay.specs.Moment.{ReadLine}
@@ -16,10 +17,11 @@ use Rattle.mtrace_replay.specs.Run.{Reports, Runs, NothingDone, FailedInPiece}
 use Rattle.mtrace_log.specs.declared.call.Call.TheVariants.{Began, Failed}
 
 -- The first lines of a text were read, this many. Unused are the bytes that were asked of the reader and belong to none of
--- them.
+-- them: no more than are asked for at once.
 pub record HasReadFirst (many : ℕ) (before after : Bytes) (lines : List ReadLine) : Type 0 where
   pub count : length lines ≡ many
   pub unused : List ℕ
+  pub few : length unused ≤ most_asked
   pub read : HasRead before (prepend_known unused after) lines ⊎ HasReadAll before after lines
 
 -- The text has fewer lines than this, and the reader told its end.

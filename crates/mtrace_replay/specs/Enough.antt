@@ -1,9 +1,9 @@
 -- What is held at most, which blocks are asked for at most, and for what reasons a line isn't refused.
-use Rattle.std.specs.Prelude.{◌≢◌, ℕ, suc, ◌≤◌, List, [], ◌∷◌, length, Some, None, ⊤}
+use Rattle.std.specs.Prelude.{◌≢◌, ℕ, suc, ◌≤◌, List, [], ◌∷◌, length, Some, None, IsTrue, ⊤}
 use Rattle.std.specs.List.{AllByRecursion}
 use Rattle.tlsf_heap.specs.declared.refusal.Refusal.{Refusal}
 use Rattle.tlsf_heap.specs.declared.refusal.Refusal.TheVariants.{TableFull}
-use Rattle.tlsf_heap.specs.Memalign.{size_asked}
+use Rattle.tlsf_heap.specs.Memalign.{is_alignment, size_asked}
 use Rattle.tlsf_heap.specs.Within.{AsksAtMost}
 use Rattle.mtrace_replay.specs.declared.diagnostic.Diagnostic.{Diagnostic}
 use Rattle.mtrace_replay.specs.declared.diagnostic.Kind.TheVariants.{Refused}
@@ -29,10 +29,10 @@ abbrev pub acts_of : Bare → List ReadLine → List Act
 acts_of start [] = []
 acts_of start (line ∷ past) = act_of start line past ∷ acts_of start past
 
--- no block is asked for, or one in these bounds
+-- no block is asked for, or one in these bounds; what is asked at a bad alignment is refused for that
 abbrev pub IsOfAtMost : ℕ → Act → Type 0
 IsOfAtMost size (give entry None) = AsksAtMost size (λ m. m) (asked_size entry.size)
-IsOfAtMost size (give entry (Some align)) = AsksAtMost size (size_asked align) (asked_size entry.size)
+IsOfAtMost size (give entry (Some align)) = IsTrue (is_alignment align) → AsksAtMost size (size_asked align) (asked_size entry.size)
 IsOfAtMost size (move old place entry) = AsksAtMost size (λ m. m) (asked_size entry.size)
 IsOfAtMost size _ = ⊤
 

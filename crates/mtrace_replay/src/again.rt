@@ -78,5 +78,7 @@ pub(crate) fn replay_again<R: Again>(
     reader.begin()?;
     let mut lines = Lines::new();
     let mut findings = Findings::none();
-    replay_up_to(&mut lines, reader, replay, &mut findings, many)
+    let replayed = replay_up_to(&mut lines, reader, replay, &mut findings, many);
+    lines.holds_few();
+    replayed
 }

@@ -18,9 +18,10 @@ ghost use Rattle.mtrace_replay.specs.Enough.{HoldsAtMost, HoldsBytesAtMost, acts
 ghost use Rattle.mtrace_replay.specs.Held.{IsHeldUnder};
 ghost use Rattle.mtrace_replay.specs.Entry.{Entry};
 ghost use Rattle.mtrace_replay.specs.Sites.{Site, AreSites};
-
 ghost use Rattle.mtrace_replay.specs.declared.totals.Totals.{Totals};
 ghost use Rattle.mtrace_replay.specs.Totals.{AreTotals, IsMost};
+ghost use Rattle.mtrace_replay.specs.declared.point.Point.{Point};
+ghost use Rattle.mtrace_replay.specs.Timeline.{AreTold, IsPoint};
 
 use tlsf_heap::{Heap, Heaped};
 
@@ -84,8 +85,14 @@ pub fn nothing_is_lacked()
     ensures { ⟦<Heap as Heaped>⟧.lacks → ⊥ }
 {}
 
-/// The totals of a history are one.
+/// The totals of a history are one, and the most of a measure is.
 pub fn one_totals()
     ensures totals { (start : Bare) (past : List Moment) (one other : Totals) → AreTotals start past one → AreTotals start past other → one ≡ other }
     ensures most { (measure : List Given → ℕ) (past : List Moment) (one other : ℕ) → IsMost measure past one → IsMost measure past other → one ≡ other }
+{}
+
+/// The numbers of lines that a timeline tells are one list, and what it tells of each is one point.
+pub fn one_timeline()
+    ensures told { (lines peak parts : ℕ) (one other : List ℕ) → AreTold lines peak parts one → AreTold lines peak parts other → one ≡ other }
+    ensures points { (start : Bare) (past : List Moment) (one other : Point) → IsPoint start past one → IsPoint start past other → one.line ≡ other.line → one ≡ other }
 {}

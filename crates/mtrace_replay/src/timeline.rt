@@ -70,6 +70,7 @@ fn read_points<R: Again>(
         replay_up_to(&mut lines, reader, replay, &mut findings, *number)?;
         points.push_reserved(point_after(replay));
     }
+    lines.holds_few();
     Ok(())
 }
 

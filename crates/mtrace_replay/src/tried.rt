@@ -34,8 +34,10 @@ pub(crate) fn is_served<R: Source>(
     for _ in 0..many {
         replay_next(&mut lines, reader, replay, &mut findings)?;
         if replay.totals().refused > 0 {
+            lines.holds_few();
             return Ok(false);
         }
     }
+    lines.holds_few();
     Ok(true)
 }

@@ -1,12 +1,14 @@
 -- Runs that ask for blocks of one size alone, and hold no more of them at once than were told beforehand.
-use Rattle.std.specs.Prelude.{◌≡◌, ◌≢◌, ℕ, ◌*◌, ◌<◌, ◌≤◌, ◌⊎◌, List, ◌∷◌, Some, None, ⊤}
+use Rattle.std.specs.Prelude.{◌≡◌, ◌≢◌, ℕ, ◌*◌, ◌<◌, ◌≤◌, ◌⊎◌, List, ◌∷◌, Some, None, IsTrue, ⊤}
 use Rattle.tlsf_class.specs.Classes.{unit}
 use Rattle.tlsf_class.specs.Rounding.{round}
 use Rattle.tlsf_heap.specs.declared.request.Request.{Request}
 use Rattle.tlsf_heap.specs.declared.request.Request.TheVariants.{AddPool, RemovePool, Malloc, Memalign, Realloc}
 use Rattle.tlsf_heap.specs.declared.answer.Answer.{Answer}
 use Rattle.tlsf_heap.specs.Content.{Content}
+use Rattle.tlsf_heap.specs.Memalign.{is_alignment}
 use Rattle.tlsf_heap.specs.Implied.{live_blocks}
+use Rattle.tlsf_heap.specs.Within.{NamesLive}
 use Rattle.tlsf_heap.specs.Run.{Run}
 
 -- There are records for as many blocks of this size as have the bytes of the pool; or two for each of the `blocks`.
@@ -18,15 +20,16 @@ pub record TakesOne {A : Type 0} (blocks size n : ℕ) (content : Content A) : T
   pub few : live_blocks content < blocks
   pub rounds : round n ≡ Some size
 
--- A request is for a block of this size, and leaves at most `blocks` live ones. Each is that asks for no bytes. An alignment
--- is at most the unit, which each block has anyway. A block that is live gets no other size. No pool comes or goes.
+-- A request is for a block of this size, and leaves at most `blocks` live ones. Each is that asks for no bytes, at a bad
+-- alignment, or for a pointer that names no live block. An alignment is at most the unit, which each block has anyway. A block
+-- that is live gets no other size. No pool comes or goes.
 abbrev pub IsOfSize : (blocks size : ℕ) → Request → Content ℕ → Type 0
 IsOfSize blocks size (AddPool base pool) content = ⊥
 IsOfSize blocks size (RemovePool base) content = ⊥
 IsOfSize blocks size (Malloc n) content = n ≢ 0 → TakesOne blocks size n content
-IsOfSize blocks size (Memalign align n) content = n ≢ 0 → (align ≤ unit) × TakesOne blocks size n content
+IsOfSize blocks size (Memalign align n) content = IsTrue (is_alignment align) → n ≢ 0 → (align ≤ unit) × TakesOne blocks size n content
 IsOfSize blocks size (Realloc None n) content = n ≢ 0 → TakesOne blocks size n content
-IsOfSize blocks size (Realloc (Some pointer) n) content = n ≢ 0 → round n ≡ Some size
+IsOfSize blocks size (Realloc (Some pointer) n) content = NamesLive (Some pointer) content → n ≢ 0 → round n ≡ Some size
 IsOfSize blocks size request content = ⊤
 
 -- each request of the run is of this size, on the content that the one before left

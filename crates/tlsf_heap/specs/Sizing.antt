@@ -1,5 +1,6 @@
 -- How much memory is always enough: by how many blocks are live, by their bytes, and by what a request asks the lists for.
 use Rattle.std.specs.Prelude.{ℕ, ◌+◌, ◌-◌, ◌*◌, ◌&&◌, nat_le, Option, Some, None, option_map, option_and_then, if◌then◌else◌}
+use Rattle.std.specs.Int.{next_multiple_of}
 use Rattle.tlsf_class.specs.Classes.{unit, greatest_size, low, need}
 use Rattle.tlsf_class.specs.Rounding.{round}
 use Rattle.tlsf_store.specs.Records.{most_records}
@@ -23,9 +24,13 @@ sure_records blocks = 2 * blocks + 3
 abbrev pub table_bytes : ℕ → ℕ
 table_bytes records = 16 * records + 1696
 
--- one pool of a unit more than may refuse; none above the greatest pool, where there can't be as many records, or no class
+-- the least whole units above the most bytes of one pool that may refuse
+abbrev pub sure_bytes : (blocks bytes size : ℕ) → ℕ
+sure_bytes blocks bytes size = next_multiple_of (most_refusing 1 blocks bytes size + 1) unit
+
+-- one pool of that many bytes; none above the greatest pool, where there can't be as many records, or no class
 abbrev pub sure_pool : (blocks bytes : ℕ) → Option ℕ → Option ℕ
 sure_pool blocks bytes None = None
 sure_pool blocks bytes (Some size) =
-    if nat_le (sure_records blocks) most_records && nat_le (most_refusing 1 blocks bytes size + unit) greatest_size
-    then Some (most_refusing 1 blocks bytes size + unit) else None
+    if nat_le (sure_records blocks) most_records && nat_le (sure_bytes blocks bytes size) greatest_size
+    then Some (sure_bytes blocks bytes size) else None

@@ -1,5 +1,5 @@
 -- Runs that stay within bounds told beforehand: of live blocks, of the bytes in them, and of what a request asks the lists for.
-use Rattle.std.specs.Prelude.{◌≡◌, ◌≢◌, ℕ, ◌+◌, ◌*◌, ◌<◌, ◌≤◌, List, ◌∷◌, length, Some, IsTrue, ⊤}
+use Rattle.std.specs.Prelude.{◌≡◌, ◌≢◌, ◌==◌, ℕ, ◌+◌, ◌*◌, ◌<◌, ◌≤◌, List, ◌∷◌, length, Option, Some, None, IsTrue, ⊤}
 use Rattle.tlsf_class.specs.Classes.{low, need}
 use Rattle.tlsf_class.specs.Rounding.{round}
 use Rattle.tlsf_heap.specs.declared.request.Request.{Request}
@@ -9,6 +9,8 @@ use Rattle.tlsf_heap.specs.declared.answer.Answer.TheVariants.{Refused}
 use Rattle.tlsf_heap.specs.declared.refusal.Refusal.TheVariants.{NoFit, TableFull}
 use Rattle.tlsf_heap.specs.Content.{Content, blocks_of}
 use Rattle.tlsf_heap.specs.Memalign.{is_alignment, size_asked}
+use Rattle.tlsf_heap.specs.Free.{is_live}
+use Rattle.tlsf_heap.specs.Pointer.{Pointer}
 use Rattle.tlsf_heap.specs.Implied.{live_blocks}
 use Rattle.tlsf_heap.specs.Room.{live_bytes, pool_bytes}
 use Rattle.tlsf_heap.specs.Sizing.{most_refusing}
@@ -29,13 +31,19 @@ pub record TakesWithin {A : Type 0} (blocks bytes size : ℕ) (asked : ℕ → �
   pub small : live_bytes (blocks_of content.pools) ≤ bytes
   pub asks : AsksAtMost size asked n
 
--- A request keeps to the bounds on the content that it finds. Each does that asks for no bytes. No pool comes or goes.
+-- the pointer of a realloc names a live block, or there is none
+abbrev pub NamesLive : Option Pointer → Content ℕ → Type 0
+NamesLive None content = ⊤
+NamesLive (Some pointer) content = IsTrue (is_live (λ slot. slot == pointer.slot) pointer.place (blocks_of content.pools))
+
+-- A request keeps to the bounds on the content that it finds. Each does that asks for no bytes, at a bad alignment, or for a
+-- pointer that names no live block. No pool comes or goes.
 abbrev pub IsWithin : (blocks bytes size : ℕ) → Request → Content ℕ → Type 0
 IsWithin blocks bytes size (AddPool base pool) content = ⊥
 IsWithin blocks bytes size (RemovePool base) content = ⊥
 IsWithin blocks bytes size (Malloc n) content = n ≢ 0 → TakesWithin blocks bytes size (λ m. m) n content
 IsWithin blocks bytes size (Memalign align n) content = IsTrue (is_alignment align) → n ≢ 0 → TakesWithin blocks bytes size (size_asked align) n content
-IsWithin blocks bytes size (Realloc pointer n) content = n ≢ 0 → TakesWithin blocks bytes size (λ m. m) n content
+IsWithin blocks bytes size (Realloc pointer n) content = NamesLive pointer content → n ≢ 0 → TakesWithin blocks bytes size (λ m. m) n content
 IsWithin blocks bytes size request content = ⊤
 
 -- each request of the run keeps to the bounds, on the content that the one before left

@@ -40,7 +40,7 @@ impl Model for Heap {
 }
 
 impl Heap {
-    ghost use Rattle.std.specs.Prelude.{◌≡◌, true, ℕ, ◌+◌, ◌*◌, ◌%◌, ◌<◌, ◌≤◌, ◌⊎◌, ◌↔◌, map, Some, None, Ok, Err, IfOk, IfErr, IsOk, OnOk, OnErr};
+    ghost use Rattle.std.specs.Prelude.{◌≡◌, true, ℕ, ◌+◌, ◌*◌, ◌%◌, ◌<◌, ◌≤◌, ◌⊎◌, ◌↔◌, map, Some, None, Ok, Err, IfOk, IfErr, IsOk, MatchResult, OnOk, OnErr};
     ghost use Rattle.tlsf_store.specs.declared.errors.StoreError.TheVariants.{BadCount};
     ghost use Rattle.tlsf_store.specs.Records.{most_records};
     ghost use Rattle.tlsf_heap.specs.Touches.{AtMost, add_pool_touches, remove_pool_touches, malloc_touches, memalign_touches, free_touches, realloc_touches, block_size_touches};
@@ -48,7 +48,7 @@ impl Heap {
     ghost use Rattle.tlsf_heap.specs.GoodSlots.{HasGoodSlots};
     ghost use Rattle.tlsf_heap.specs.Served.{IsServed, IsMoved, Refuses};
     ghost use Rattle.tlsf_heap.specs.Readings.{FindsRows, GivesRow, TouchesForRow, IsLargestRequest};
-    ghost use Rattle.tlsf_heap.specs.Content.{used_records};
+    ghost use Rattle.tlsf_heap.specs.Content.{Content, used_records};
     ghost use Rattle.tlsf_heap.specs.Malloc.{malloc};
     ghost use Rattle.tlsf_heap.specs.Memalign.{memalign};
     ghost use Rattle.tlsf_heap.specs.Pointer.{free_ptr, realloc_ptr, block_size_ptr};
@@ -64,7 +64,7 @@ impl Heap {
     ghost use Rattle.tlsf_heap.specs.declared.image.rule.Rule.{Rule};
     ghost use Rattle.tlsf_heap.specs.Images.Rules.{first_broken};
     ghost use Rattle.tlsf_heap.specs.declared.image_fault.ImageFault.TheVariants.{Broken, Write};
-    ghost use Rattle.tlsf_heap.specs.Images.Described.{described, Saves};
+    ghost use Rattle.tlsf_heap.specs.Images.Described.{described, IsImageOf, Saves};
 
     /// A heap of this many records, from 1 to 65,535, with no pool. It takes memory once, for its
     /// table.
@@ -92,7 +92,8 @@ impl Heap {
         self.store.restart(records);
     }
 
-    /// The heap that an image describes, slots included: pointers of the heap saved are live. It takes memory once, for
+    /// The heap that an image describes, slots included: pointers of the heap saved are live. What `save_image` put is loaded
+    /// with the content that was saved, unless memory is refused. It takes memory once, for
     /// its table, and none where a rule is broken. At most five touches a record and eight a class.
     ///
     /// # Errors
@@ -102,6 +103,7 @@ impl Heap {
         ensures broken { (rule : Rule) → first_broken bytes.now ≡ Some rule → result ≡ Err (Broken rule) }
         ensures memory { IfErr result (λ fault. first_broken bytes.now ≡ None → fault ≡ ImageFault.OutOfMemory) }
         ensures content { IfOk result (λ heap. heap.content ≡ described bytes.now) }
+        ensures saved { (content : Content ℕ) → IsImageOf content bytes.now → MatchResult result (λ heap. heap.content ≡ content) (λ fault. fault ≡ ImageFault.OutOfMemory) }
         ensures bound { IfOk result (λ heap. heap.touches ≤ 5 * heap.content.records + 8 * classes) }
     {
         let mut image = match Image::read(bytes) {

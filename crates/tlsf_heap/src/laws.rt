@@ -1,17 +1,19 @@
 //! Laws of the definitions, each the contract of a function that does nothing.
 
-ghost use Rattle.std.specs.Prelude.{◌≡◌, ◌≢◌, ℕ, ◌*◌, ◌<◌, ◌≤◌, List, Some, Ok, Err, IsOk, All, true};
+ghost use Rattle.std.specs.Prelude.{◌≡◌, ◌≢◌, ℕ, ◌*◌, ◌<◌, ◌≤◌, List, Option, Some, Ok, Err, IsOk, All, true};
 ghost use Rattle.tlsf_heap.specs.declared.request.Request.{Request};
 ghost use Rattle.tlsf_heap.specs.declared.answer.Answer.{Answer};
-ghost use Rattle.tlsf_heap.specs.declared.refusal.Refusal.TheVariants.{NoFit};
+ghost use Rattle.tlsf_heap.specs.declared.refusal.Refusal.{Refusal};
+ghost use Rattle.tlsf_heap.specs.declared.refusal.Refusal.TheVariants.{BadAlign, BadPointer, NoFit};
 ghost use Rattle.tlsf_heap.specs.Content.{Content, used_records};
 ghost use Rattle.tlsf_heap.specs.Pools.{created, add_pool};
 ghost use Rattle.tlsf_heap.specs.Good.{IsGood};
 ghost use Rattle.tlsf_heap.specs.Malloc.{malloc};
-ghost use Rattle.tlsf_heap.specs.Memalign.{is_alignment, size_asked};
+ghost use Rattle.tlsf_heap.specs.Memalign.{is_alignment, memalign, size_asked};
+ghost use Rattle.tlsf_heap.specs.Pointer.{Pointer, realloc_ptr};
 ghost use Rattle.tlsf_heap.specs.Room.{HasRoom, HasRoomAligned};
 ghost use Rattle.tlsf_heap.specs.Run.{Run};
-ghost use Rattle.tlsf_heap.specs.Sizing.{class_size, most_refusing, sure_records};
+ghost use Rattle.tlsf_heap.specs.Sizing.{class_size, most_refusing, sure_pool, sure_records};
 ghost use Rattle.tlsf_heap.specs.Within.{AsksAtMost, IsLargeEnough, IsNotFull, StaysWithin, TakesWithin};
 ghost use Rattle.tlsf_heap.specs.OneSize.{HasRecords, StaysOfSize};
 
@@ -30,6 +32,22 @@ pub fn runs_within_find_room<H: Heaped>()
 pub fn one_pool_is_large_enough()
     ensures { (blocks bytes size records base pool : ℕ) (content : Content ℕ) → add_pool base pool (created records) ≡ Ok content
         → most_refusing 1 blocks bytes size < pool → sure_records blocks ≤ records → IsGood content × IsLargeEnough blocks bytes size content }
+{}
+
+/// On a heap that was just created and given one pool, of the sure pool's bytes or more, no request of a run that stays within
+/// the bounds is refused for want of a block or of a record: whatever was asked before, and in whatever order.
+pub fn sure_pool_is_enough<H: Heaped>()
+    ensures { (blocks bytes size least records base pool : ℕ) (requests : List Request) (answers : List Answer) (old new : Content ℕ) (before after : ℕ) (run : Run H.lacks requests answers old new before after)
+        → sure_pool blocks bytes (Some size) ≡ Some least → least ≤ pool → sure_records blocks ≤ records → add_pool base pool (created records) ≡ Ok old
+        → StaysWithin blocks bytes size H.lacks requests answers old new before after run → All IsNotFull answers }
+{}
+
+/// A request for which there is room is served by any heap, unless the heap lacks memory: the definitions give no refusal, but for
+/// a bad alignment or a pointer of no live block.
+pub fn room_is_served()
+    ensures malloc { (slot n : ℕ) (content : Content ℕ) (refusal : Refusal) → IsGood content → HasRoom n content → malloc slot n content ≢ Err refusal }
+    ensures memalign { (slot align n : ℕ) (content : Content ℕ) (refusal : Refusal) → IsGood content → HasRoomAligned align n content → memalign slot align n content ≡ Err refusal → refusal ≡ BadAlign }
+    ensures realloc { (slot n : ℕ) (ptr : Option Pointer) (content : Content ℕ) (refusal : Refusal) → IsGood content → HasRoom n content → realloc_ptr ptr n slot content ≡ Err refusal → refusal ≡ BadPointer }
 {}
 
 /// What is within bounds, on a heap large enough for them, has room.

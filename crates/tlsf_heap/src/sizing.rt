@@ -20,9 +20,9 @@ pub fn class_size(align: u64, n: u64) -> Option<u32>
     Some(low(class))
 }
 
-/// The bytes of one pool on which no request is refused for want of a block, whatever was asked before. At most
-/// `blocks` blocks are live, of at most `bytes` bytes, and `size` is the greatest `class_size` of the requests. `None`
-/// where there is no such class, where no pool is so large, or where there can't be as many records.
+/// The bytes of one pool on which no request is refused for want of a block, whatever was asked before: a multiple of the
+/// unit. At most `blocks` blocks are live, of at most `bytes` bytes, and `size` is the greatest `class_size` of the requests.
+/// `None` where there is no such class, where no pool is so large, or where there can't be as many records.
 pub fn sure_pool(blocks: u64, bytes: u64, size: Option<u32>) -> Option<u64>
     ensures { result ≡ sure_pool blocks bytes size }
 {
@@ -31,6 +31,7 @@ pub fn sure_pool(blocks: u64, bytes: u64, size: Option<u32>) -> Option<u64>
         return None;
     }
     let too_small = u64::from(size.saturating_sub(UNIT));
-    let pool = bytes + (blocks + 1) * too_small + u64::from(UNIT);
+    let refusing = bytes + (blocks + 1) * too_small;
+    let pool = (refusing + 1).next_multiple_of(u64::from(UNIT));
     (pool <= u64::from(GREATEST_SIZE)).then_some(pool)
 }

@@ -19,7 +19,7 @@ use Rattle.tlsf_heap.specs.declared.refusal.Refusal.TheVariants.{ZeroSize, NoFit
 use Rattle.tlsf_heap.specs.Content.{Block, Pool, Content, blocks_of, is_free, size_at, used_records}
 use Rattle.tlsf_heap.specs.Lists.{pick}
 use Rattle.tlsf_heap.specs.Malloc.{gap, malloc_rounded, malloc}
-use Rattle.tlsf_heap.specs.Memalign.{size_asked, gap_records, aligned, memalign}
+use Rattle.tlsf_heap.specs.Memalign.{is_alignment, size_asked, gap_records, aligned, memalign}
 use Rattle.tlsf_heap.specs.Pools.{created, add_pool}
 use Rattle.tlsf_heap.specs.Free.{is_live, after_free}
 use Rattle.tlsf_heap.specs.Realloc.{given_anew, realloc}
@@ -227,21 +227,21 @@ module _ (blocks size base : ℕ) where
   realloc_kept owner place known n content good cut live some rounds =
       realloc_resized are_same owner known place n size content live some rounds ∙ sized_same owner known place size content (live_size (λ other. are_same other known) place content good cut live)
 
-  realloc_fits : (why : Refusal) → IsWant why → (owner place known n : ℕ) (content : Content ℕ) → IsForSize content → (n ≢ 0 → round n ≡ Some size) → realloc are_same owner (Some (place, known)) n content ≡ Err why → ⊥
+  realloc_fits : (why : Refusal) → IsWant why → (owner place known n : ℕ) (content : Content ℕ) → IsForSize content → (IsTrue (is_live (λ other. are_same other known) place (blocks_of content.pools)) → n ≢ 0 → round n ≡ Some size) → realloc are_same owner (Some (place, known)) n content ≡ Err why → ⊥
   realloc_fits why want owner place known n content is rounds refused = elim (cases_Bool (is_live (λ other. are_same other known) place (blocks_of content.pools))) [
     | inr stale ↦ let bad : realloc are_same owner (Some (place, known)) n content ≡ Err BadPointer = rw stale refl in not_bad why want (cc (bad, refused))
     | inl live ↦ elim (cases_eq n 0) [
       | inl nothing ↦ cc (realloc_freed are_same owner known place n content live nothing, refused)
-      | inr some ↦ cc (realloc_kept owner place known n content is.good is.cut live some (rounds some), refused)
+      | inr some ↦ cc (realloc_kept owner place known n content is.good is.cut live some (rounds live some), refused)
     ]
   ]
 
-  realloc_cut : (owner place known n : ℕ) (content : Content ℕ) (given : Option (ℕ × ℕ) × Content ℕ) → IsForSize content → (n ≢ 0 → round n ≡ Some size) → realloc are_same owner (Some (place, known)) n content ≡ Ok given → AreCut size base (blocks_of given.1.pools)
+  realloc_cut : (owner place known n : ℕ) (content : Content ℕ) (given : Option (ℕ × ℕ) × Content ℕ) → IsForSize content → (IsTrue (is_live (λ other. are_same other known) place (blocks_of content.pools)) → n ≢ 0 → round n ≡ Some size) → realloc are_same owner (Some (place, known)) n content ≡ Ok given → AreCut size base (blocks_of given.1.pools)
   realloc_cut owner place known n content given is rounds served = elim (cases_Bool (is_live (λ other. are_same other known) place (blocks_of content.pools))) [
     | inr stale ↦ let bad : realloc are_same owner (Some (place, known)) n content ≡ Err BadPointer = rw stale refl in absurd (cc (bad, served))
     | inl live ↦ elim (cases_eq n 0) [
       | inl nothing ↦ left (None, after_free place content) (realloc_freed are_same owner known place n content live nothing) (freed_cut size base (λ other. are_same other known) place content live is.cut)
-      | inr some ↦ left (Some (place, known), content) (realloc_kept owner place known n content is.good is.cut live some (rounds some)) is.cut
+      | inr some ↦ left (Some (place, known), content) (realloc_kept owner place known n content is.good is.cut live some (rounds live some)) is.cut
     ]
   ]
     where
@@ -270,15 +270,21 @@ module _ (blocks size base : ℕ) (lowest : IsLowest size) where
       of (inl fit) = malloc_fits blocks size base lowest owner n content is (takes some) (refused ∙ ap (λ r. Err r) fit)
       of (inr full) = malloc_recorded blocks size base owner n content is some (takes some) (refused ∙ ap (λ r. Err r) full)
 
-  memalign_served : (why : Refusal) → IsWant why → (owner align n : ℕ) (content : Content ℕ) → IsForSize blocks size base content → (n ≢ 0 → (align ≤ unit) × TakesOne blocks size n content) → memalign owner align n content ≡ Err why → ⊥
-  memalign_served why want owner align n content is takes refused = of want
+  memalign_served : (why : Refusal) → IsWant why → (owner align n : ℕ) (content : Content ℕ) → IsForSize blocks size base content → (IsTrue (is_alignment align) → n ≢ 0 → (align ≤ unit) × TakesOne blocks size n content) → memalign owner align n content ≡ Err why → ⊥
+  memalign_served why want owner align n content is takes refused = elim (cases_Bool (is_alignment align)) [
+    | inl good ↦ of (takes good some) want
+    | inr bad ↦ (let is_bad : memalign owner align n content ≡ Err BadAlign = rw bad refl in aligned (cc (is_bad, refused)))
+  ]
     where
-      some : n ≢ 0
-      some = some_aligned_bytes owner align n content why (not_other why BadAlign (λ e. cc) (λ e. cc) want) (not_other why ZeroSize (λ e. cc) (λ e. cc) want) refused
+      aligned : why ≢ BadAlign
+      aligned = not_other why BadAlign (λ e. cc) (λ e. cc) want
 
-      of : IsWant why → ⊥
-      of (inl fit) = memalign_fits blocks size base lowest owner align n content is (takes some).0 (takes some).1 (refused ∙ ap (λ r. Err r) fit)
-      of (inr full) = memalign_recorded blocks size base owner align n content is (takes some).0 (takes some).1 (refused ∙ ap (λ r. Err r) full)
+      some : n ≢ 0
+      some = some_aligned_bytes owner align n content why aligned (not_other why ZeroSize (λ e. cc) (λ e. cc) want) refused
+
+      of : (align ≤ unit) × TakesOne blocks size n content → IsWant why → ⊥
+      of one (inl fit) = memalign_fits blocks size base lowest owner align n content is one.0 one.1 (refused ∙ ap (λ r. Err r) fit)
+      of one (inr full) = memalign_recorded blocks size base owner align n content is one.0 one.1 (refused ∙ ap (λ r. Err r) full)
 
   anew_served : (why : Refusal) → IsWant why → (owner n : ℕ) (content : Content ℕ) → IsForSize blocks size base content → (n ≢ 0 → TakesOne blocks size n content) → realloc are_same owner None n content ≡ Err why → ⊥
   anew_served why want owner n content is takes refused =
@@ -315,7 +321,8 @@ module _ (blocks size base : ℕ) (lowest : IsLowest size) where
       still_for blocks size base old new is (malloc_is_good pointer.slot n old given is.good step.ok) (malloc_cut blocks size base pointer.slot n old given is.good is.cut (within some).rounds step.ok) (malloc_keeps pointer.slot n old given step.ok)
   step_for lacks (Memalign align n) (Given pointer) old new is within step =
       let given : ℕ × Content ℕ = (pointer.place, new) in
-      let takes = within (memalign_given pointer.slot align n old given step.ok).0.some in
+      let picked = (memalign_given pointer.slot align n old given step.ok).0 in
+      let takes = within picked.is picked.some in
       still_for blocks size base old new is (memalign_is_good pointer.slot align n old given is.good step.ok) (memalign_cut blocks size base pointer.slot align n old given is.good is.cut takes.0 takes.1.rounds step.ok) (memalign_keeps pointer.slot align n old given step.ok)
   step_for lacks (Free pointer) Done old new is within step =
       let gave = free_gave (λ slot. slot == pointer.slot) pointer.place old new step in

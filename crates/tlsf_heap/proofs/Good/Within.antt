@@ -19,13 +19,13 @@ use Rattle.tlsf_heap.specs.Pools.{created, add_pool}
 use Rattle.tlsf_heap.specs.Free.{free, is_live, after_free, free_previous, free_next, without_block}
 use Rattle.tlsf_heap.specs.Realloc.{given_anew, realloc}
 use Rattle.tlsf_heap.specs.BlockSize.{block_size}
-use Rattle.tlsf_heap.specs.Pointer.{place_and_slot, slot_of}
+use Rattle.tlsf_heap.specs.Pointer.{Pointer, place_and_slot, slot_of, realloc_ptr}
 use Rattle.tlsf_heap.specs.Good.{IsGood}
 use Rattle.tlsf_heap.specs.Implied.{live_blocks}
 use Rattle.tlsf_heap.specs.Room.{pool_bytes, HasRoomFor}
 use Rattle.tlsf_heap.specs.Sizing.{most_refusing, sure_records}
 use Rattle.tlsf_heap.specs.Run.{IsRefused, Step, Run}
-use Rattle.tlsf_heap.specs.Within.{TakesWithin, IsWithin, StaysWithin, IsLargeEnough, IsNotFull}
+use Rattle.tlsf_heap.specs.Within.{TakesWithin, NamesLive, IsWithin, StaysWithin, IsLargeEnough, IsNotFull}
 use Rattle.tlsf_heap.proofs.Content.Given.{malloc_gave, realloc_gave, free_gave}
 use Rattle.tlsf_heap.proofs.Content.MemalignCases.{memalign_given}
 use Rattle.tlsf_heap.proofs.Content.ReallocCases.{realloc_reasons}
@@ -192,12 +192,20 @@ module _ (blocks bytes size : ℕ) where
       ]
 
   -- a realloc asks for a block, or names no live block
-  realloc_served : (why : Refusal) → IsWant why → (owner : ℕ) (pointer : Option (ℕ × ℕ)) (n : ℕ) (content : Content ℕ) → IsEnough content → AllWithin (λ m. m) n content → realloc (λ a b. a == b) owner pointer n content ≡ Err why → ⊥
-  realloc_served why want owner pointer n content enough within refused =
+  live_served : (why : Refusal) → IsWant why → (owner : ℕ) (pointer : Option (ℕ × ℕ)) (n : ℕ) (content : Content ℕ) → IsEnough content → AllWithin (λ m. m) n content → realloc (λ a b. a == b) owner pointer n content ≡ Err why → ⊥
+  live_served why want owner pointer n content enough within refused =
       elim (realloc_reasons owner why (λ a b. a == b) pointer n content (λ some. (let w = within some in (w.asks.m, w.asks.rounds))) refused) [
         | inl asked ↦ malloc_served why want owner n content enough within asked
         | inr bad ↦ not_bad why want bad
       ]
+
+  realloc_served : (why : Refusal) → IsWant why → (owner : ℕ) (pointer : Option Pointer) (n : ℕ) (content : Content ℕ) → IsEnough content → (NamesLive pointer content → AllWithin (λ m. m) n content)
+      → realloc_ptr pointer n owner content ≡ Err why → ⊥
+  realloc_served why want owner None n content enough within refused = live_served why want owner None n content enough (within tt) refused
+  realloc_served why want owner (Some pointer) n content enough within refused = elim (cases_Bool (is_live (λ slot. slot == pointer.slot) pointer.place (blocks_of content.pools))) [
+    | inl live ↦ live_served why want owner (place_and_slot (Some pointer)) n content enough (within live) refused
+    | inr stale ↦ (let bad : realloc_ptr (Some pointer) n owner content ≡ Err BadPointer = rw stale refl in not_bad why want (cc (bad, refused)))
+  ]
 
   -- no request is refused for want of a block, nor of a record
   request_served : (request : Request) (why : Refusal) → IsWant why → (content : Content ℕ) → IsEnough content → IsWithin blocks bytes size request content → IsRefused request why content → ⊥
@@ -206,7 +214,7 @@ module _ (blocks bytes size : ℕ) where
   request_served (Malloc n) why want content enough within refused = malloc_served why want 0 n content enough within (refused 0)
   request_served (Memalign align n) why want content enough within refused = memalign_served why want 0 align n content enough within (refused 0)
   request_served (Free pointer) why want content enough within refused = not_bad why want (free_refused (λ slot. slot == pointer.slot) pointer.place content why refused)
-  request_served (Realloc pointer n) why want content enough within refused = realloc_served why want 0 (place_and_slot pointer) n content enough within (refused 0)
+  request_served (Realloc pointer n) why want content enough within refused = realloc_served why want 0 pointer n content enough within (refused 0)
   request_served (BlockSize pointer) why want content enough within refused = not_bad why want (size_refused (λ slot. slot == pointer.slot) pointer.place content why refused)
 
   step_not_full : (lacks : Type 0) (request : Request) (answer : Answer) (old new : Content ℕ) → IsEnough old → IsWithin blocks bytes size request old → Step lacks request answer old new → IsNotFull answer

@@ -109,7 +109,7 @@ stays_of_size = (
     λ some. record { few = lit< tt; rounds = refl },
     (
       tt,
-      (λ some. refl, (λ some. record { few = lit< tt; rounds = refl }, tt)),
+      (λ live some. refl, (λ some. record { few = lit< tt; rounds = refl }, tt)),
     ),
   ),
 )

@@ -14,4 +14,4 @@ returns g c =
     let P : Progress → ReaderState → Type 0 = λ lines reader. ReplaysUpTo c.args.many c.replay_up_to.result lines new.lines c.args.replay.now new.replay reader (reads new.reader) in
     let up = subst (λ lines. P lines (reads c.begin.new.self)) c.new-lines.ensures c.replay_up_to.ensures.lines in
     first_up_to c.args.many c.replay_up_to.result new.lines c.args.replay.now new.replay (reads c.args.reader.now) (reads new.reader)
-    (omega (arith, c.ranges.many.fits)) (subst (P no_line) (has_begun (reads c.args.reader.now) (reads c.begin.new.self) began.left began.whole began.told) up)
+    (omega (arith, c.ranges.many.fits)) c.holds_few.ensures (subst (P no_line) (has_begun (reads c.args.reader.now) (reads c.begin.new.self) began.left began.whole began.told) up)

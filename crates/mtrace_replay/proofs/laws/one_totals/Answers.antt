@@ -1,14 +1,11 @@
-use Rattle.std.proofs.Common.{◌≡◌, ℕ, ◌<◌, ◌≤◌, List, refl, sym, ap, ◌∙◌, arith, inl, inr}
+use Rattle.std.proofs.Common.{◌≡◌, ℕ, ◌<◌, ◌≤◌, List, sym, ◌∙◌, arith, inl, inr}
 use Rattle.std.proofs.lemmas.Bool.{cases_lt}
 use Rattle.mtrace_replay.specs.Moment.{Given, Moment}
 use Rattle.mtrace_replay.specs.Started.{Bare}
 use Rattle.mtrace_replay.specs.declared.totals.Totals.{Totals}
 use Rattle.mtrace_replay.specs.Totals.{Measures, IsGreatestOf, AreTotals, IsMost}
-use Rattle.mtrace_replay.proofs.SortedLemmas.{one_list}
+use Rattle.mtrace_replay.proofs.TotalsLemmas.{measure_is_one}
 use Rattle.mtrace_replay.proofs.laws.one_totals.Goals as goal
-
-one_measure : (measure : List Given → ℕ) (past : List Moment) (n m : ℕ) → Measures measure past n → Measures measure past m → n ≡ m
-one_measure measure past n m first second = first.measured ∙ ap measure (one_list past first.all second.all first.held second.held) ∙ sym second.measured
 
 one_greatest : (Holds : List Moment → ℕ → Type 0) (past : List Moment) (n m line other : ℕ) → IsGreatestOf Holds past n line → IsGreatestOf Holds past m other → n ≡ m
 one_greatest Holds past n m line other first second = omega (arith, second.greatest line n first.reached, first.greatest other m second.reached)
@@ -27,8 +24,8 @@ returns-clause-totals c = λ start past one other first second. (
     let lines = first.lines ∙ sym second.lines in
     let served = first.served ∙ sym second.served in
     let refused = first.refused ∙ sym second.refused in
-    let bytes = one_measure _ past one.live_bytes other.live_bytes first.live_bytes second.live_bytes in
-    let blocks = one_measure _ past one.live_blocks other.live_blocks first.live_blocks second.live_blocks in
+    let bytes = measure_is_one _ past one.live_bytes other.live_bytes first.live_bytes second.live_bytes in
+    let blocks = measure_is_one _ past one.live_blocks other.live_blocks first.live_blocks second.live_blocks in
     let peak = one_greatest _ past one.peak_bytes other.peak_bytes one.peak_line other.peak_line first.peak second.peak in
     let line : one.peak_line ≡ other.peak_line = omega (arith, not_later _ past one.peak_bytes other.peak_bytes one.peak_line other.peak_line first.peak second.peak, not_later _ past other.peak_bytes one.peak_bytes other.peak_line one.peak_line second.peak first.peak) in
     let high = one_greatest _ past one.high_place other.high_place first.high_place.0 second.high_place.0 first.high_place.1 second.high_place.1 in

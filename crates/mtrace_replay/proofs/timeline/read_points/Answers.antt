@@ -79,7 +79,7 @@ returns g c =
       done = λ settings stands.
           let so_far = kept.so_far settings stands in
           let P : Bytes → Type 0 = λ start. HasReadFirst (greatest numbers) start (reads c.loop-number.reader).left so_far.now.lines in
-          let first = read_first settings c.loop-number.lines c.loop-number.replay (reads c.begin.new.self) (reads c.loop-number.reader) so_far.now in
+          let first = read_first settings c.loop-number.lines c.loop-number.replay (reads c.begin.new.self) (reads c.loop-number.reader) so_far.now c.holds_few.ensures in
           record {
             again = so_far.now.lines;
             read = subst P began.left (subst (λ n. HasReadFirst n (reads c.begin.new.self).left (reads c.loop-number.reader).left so_far.now.lines) (kept.reached ∙ ap greatest all) first);

@@ -28,7 +28,7 @@ returns-then-totals-gt0 g c =
       tried = λ settings stands.
           let some : 0 < c.totals.result.refused = c.if-totals-gt0.true in
           tried_refused c.args.many settings c.replay_next.new.lines c.replay_next.new.replay (reads c.args.reader.now) (reads c.replay_next.new.reader)
-          (next.replaying settings _ (kept.so_far settings stands)).now
+          (next.replaying settings _ (kept.so_far settings stands)).now c.holds_few.ensures
           (omega (arith, next.reached, kept.many, c.loop-test.true))
           (subst (λ n. 0 < n) (ap (λ (totals : Totals). totals.refused) c.totals.ensures.totals) some);
       not_failed = none_failed (reads c.args.reader.now).calls (reads c.replay_next.new.reader).calls (next.gave (reads c.args.reader.now) kept.gave).1;
@@ -42,7 +42,7 @@ returns g c =
     let kept = c.loop.invariant in
     record {
       tried = λ settings stands.
-          tried_served c.args.many settings c.loop.lines c.loop.replay (g.R.Source.shown c.args.reader.now) (g.R.Source.shown c.loop.reader) (kept.so_far settings stands)
+          tried_served c.args.many settings c.loop.lines c.loop.replay (g.R.Source.shown c.args.reader.now) (g.R.Source.shown c.loop.reader) (kept.so_far settings stands) c.holds_few.ensures
           (omega (arith, kept.many, c.loop-test.false, c.loop.auto.counter-end)) kept.served;
       not_failed = none_failed (g.R.Source.shown c.args.reader.now).calls (g.R.Source.shown c.loop.reader).calls kept.gave.1;
       read = tt;

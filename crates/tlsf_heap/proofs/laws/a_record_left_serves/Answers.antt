@@ -1,7 +1,6 @@
-use Rattle.std.proofs.Common.{◌≢◌, ℕ, refl, arith}
+use Rattle.std.proofs.Common.{◌≢◌, refl, arith}
 use Rattle.std.specs.Prelude.{Err, IsOk}
 use Rattle.tlsf_heap.specs.declared.refusal.Refusal.TheVariants.{NoFit}
-use Rattle.tlsf_heap.specs.Content.{Content, used_records}
 use Rattle.tlsf_heap.proofs.Content.MallocCases.{malloc_cases}
 use Rattle.tlsf_heap.proofs.laws.a_record_left_serves.Goals as goal
 

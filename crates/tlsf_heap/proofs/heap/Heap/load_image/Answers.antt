@@ -36,3 +36,10 @@ returns-in-Ok-stored-clause-bound c = omega (arith, c.in-Ok-stored.ensures.bound
 
 pub returns-in-Err-stored-clause-broken : goal.returns-in-Err-stored-clause-broken
 returns-in-Err-stored-clause-broken c = λ rule is. let e : Some rule ≡ None = sym is ∙ c.in-Ok.ensures.whole in absurd (cc)
+
+pub returns-in-Err-clause-saved : goal.returns-in-Err-clause-saved
+returns-in-Err-clause-saved c = λ content image. let e : Some c.in-Err.rule ≡ None = sym c.in-Err.ensures.broken ∙ image.unbroken in absurd (cc)
+
+pub returns-in-Ok-stored-clause-saved : goal.returns-in-Ok-stored-clause-saved
+returns-in-Ok-stored-clause-saved c = λ content image.
+    loaded_content c.args.bytes.now c.in-Ok.ensures.whole c.in-Ok-stored.store.cells (loaded (goal.at.returns-in-Ok-stored-clause-saved c).In-Ok-stored) ∙ image.describes
