@@ -170,7 +170,7 @@ sure_is lines replay stands = ap (sure_pool replay.most replay.most_rounded) sta
 
 -- the text of a log that the greatest pool doesn't serve
 pub tells_untried : (step : Option ℕ) (lines : List ReadLine) (whole : Bytes) (replay : Replayed) → StandsFor replay greatest_settings (reverse lines) → 0 < replay.totals.refused
-    → TellsFit step lines whole (greatest_line replay.totals ++ most_line replay.most ++ untried_lines ++ refused_line replay.totals.refused)
+    → TellsFit step lines whole 0 (greatest_line replay.totals ++ most_line replay.most ++ untried_lines ++ refused_line replay.totals.refused)
 tells_untried step lines whole replay stands some = record {
   totals = replay.totals;
   summed = stands.totals;
@@ -184,14 +184,14 @@ tells_untried step lines whole replay stands some = record {
 }
   where
     by_refused : (refused : ℕ) → 0 < refused → TellsSizes refused (step_of step replay.totals.peak_bytes) replay.totals.peak_bytes replay.most replay.totals.lines
-        (sure_pool replay.most replay.most_rounded (greatest_class (started greatest_settings) (reverse lines))) whole (untried_lines ++ refused_line refused)
+        (sure_pool replay.most replay.most_rounded (greatest_class (started greatest_settings) (reverse lines))) whole 0 (untried_lines ++ refused_line refused)
     by_refused zero some = absurd (omega (arith, some))
-    by_refused (suc more) some = refl
+    by_refused (suc more) some = (refl, refl)
 
 -- the text of a log that it serves
 pub tells_fitted : (step : Option ℕ) (lines : List ReadLine) (whole : Bytes) (replay : Replayed) → StandsFor replay greatest_settings (reverse lines) → replay.totals.refused ≡ 0
     → (verdicts : List Verdict) → (let peak = replay.totals.peak_bytes in TriesRanges (enough_records replay.most) replay.totals.lines (step_of step peak) (first_number (step_of step peak) peak) whole verdicts)
-    → TellsFit step lines whole (greatest_line replay.totals ++ most_line replay.most ++ fitted_lines (enough_records replay.most) (fitted verdicts) (sure_of replay))
+    → TellsFit step lines whole (length verdicts) (greatest_line replay.totals ++ most_line replay.most ++ fitted_lines (enough_records replay.most) (fitted verdicts) (sure_of replay))
 tells_fitted step lines whole replay stands none verdicts tries = record {
   totals = replay.totals;
   summed = stands.totals;
@@ -202,8 +202,8 @@ tells_fitted step lines whole replay stands none verdicts tries = record {
   rest = text (sure_of replay);
   tells =
       let P : ℕ → Type 0 = λ refused. TellsSizes refused (step_of step replay.totals.peak_bytes) replay.totals.peak_bytes replay.most replay.totals.lines
-      (sure_pool replay.most replay.most_rounded (greatest_class (started greatest_settings) (reverse lines))) whole (text (sure_of replay)) in
-      subst P (sym none) (verdicts, tries, ap text (sure_is lines replay stands));
+      (sure_pool replay.most replay.most_rounded (greatest_class (started greatest_settings) (reverse lines))) whole (length verdicts) (text (sure_of replay)) in
+      subst P (sym none) (verdicts, tries, refl, ap text (sure_is lines replay stands));
   text_is = refl;
 }
   where

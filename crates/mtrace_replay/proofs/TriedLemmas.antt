@@ -1,7 +1,8 @@
 -- A log that is read until a line is refused.
-use Rattle.std.proofs.Common.{◌≡◌, ◌≢◌, ◌<◌, ◌≤◌, ℕ, List, [], ◌∷◌, ◌++◌, length, map, refl, sym, ap, ◌∙◌, subst, inl, inr, true, false, append_assoc}
+use Rattle.std.proofs.Common.{◌≡◌, ◌≢◌, ◌<◌, ◌≤◌, ℕ, List, [], ◌∷◌, ◌++◌, length, map, refl, sym, ap, ◌∙◌, subst, inl, inr, true, false, append_assoc, arith}
 use Rattle.std.specs.List.{AllByRecursion}
-use Rattle.std.specs.Prelude.{Result, Ok, Err, OnOk, OnErr}
+use Rattle.std.specs.Prelude.{Result, Ok, Err, OnOk, OnErr, ◌+◌, count_by}
+use Rattle.tlsf_heap.proofs.Counts.{count-append}
 use Rattle.mtrace_log.specs.Progress.{Progress, most_asked}
 use Rattle.mtrace_log.specs.Trace.{HasNotFailed}
 use Rattle.mtrace_log.specs.declared.call.Call.{Call}
@@ -10,7 +11,7 @@ use Rattle.mtrace_replay.specs.declared.settings.Settings.{Settings}
 use Rattle.mtrace_replay.specs.Replay.{Replayed}
 use Rattle.mtrace_log.specs.Shown.{ReaderState}
 use Rattle.mtrace_replay.specs.Again.{HasReadFirst, StopsEarly, FailsAgain}
-use Rattle.mtrace_replay.specs.RunFit.{IsTried, NoneFailed}
+use Rattle.mtrace_replay.specs.RunFit.{IsTried, is_beginning, HasBegun}
 use Rattle.mtrace_replay.specs.Replaying.{IsReplaying}
 use Rattle.mtrace_replay.proofs.AgainLemmas.{read_first, has_begun}
 
@@ -30,12 +31,17 @@ gave_no_failure : (counts : List ℕ) → AllByRecursion (λ call. call ≢ Fail
 gave_no_failure [] = tt
 gave_no_failure (count ∷ counts) = ((λ is. cc), gave_no_failure counts)
 
--- a reading that didn't fail
-pub none_failed : (old new : List Call) → HasNotFailed old new → NoneFailed old new
-none_failed old new (inl gave) = record { more = map Gave gave.counts; none = gave_no_failure gave.counts; calls = gave.calls }
-none_failed old new (inr all) = record {
+gave_no_beginning : (counts : List ℕ) → count_by is_beginning (map Gave counts) ≡ 0
+gave_no_beginning [] = refl
+gave_no_beginning (count ∷ counts) = gave_no_beginning counts
+
+-- a reading that didn't fail doesn't begin again
+pub none_begun : (old new : List Call) → HasNotFailed old new → HasBegun 0 old new
+none_begun old new (inl gave) = record { more = map Gave gave.counts; none_failed = gave_no_failure gave.counts; begun = gave_no_beginning gave.counts; calls = gave.calls }
+none_begun old new (inr all) = record {
   more = ToldEnd ∷ map Gave all.moved.counts;
-  none = ((λ is. cc), gave_no_failure all.moved.counts);
+  none_failed = ((λ is. cc), gave_no_failure all.moved.counts);
+  begun = gave_no_beginning all.moved.counts;
   calls = all.then ∙ ap (λ calls. ToldEnd ∷ calls) all.moved.calls;
 }
 
@@ -43,21 +49,22 @@ both_hold : (P : Call → Type 0) (first second : List Call) → AllByRecursion 
 both_hold P [] second one other = other
 both_hold P (call ∷ first) second one other = (one.0, both_hold P first second one.1 other)
 
--- no call failed, and none of the later ones
-pub none_failed-then : (old middle new : List Call) → NoneFailed old middle → NoneFailed middle new → NoneFailed old new
-none_failed-then old middle new first then = record {
+-- it began so often, and then so often again
+pub begun-then : (times again : ℕ) (old middle new : List Call) → HasBegun times old middle → HasBegun again middle new → HasBegun (times + again) old new
+begun-then times again old middle new first then = record {
   more = then.more ++ first.more;
-  none = both_hold (λ call. call ≢ Failed) then.more first.more then.none first.none;
+  none_failed = both_hold (λ call. call ≢ Failed) then.more first.more then.none_failed first.none_failed;
+  begun = omega (arith, count-append is_beginning then.more first.more, then.begun, first.begun);
   calls = then.calls ∙ ap (λ calls. then.more ++ calls) first.calls ∙ sym (append_assoc then.more first.more old);
 }
 
-pub nothing_failed : (calls : List Call) → NoneFailed calls calls
-nothing_failed calls = record { more = []; none = tt; calls = refl }
+pub nothing_begun : (calls : List Call) → HasBegun 0 calls calls
+nothing_begun calls = record { more = []; none_failed = tt; begun = refl; calls = refl }
 
--- the reader began again, and then nothing failed
-pub none_failed-began : (old middle new : List Call) → middle ≡ Began ∷ old → NoneFailed middle new → NoneFailed old new
-none_failed-began old middle new began then =
-    none_failed-then old middle new (record { more = Began ∷ []; none = ((λ is. cc), tt); calls = began }) then
+-- it began again, and then read
+pub begun_once : (old middle new : List Call) → middle ≡ Began ∷ old → HasBegun 0 middle new → HasBegun 1 old new
+begun_once old middle new began then =
+    begun-then 1 0 old middle new (record { more = Began ∷ []; none_failed = ((λ is. cc), tt); begun = refl; calls = began }) then
 
 -- it began again, and then stopped
 pub fails_again : (many : ℕ) (reader_old reader_middle reader_new : ReaderState) → reader_middle.left ≡ reader_old.whole → reader_middle.whole ≡ reader_old.whole → reader_middle.calls ≡ Began ∷ reader_old.calls

@@ -4,7 +4,7 @@ use Rattle.std.specs.List.{AllByRecursion}
 use Rattle.tlsf_heap.specs.Sizing.{sure_pool}
 use Rattle.mtrace_log.specs.Shown.{Bytes, ReaderState, WriterState}
 use Rattle.mtrace_log.specs.declared.call.Call.{Call}
-use Rattle.mtrace_log.specs.declared.call.Call.TheVariants.{Failed}
+use Rattle.mtrace_log.specs.declared.call.Call.TheVariants.{Began, Failed}
 use Rattle.mtrace_replay.specs.declared.settings.Settings.{Settings}
 use Rattle.mtrace_replay.specs.declared.status.Status.{Status}
 use Rattle.mtrace_replay.specs.declared.status.RunFault.{RunFault}
@@ -48,16 +48,18 @@ pub record TriesRanges (records many step first : ℕ) (whole : Bytes) (verdicts
   pub none_before : least_size before ≡ None
   pub ended : IsSome (least_size last) ⊎ (range step first (suc times) ≡ [])
 
--- what is told of the sizes: nothing where the greatest pool refuses lines, but how many; else the log was tried on ranges of them
-abbrev pub TellsSizes : (refused : ℕ) (step peak most many : ℕ) (sure : Option ℕ) (whole : Bytes) (text : List ℕ) → Type 0
-TellsSizes zero step peak most many sure whole text =
-    (verdicts : List Verdict) × TriesRanges (enough_records most) many step (first_number step peak) whole verdicts × (text ≡ fitted_lines (enough_records most) (fitted verdicts) sure)
-TellsSizes (suc more) step peak most many sure whole text = text ≡ untried_lines ++ refused_line (suc more)
+-- What is told of the sizes: nothing where the greatest pool refuses lines, but how many; else the log was tried on ranges of
+-- them. It began again as many times as sizes were tried.
+abbrev pub TellsSizes : (refused : ℕ) (step peak most many : ℕ) (sure : Option ℕ) (whole : Bytes) (times : ℕ) (text : List ℕ) → Type 0
+TellsSizes zero step peak most many sure whole times text =
+    (verdicts : List Verdict) × TriesRanges (enough_records most) many step (first_number step peak) whole verdicts × (times ≡ length verdicts)
+    × (text ≡ fitted_lines (enough_records most) (fitted verdicts) sure)
+TellsSizes (suc more) step peak most many sure whole times text = (times ≡ 0) × (text ≡ untried_lines ++ refused_line (suc more))
 
--- The text of how large a pool a log needs. It has the peak and the most addresses held, on the greatest pool, and what is told
--- of the sizes. The pool that is always enough is told by the most addresses, the most bytes in their blocks, and the greatest
--- class size that a served line asks for.
-pub record TellsFit (step : Option ℕ) (lines : List ReadLine) (whole : Bytes) (text : List ℕ) : Type 0 where
+-- The text of how large a pool a log needs, which began again so many times. It has the peak and the most addresses held, on the
+-- greatest pool, and what is told of the sizes. The pool that is always enough is told by the most addresses, the most bytes in
+-- their blocks, and the greatest class size that a served line asks for.
+pub record TellsFit (step : Option ℕ) (lines : List ReadLine) (whole : Bytes) (times : ℕ) (text : List ℕ) : Type 0 where
   pub totals : Totals
   pub summed : AreTotals (started greatest_settings) (history greatest_settings lines) totals
   pub most : ℕ
@@ -66,41 +68,50 @@ pub record TellsFit (step : Option ℕ) (lines : List ReadLine) (whole : Bytes) 
   pub is_rounded : IsMost rounded_bytes_in (history greatest_settings lines) rounded
   pub rest : List ℕ
   pub tells : TellsSizes totals.refused (step_of step totals.peak_bytes) totals.peak_bytes most totals.lines
-      (sure_pool most rounded (greatest_class (started greatest_settings) (reverse lines))) whole rest
+      (sure_pool most rounded (greatest_class (started greatest_settings) (reverse lines))) whole times rest
   pub text_is : text ≡ greatest_line totals ++ most_line most ++ rest
 
--- calls were made, and none of them failed
-pub record NoneFailed (old new : List Call) : Type 0 where
+-- whether a call began the text again
+abbrev pub is_beginning : Call → Bool
+is_beginning Began = true
+is_beginning call = false
+
+-- calls were made: none of them failed, and so many began the text again
+pub record HasBegun (times : ℕ) (old new : List Call) : Type 0 where
   pub more : List Call
-  pub none : AllByRecursion (λ call. call ≢ Failed) more
+  pub none_failed : AllByRecursion (λ call. call ≢ Failed) more
+  pub begun : count_by is_beginning more ≡ times
   pub calls : new ≡ more ++ old
 
 -- the reader failed in a later reading, or has fewer lines then, after readings that didn't fail
 pub record FailsLater (many : ℕ) (reader_old reader_new : ReaderState) : Type 0 where
   pub reader_middle : ReaderState
   pub whole : reader_middle.whole ≡ reader_old.whole
-  pub none_failed : NoneFailed reader_old.calls reader_middle.calls
+  pub times : ℕ
+  pub begun : HasBegun times reader_old.calls reader_middle.calls
   pub fails : FailsAgain many reader_middle reader_new
 
--- What a call leaves that tries a log on the heap of a replay, with this many records: what it found, or the reader failed.
-pub record TriesLog {E : Type 0} (Tried : Bool → Type 0) (Fails : Type 0) (many : ℕ) (result : Result Bool E) (reader_old reader_new : ReaderState) (replay : Replayed) : Type 0 where
+-- What a call leaves that tries a log on the heap of a replay, with this many records: what it found, and how often the text was
+-- begun again for that; or the reader failed.
+pub record TriesLog {E : Type 0} (Tried : Bool → Type 0) (Fails : Type 0) (times many : ℕ) (result : Result Bool E) (reader_old reader_new : ReaderState) (replay : Replayed) : Type 0 where
   pub tried : IfOk result Tried
-  pub not_failed : OnOk result (NoneFailed reader_old.calls reader_new.calls)
+  pub begun : OnOk result (HasBegun times reader_old.calls reader_new.calls)
   pub read : OnErr result Fails
   pub whole : reader_new.whole ≡ reader_old.whole
   pub records : replay.content.records ≡ many
 
--- What a call leaves that reads the log again, once for each size: what it tells of that, or the reader failed.
-pub record ReadsAgain {T E : Type 0} (many : ℕ) (Tells : T → Type 0) (result : Result T E) (old new : ReaderState) : Type 0 where
-  pub tells : IfOk result Tells
-  pub not_failed : OnOk result (NoneFailed old.calls new.calls)
+-- What a call leaves that reads the log again, once for each size: what it tells of that and of how many times that was, or the
+-- reader failed.
+pub record ReadsAgain {T E : Type 0} (many : ℕ) (Tells : T → (times : ℕ) → Type 0) (result : Result T E) (old new : ReaderState) : Type 0 where
+  pub tells : IfOk result (λ told. (times : ℕ) × Tells told times × HasBegun times old.calls new.calls)
   pub read : OnErr result (FailsLater many old new)
 
--- the log whose lines these are was read again for each size, and what they tell was written
+-- the log whose lines these are was read again, once for each size, and what they tell was written
 abbrev pub FitFollows : {R W : Type 0} → (step : Option ℕ) (lines : List ReadLine) (reads : R → ReaderState) (writes : W → WriterState)
     → Result Status RunFault → (reader_old reader_new : R) (writer_old writer_new : W) → Type 0
 FitFollows step lines reads writes result reader_old reader_new writer_old writer_new =
-    Follows (λ left_new. TellsFit step lines (reads reader_old).whole) (λ old new. NoneFailed old.calls new.calls) (FailsLater (length lines)) reads writes result reader_old reader_new writer_old writer_new
+    (times : ℕ) × Follows (λ left_new. TellsFit step lines (reads reader_old).whole times) (λ old new. HasBegun times old.calls new.calls) (FailsLater (length lines)) reads writes
+    result reader_old reader_new writer_old writer_new
 
 -- What a run leaves that tells how large a pool a log needs. `BadSettings` comes exactly where the step is bad, and
 -- then nothing is done. Else there is first a run without a report on the greatest pool, and then the log is read

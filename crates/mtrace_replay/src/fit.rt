@@ -86,7 +86,7 @@ fn try_size<R: Again>(
     requires few { records ≤ replay.old.content.records }
     ensures { TriesLog (λ serves. IsTried (one_pool size records) many serves (R.shown reader.old).whole (R.shown reader.new).left)
         (FailsAgain many (R.shown reader.old) (R.shown reader.new))
-        records result (R.shown reader.old) (R.shown reader.new) replay.new }
+        1 records result (R.shown reader.old) (R.shown reader.new) replay.new }
 {
     replay.restart(Settings {
         pool: size,
@@ -123,8 +123,8 @@ fn try_range<R: Again>(
     requires within { trial.records ≤ replay.old.content.records }
     requires tried { fitted.tried ≤ 2 ^ 61 }
     requires refused { fitted.refused ≤ fitted.tried }
-    ensures tried { ReadsAgain trial.many (λ new. (verdicts : List Verdict) × AreVerdicts trial.records trial.many (R.shown reader.old).whole (multiples step first last) verdicts
-        × ((before : List Verdict) → fitted ≡ fitted_by before → new ≡ fitted_by (before ++ verdicts))) result (R.shown reader.old) (R.shown reader.new) }
+    ensures tried { ReadsAgain trial.many (λ new times. (new.tried ≡ fitted.tried + times) × ((verdicts : List Verdict) × AreVerdicts trial.records trial.many (R.shown reader.old).whole (multiples step first last) verdicts
+        × ((before : List Verdict) → fitted ≡ fitted_by before → new ≡ fitted_by (before ++ verdicts)))) result (R.shown reader.old) (R.shown reader.new) }
     ensures whole { (R.shown reader.new).whole ≡ (R.shown reader.old).whole }
     ensures within { OnOk result (trial.records ≤ replay.new.content.records) }
     ensures few { IfOk result (λ new. new.tried ≤ fitted.tried + (last + 1 - first)) }
@@ -170,8 +170,8 @@ fn try_sizes<R: Again, T: Watch>(
     requires some_records { 0 < trial.records }
     requires few { trial.records ≤ MOST_RECORDS }
     requires within { trial.records ≤ replay.old.content.records }
-    ensures { ReadsAgain trial.many (λ fitted. (verdicts : List Verdict) × TriesRanges trial.records trial.many step (first_number step peak) (R.shown reader.old).whole verdicts
-        × (fitted ≡ fitted_by verdicts)) result (R.shown reader.old) (R.shown reader.new) }
+    ensures { ReadsAgain trial.many (λ fitted times. (times ≡ fitted.tried) × ((verdicts : List Verdict) × TriesRanges trial.records trial.many step (first_number step peak) (R.shown reader.old).whole verdicts
+        × (fitted ≡ fitted_by verdicts))) result (R.shown reader.old) (R.shown reader.new) }
 {
     let first = peak.div_ceil(step).max(1);
     let last = last_number(step, first);
@@ -196,8 +196,8 @@ fn fit_text<R: Again, T: Watch>(
 ) -> Result<LineText, Failed>
     requires good { is_bad_step step ≡ false }
     requires records { replay.old.content.records ≡ most_records }
-    ensures { ReadsAgain replay.old.totals.lines (λ text. (lines : List ReadLine) → StandsFor replay.old greatest_settings (reverse lines)
-        → TellsFit step lines (R.shown reader.old).whole text.items) result (R.shown reader.old) (R.shown reader.new) }
+    ensures { ReadsAgain replay.old.totals.lines (λ text times. (lines : List ReadLine) → StandsFor replay.old greatest_settings (reverse lines)
+        → TellsFit step lines (R.shown reader.old).whole times text.items) result (R.shown reader.old) (R.shown reader.new) }
 {
     let totals = replay.totals();
     let most = replay.most();

@@ -27,7 +27,7 @@ pub(crate) fn is_served<R: Source>(
     requires none { replay.old.totals.refused ≡ 0 }
     ensures { TriesLog (λ serves. (settings : Settings) → StandsFor replay.old settings [] → IsTried settings many serves (R.shown reader.old).left (R.shown reader.new).left)
         ((settings : Settings) → StandsFor replay.old settings [] → StopsEarly many (R.shown reader.old) (R.shown reader.new))
-        replay.old.content.records result (R.shown reader.old) (R.shown reader.new) replay.new }
+        0 replay.old.content.records result (R.shown reader.old) (R.shown reader.new) replay.new }
 {
     let mut lines = Lines::new();
     let mut findings = Findings::none();

@@ -8,6 +8,7 @@ mod creation;
 mod figures;
 mod handle;
 mod images;
+pub mod laws;
 mod made;
 mod pools;
 mod room;

@@ -28,8 +28,8 @@ returns g c =
     let ran = subst R c.greatest.ensures c.in_ok-ended.ensures.ran in
     let follow = c.tell_fit.ensures.told last.reports.lines last.stands in
     record {
-      bad_step = ((λ is. absurd (no_bad_settings c.tell_fit.result follow.faults is)), (λ bad. absurd (not_bad _ (sym c.is_bad_step.ensures ∙ c.if-is_bad_step.false) bad)));
-      nothing_done = λ is. absurd (no_bad_settings c.tell_fit.result follow.faults is);
+      bad_step = ((λ is. absurd (no_bad_settings c.tell_fit.result follow.1.faults is)), (λ bad. absurd (not_bad _ (sym c.is_bad_step.ensures ∙ c.if-is_bad_step.false) bad)));
+      nothing_done = λ is. absurd (no_bad_settings c.tell_fit.result follow.1.faults is);
       runs = λ good. record {
         run = Ok ended.status;
         reader_middle = c.replay_log.new.reader;

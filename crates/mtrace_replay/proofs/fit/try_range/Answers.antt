@@ -4,7 +4,7 @@ use Rattle.mtrace_replay.specs.Fit.{one_pool, fitted, Verdict}
 use Rattle.mtrace_replay.specs.RunFit.{AreVerdicts, IsTried}
 use Rattle.mtrace_log.specs.Shown.{Bytes}
 use Rattle.mtrace_replay.proofs.FitLemmas.{one_tried, one_pool-good, units_times, within_greatest, some_units}
-use Rattle.mtrace_replay.proofs.TriedLemmas.{none_failed-then}
+use Rattle.mtrace_replay.proofs.TriedLemmas.{begun-then}
 use Rattle.mtrace_replay.proofs.fit.try_range.Goals as goal
 
 pub try_size-requires-clause-good : goal.try_size-requires-clause-good
@@ -17,6 +17,7 @@ try_size-requires-clause-good g c =
 
 pub loop-number-preserved : goal.loop-number-preserved
 loop-number-preserved g c =
+    let reads = g.R.Source.shown in
     let number = c.loop-number.number in
     let first = c.args.first in
     let step = c.args.step in
@@ -34,7 +35,9 @@ loop-number-preserved g c =
       tried = omega (arith, c.with-fitted.ensures.tried, c.loop-number.invariant.tried, c.loop-number.auto.number);
       refused = omega (arith, c.with-fitted.ensures.tried, c.with-fitted.ensures.refused, c.loop-number.invariant.refused);
       whole = c.try_size.ensures.whole ∙ c.loop-number.invariant.whole;
-      none_failed = none_failed-then (g.R.Source.shown c.args.reader.now).calls (g.R.Source.shown c.loop-number.reader).calls (g.R.Source.shown c.try_size.new.reader).calls c.loop-number.invariant.none_failed c.in_ok-serves.ensures.not_failed;
+      begun =
+          let begun = c.loop-number.invariant.begun in
+          (begun.0 + 1, omega (arith, begun.1, c.with-fitted.ensures.tried), begun-then begun.0 1 (reads c.args.reader.now).calls (reads c.loop-number.reader).calls (reads c.try_size.new.reader).calls begun.2 c.in_ok-serves.ensures.begun);
       records = omega (arith, c.try_size.ensures.records);
       within = omega (arith, below);
     }

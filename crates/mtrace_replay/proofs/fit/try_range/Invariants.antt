@@ -1,8 +1,8 @@
-use Rattle.std.proofs.Common.{◌≡◌, ◌≤◌, ◌+◌, ◌-◌, ◌*◌, ◌++◌, List, map}
+use Rattle.std.proofs.Common.{◌≡◌, ◌≤◌, ◌+◌, ◌-◌, ◌*◌, ◌++◌, ℕ, List, map}
 use Rattle.std.specs.Prelude.{max}
 use Rattle.std.specs.List.{range_with_len}
 use Rattle.mtrace_replay.specs.Fit.{Verdict, fitted}
-use Rattle.mtrace_replay.specs.RunFit.{AreVerdicts, NoneFailed}
+use Rattle.mtrace_replay.specs.RunFit.{AreVerdicts, HasBegun}
 use Rattle.mtrace_replay.proofs.fit.try_range.Given as goal
 
 -- the sizes so far were tried, and these are the verdicts
@@ -15,7 +15,7 @@ invariant-loop-number g l =
       tried : l.fitted.tried ≤ l.initial.fitted.tried + (l.number - l.first);
       refused : l.fitted.refused ≤ l.fitted.tried;
       whole : (reads l.reader).whole ≡ (reads l.initial.reader).whole;
-      none_failed : NoneFailed (reads l.initial.reader).calls (reads l.reader).calls;
+      begun : (times : ℕ) × (l.fitted.tried ≡ l.initial.fitted.tried + times) × HasBegun times (reads l.initial.reader).calls (reads l.reader).calls;
       records : l.trial.records ≤ l.replay.content.records;
       within : l.number ≤ max l.first (l.last + 1);
     }

@@ -1,7 +1,7 @@
 use Rattle.std.proofs.Common.{◌∙◌, arith}
 use Rattle.std.proofs.lemmas.Grind.{common_steps}
 use Rattle.mtrace_replay.specs.Fit.{one_pool}
-use Rattle.mtrace_replay.proofs.TriedLemmas.{none_failed-began, fails_again, on_ok, on_err}
+use Rattle.mtrace_replay.proofs.TriedLemmas.{begun_once, fails_again, on_ok, on_err}
 use Rattle.mtrace_replay.proofs.fit.try_size.Goals as goal
 
 pub returns : goal.returns
@@ -9,8 +9,8 @@ returns g c =
     let reads = g.R.Source.shown in
     record {
       tried = grind (arith, common_steps);
-      not_failed = on_ok c.is_served.result c.is_served.ensures.not_failed
-          (none_failed-began (reads c.args.reader.now).calls (reads c.begin.new.self).calls (reads c.is_served.new.reader).calls c.in_ok-begin.ensures.told);
+      begun = on_ok c.is_served.result c.is_served.ensures.begun
+          (begun_once (reads c.args.reader.now).calls (reads c.begin.new.self).calls (reads c.is_served.new.reader).calls c.in_ok-begin.ensures.told);
       read = on_err c.is_served.result c.is_served.ensures.read
           (λ failed. fails_again c.args.many (reads c.args.reader.now) (reads c.begin.new.self) (reads c.is_served.new.reader) c.in_ok-begin.ensures.left c.in_ok-begin.ensures.whole c.in_ok-begin.ensures.told
           (failed (one_pool c.args.size c.args.records) c.restart.ensures.made));

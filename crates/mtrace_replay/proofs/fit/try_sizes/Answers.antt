@@ -9,7 +9,7 @@ use Rattle.mtrace_replay.specs.Fit.{Verdict, doubled, first_number, last_number,
 use Rattle.mtrace_log.specs.Shown.{Bytes}
 use Rattle.mtrace_replay.specs.RunFit.{AreVerdicts, TriesRanges}
 use Rattle.mtrace_replay.proofs.FitLemmas.{more_verdicts, least_behind, doubled_more, no_range}
-use Rattle.mtrace_replay.proofs.TriedLemmas.{none_failed-then, nothing_failed}
+use Rattle.mtrace_replay.proofs.TriedLemmas.{begun-then, nothing_begun}
 use Rattle.mtrace_replay.proofs.fit.try_sizes.Goals as goal
 
 some_is : {A : Type 0} (found : Option A) → is_some found ≡ true → IsSome found
@@ -26,7 +26,7 @@ none_tried none is = λ i. record { least = is.0 i; safe = is.1.0 i; tried = is.
 pub loop-trial-init : goal.loop-trial-init
 loop-trial-init g c =
     let reads = g.R.Source.shown in
-    let tells = c.in_ok-fitted.ensures.tried.tells in
+    let tells = c.in_ok-fitted.ensures.tried.tells.1.1 in
     let V : Bytes → ℕ → Type 0 = λ text last. AreVerdicts c.args.trial.records c.args.trial.many text (multiples c.args.step c.max-first.result last) tells.0 in
     record {
       so_far = (
@@ -44,7 +44,7 @@ loop-trial-init g c =
       some = c.requires.some;
       in_units = c.requires.in_units;
       whole = refl;
-      none_failed = nothing_failed (reads c.try_range.new.reader).calls;
+      begun = (0, omega arith, nothing_begun (reads c.try_range.new.reader).calls);
       records = c.in_ok-fitted.ensures.within;
     }
 
@@ -53,15 +53,16 @@ returns-in_err-fitted-2 g c =
     let reads = g.R.Source.shown in
     let kept = c.loop-trial.invariant in
     let later = c.in_err-fitted-2.ensures.tried.read in
-    let so_far = none_failed-then (reads c.args.reader.now).calls (reads c.try_range.new.reader).calls (reads c.loop-trial.reader).calls c.in_ok-fitted.ensures.tried.not_failed kept.none_failed in
+    let first = c.in_ok-fitted.ensures.tried.tells in
+    let so_far = begun-then first.0 kept.begun.0 (reads c.args.reader.now).calls (reads c.try_range.new.reader).calls (reads c.loop-trial.reader).calls first.2 kept.begun.2 in
     let p = err_from_is_err_and c.from_residual-in_err-fitted-2.result c.from_residual-in_err-fitted-2.ensures.1 in
     rw p.1 (record {
       tells = tt;
-      not_failed = tt;
       read = record {
         reader_middle = later.reader_middle;
         whole = later.whole ∙ kept.whole ∙ c.in_ok-fitted.ensures.whole;
-        none_failed = none_failed-then (reads c.args.reader.now).calls (reads c.loop-trial.reader).calls later.reader_middle.calls so_far later.none_failed;
+        times = (first.0 + kept.begun.0) + later.times;
+        begun = begun-then (first.0 + kept.begun.0) later.times (reads c.args.reader.now).calls (reads c.loop-trial.reader).calls later.reader_middle.calls so_far later.begun;
         fails = later.fails;
       };
     })
@@ -72,7 +73,8 @@ loop-trial-preserved g c =
     let kept = c.loop-trial.invariant in
     let so_far = kept.so_far in
     let first : ℕ = c.max-first.result in
-    let tells = c.in_ok-fitted-2.ensures.tried.tells in
+    let told = c.in_ok-fitted-2.ensures.tried.tells in
+    let tells = told.1.1 in
     let records : ℕ = c.args.trial.records in
     let many : ℕ = c.args.trial.many in
     let start : Bytes = (reads c.try_range.new.reader).whole in
@@ -102,7 +104,11 @@ loop-trial-preserved g c =
       some = omega (arith, kept.some);
       in_units = omega (arith, kept.in_units);
       whole = c.in_ok-fitted-2.ensures.whole ∙ kept.whole;
-      none_failed = none_failed-then (reads c.try_range.new.reader).calls (reads c.loop-trial.reader).calls (reads c.try_range-in-loop-trial.new.reader).calls kept.none_failed c.in_ok-fitted-2.ensures.tried.not_failed;
+      begun = (
+        kept.begun.0 + told.0,
+        omega (arith, kept.begun.1, told.1.0),
+        begun-then kept.begun.0 told.0 (reads c.try_range.new.reader).calls (reads c.loop-trial.reader).calls (reads c.try_range-in-loop-trial.new.reader).calls kept.begun.2 told.2,
+      );
       records = c.in_ok-fitted-2.ensures.within;
     }
 
@@ -134,11 +140,18 @@ returns-else-is_range_behind g c =
     let reads = g.R.Source.shown in
     let kept = c.loop-trial.invariant in
     let so_far = kept.so_far in
+    let first = c.in_ok-fitted.ensures.tried.tells in
     let few : greatest_size / (2 * c.loop-trial.step) ≤ c.max-first.result = ltb-false c.max-first.result (greatest_size / (2 * c.loop-trial.step)) (sym c.is_range_behind.ensures ∙ c.if-is_range_behind.false) in
     record {
-      tells = ended c.args.trial.records c.args.trial.many c.args.step c.max-first.result c.args.peak so_far.0 (reads c.try_range.new.reader).whole (reads c.args.reader.now).whole so_far.1 so_far.2 c.loop-trial.fitted
-          c.in_ok-fitted.ensures.whole (c.max-first.ensures ∙ ap (λ n. max n 1) c.div_ceil.ensures) so_far.4 so_far.5 so_far.6 so_far.7 (inr (no_range c.args.step c.loop-trial.step c.max-first.result so_far.0 so_far.3 few));
-      not_failed = none_failed-then (reads c.args.reader.now).calls (reads c.try_range.new.reader).calls (reads c.loop-trial.reader).calls c.in_ok-fitted.ensures.tried.not_failed kept.none_failed;
+      tells = (
+        first.0 + kept.begun.0,
+        (
+          omega (arith, kept.begun.1, first.1.0, c.default.ensures.1.1.0),
+          ended c.args.trial.records c.args.trial.many c.args.step c.max-first.result c.args.peak so_far.0 (reads c.try_range.new.reader).whole (reads c.args.reader.now).whole so_far.1 so_far.2 c.loop-trial.fitted
+          c.in_ok-fitted.ensures.whole (c.max-first.ensures ∙ ap (λ n. max n 1) c.div_ceil.ensures) so_far.4 so_far.5 so_far.6 so_far.7 (inr (no_range c.args.step c.loop-trial.step c.max-first.result so_far.0 so_far.3 few)),
+        ),
+        begun-then first.0 kept.begun.0 (reads c.args.reader.now).calls (reads c.try_range.new.reader).calls (reads c.loop-trial.reader).calls first.2 kept.begun.2,
+      );
       read = tt;
     }
 
@@ -147,9 +160,16 @@ returns-after-loop-trial g c =
     let reads = g.R.Source.shown in
     let kept = c.loop-trial.invariant in
     let so_far = kept.so_far in
+    let first = c.in_ok-fitted.ensures.tried.tells in
     record {
-      tells = ended c.args.trial.records c.args.trial.many c.args.step c.max-first.result c.args.peak so_far.0 (reads c.try_range.new.reader).whole (reads c.args.reader.now).whole so_far.1 so_far.2 c.loop-trial.fitted
-          c.in_ok-fitted.ensures.whole (c.max-first.ensures ∙ ap (λ n. max n 1) c.div_ceil.ensures) so_far.4 so_far.5 so_far.6 so_far.7 (inl (some_is c.loop-trial.fitted.least (c.is_none.ensures ∙ ap not c.loop-trial-test.false)));
-      not_failed = none_failed-then (reads c.args.reader.now).calls (reads c.try_range.new.reader).calls (reads c.loop-trial.reader).calls c.in_ok-fitted.ensures.tried.not_failed kept.none_failed;
+      tells = (
+        first.0 + kept.begun.0,
+        (
+          omega (arith, kept.begun.1, first.1.0, c.default.ensures.1.1.0),
+          ended c.args.trial.records c.args.trial.many c.args.step c.max-first.result c.args.peak so_far.0 (reads c.try_range.new.reader).whole (reads c.args.reader.now).whole so_far.1 so_far.2 c.loop-trial.fitted
+          c.in_ok-fitted.ensures.whole (c.max-first.ensures ∙ ap (λ n. max n 1) c.div_ceil.ensures) so_far.4 so_far.5 so_far.6 so_far.7 (inl (some_is c.loop-trial.fitted.least (c.is_none.ensures ∙ ap not c.loop-trial-test.false))),
+        ),
+        begun-then first.0 kept.begun.0 (reads c.args.reader.now).calls (reads c.try_range.new.reader).calls (reads c.loop-trial.reader).calls first.2 kept.begun.2,
+      );
       read = tt;
     }

@@ -1,8 +1,8 @@
-use Rattle.std.proofs.Common.{◌≡◌, ◌≤◌, ◌-◌, ◌*◌, ◌%◌, ◌^◌, ◌++◌, ℕ, List}
+use Rattle.std.proofs.Common.{◌≡◌, ◌≤◌, ◌+◌, ◌-◌, ◌*◌, ◌%◌, ◌^◌, ◌++◌, ℕ, List}
 use Rattle.std.specs.Prelude.{None}
 use Rattle.tlsf_class.specs.Classes.{unit, greatest_size}
 use Rattle.mtrace_replay.specs.Fit.{Verdict, doubled, range, ranges, least_size, fitted}
-use Rattle.mtrace_replay.specs.RunFit.{AreVerdicts, NoneFailed}
+use Rattle.mtrace_replay.specs.RunFit.{AreVerdicts, HasBegun}
 use Rattle.mtrace_replay.proofs.fit.try_sizes.Given as goal
 
 -- the ranges so far were tried; none before the last has a size that serves
@@ -18,7 +18,7 @@ invariant-loop-trial g l =
       some : unit ≤ l.step;
       in_units : l.step % unit ≡ 0;
       whole : (reads l.reader).whole ≡ (reads l.initial.reader).whole;
-      none_failed : NoneFailed (reads l.initial.reader).calls (reads l.reader).calls;
+      begun : (times : ℕ) × (l.fitted.tried ≡ l.initial.fitted.tried + times) × HasBegun times (reads l.initial.reader).calls (reads l.reader).calls;
       records : l.trial.records ≤ l.replay.content.records;
     }
 

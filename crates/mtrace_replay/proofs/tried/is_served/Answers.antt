@@ -1,6 +1,6 @@
 use Rattle.std.proofs.Common.{◌<◌, arith, ap, subst, ◌∙◌}
 use Rattle.mtrace_replay.specs.declared.totals.Totals.{Totals}
-use Rattle.mtrace_replay.proofs.TriedLemmas.{tried_served, tried_refused, none_failed}
+use Rattle.mtrace_replay.proofs.TriedLemmas.{tried_served, tried_refused, none_begun}
 use Rattle.mtrace_replay.proofs.tried.is_served.Goals as goal
 
 pub loop-preserved : goal.loop-preserved
@@ -31,7 +31,7 @@ returns-then-totals-gt0 g c =
           (next.replaying settings _ (kept.so_far settings stands)).now c.holds_few.ensures
           (omega (arith, next.reached, kept.many, c.loop-test.true))
           (subst (λ n. 0 < n) (ap (λ (totals : Totals). totals.refused) c.totals.ensures.totals) some);
-      not_failed = none_failed (reads c.args.reader.now).calls (reads c.replay_next.new.reader).calls (next.gave (reads c.args.reader.now) kept.gave).1;
+      begun = none_begun (reads c.args.reader.now).calls (reads c.replay_next.new.reader).calls (next.gave (reads c.args.reader.now) kept.gave).1;
       read = tt;
       whole = next.whole ∙ kept.whole;
       records = next.records ∙ kept.records;
@@ -42,9 +42,9 @@ returns g c =
     let kept = c.loop.invariant in
     record {
       tried = λ settings stands.
-          tried_served c.args.many settings c.loop.lines c.loop.replay (g.R.Source.shown c.args.reader.now) (g.R.Source.shown c.loop.reader) (kept.so_far settings stands) c.holds_few.ensures
+          tried_served c.args.many settings c.loop.lines c.loop.replay (g.R.Source.shown c.args.reader.now) (g.R.Source.shown c.loop.reader) (kept.so_far settings stands) c.holds_few-2.ensures
           (omega (arith, kept.many, c.loop-test.false, c.loop.auto.counter-end)) kept.served;
-      not_failed = none_failed (g.R.Source.shown c.args.reader.now).calls (g.R.Source.shown c.loop.reader).calls kept.gave.1;
+      begun = none_begun (g.R.Source.shown c.args.reader.now).calls (g.R.Source.shown c.loop.reader).calls kept.gave.1;
       read = tt;
       whole = kept.whole;
       records = kept.records;
