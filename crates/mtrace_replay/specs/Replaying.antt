@@ -1,5 +1,5 @@
 -- Lines that are read and replayed one after the other.
-use Rattle.std.specs.Prelude.{◌≡◌, ◌≢◌, ℕ, ◌+◌, ◌≤◌, List, ◌++◌, length, reverse, Result, OnOk, OnErr}
+use Rattle.std.specs.Prelude.{◌≡◌, ◌≢◌, ℕ, ◌≤◌, List, ◌++◌, length, reverse, Result, OnOk, OnErr}
 use Rattle.mtrace_log.specs.Progress.{Progress, Stage, Faulted, to_come, CallsFor, greatest_number}
 use Rattle.mtrace_log.specs.Shown.{ReaderState}
 use Rattle.mtrace_log.specs.Trace.{HasNotFailed}

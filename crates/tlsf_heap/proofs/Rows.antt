@@ -1,5 +1,6 @@
 -- Worked rows, computed by the definitions.
 mod Heap
 mod Run
+mod Sizing
 mod OneSize
 mod Pools

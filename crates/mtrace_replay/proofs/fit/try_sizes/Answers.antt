@@ -148,7 +148,7 @@ returns-else-is_range_behind g c =
         (
           omega (arith, kept.begun.1, first.1.0, c.default.ensures.1.1.0),
           ended c.args.trial.records c.args.trial.many c.args.step c.max-first.result c.args.peak so_far.0 (reads c.try_range.new.reader).whole (reads c.args.reader.now).whole so_far.1 so_far.2 c.loop-trial.fitted
-          c.in_ok-fitted.ensures.whole (c.max-first.ensures ∙ ap (λ n. max n 1) c.div_ceil.ensures) so_far.4 so_far.5 so_far.6 so_far.7 (inr (no_range c.args.step c.loop-trial.step c.max-first.result so_far.0 so_far.3 few)),
+              c.in_ok-fitted.ensures.whole (c.max-first.ensures ∙ ap (λ n. max n 1) c.div_ceil.ensures) so_far.4 so_far.5 so_far.6 so_far.7 (inr (no_range c.args.step c.loop-trial.step c.max-first.result so_far.0 so_far.3 few)),
         ),
         begun-then first.0 kept.begun.0 (reads c.args.reader.now).calls (reads c.try_range.new.reader).calls (reads c.loop-trial.reader).calls first.2 kept.begun.2,
       );
@@ -167,7 +167,7 @@ returns-after-loop-trial g c =
         (
           omega (arith, kept.begun.1, first.1.0, c.default.ensures.1.1.0),
           ended c.args.trial.records c.args.trial.many c.args.step c.max-first.result c.args.peak so_far.0 (reads c.try_range.new.reader).whole (reads c.args.reader.now).whole so_far.1 so_far.2 c.loop-trial.fitted
-          c.in_ok-fitted.ensures.whole (c.max-first.ensures ∙ ap (λ n. max n 1) c.div_ceil.ensures) so_far.4 so_far.5 so_far.6 so_far.7 (inl (some_is c.loop-trial.fitted.least (c.is_none.ensures ∙ ap not c.loop-trial-test.false))),
+              c.in_ok-fitted.ensures.whole (c.max-first.ensures ∙ ap (λ n. max n 1) c.div_ceil.ensures) so_far.4 so_far.5 so_far.6 so_far.7 (inl (some_is c.loop-trial.fitted.least (c.is_none.ensures ∙ ap not c.loop-trial-test.false))),
         ),
         begun-then first.0 kept.begun.0 (reads c.args.reader.now).calls (reads c.try_range.new.reader).calls (reads c.loop-trial.reader).calls first.2 kept.begun.2,
       );

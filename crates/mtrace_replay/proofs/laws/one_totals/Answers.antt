@@ -1,9 +1,7 @@
-use Rattle.std.proofs.Common.{◌≡◌, ℕ, ◌<◌, ◌≤◌, List, sym, ◌∙◌, arith, inl, inr}
+use Rattle.std.proofs.Common.{◌≡◌, ℕ, ◌≤◌, List, sym, ◌∙◌, arith, inl, inr}
 use Rattle.std.proofs.lemmas.Bool.{cases_lt}
-use Rattle.mtrace_replay.specs.Moment.{Given, Moment}
-use Rattle.mtrace_replay.specs.Started.{Bare}
-use Rattle.mtrace_replay.specs.declared.totals.Totals.{Totals}
-use Rattle.mtrace_replay.specs.Totals.{Measures, IsGreatestOf, AreTotals, IsMost}
+use Rattle.mtrace_replay.specs.Moment.{Moment}
+use Rattle.mtrace_replay.specs.Totals.{Measures, IsGreatestOf}
 use Rattle.mtrace_replay.proofs.TotalsLemmas.{measure_is_one}
 use Rattle.mtrace_replay.proofs.laws.one_totals.Goals as goal
 
