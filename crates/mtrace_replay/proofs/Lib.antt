@@ -49,3 +49,7 @@ mod TotalsLemmas
 mod TotalsStep
 mod TriedLemmas
 mod VerdictLemmas
+mod EntryOrder
+mod LedgerLemmas
+mod LocationsLemmas
+mod ServedLemmas

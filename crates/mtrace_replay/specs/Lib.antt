@@ -32,3 +32,6 @@ pub mod Survey
 pub mod Texts
 pub mod Timeline
 pub mod Totals
+pub mod Ledger
+pub mod Locations
+pub mod Served

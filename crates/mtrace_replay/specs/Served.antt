@@ -1,0 +1,79 @@
+-- What the lines of a log do where no heap is asked: each block that is asked for is given.
+use Rattle.std.specs.Prelude.{◌≡◌, ℕ, suc, List, [], ◌∷◌, ◌++◌, length, map, reverse, Option, Some, None, Result, OnOk, OnErr, if◌then◌else◌}
+use Rattle.std.specs.Option.{option_map}
+use Rattle.tlsf_heap.specs.Pools.{created}
+use Rattle.mtrace_replay.specs.Entry.{Entry}
+use Rattle.mtrace_replay.specs.declared.diagnostic.Diagnostic.{Diagnostic}
+use Rattle.mtrace_replay.specs.Started.{Bare}
+use Rattle.mtrace_replay.specs.Moment.{ReadLine, Given, Moment, Plan, Act, idle, give, take, move, plan, half, is_new, unserved, after_diagnostics}
+use Rattle.mtrace_replay.specs.History.{held, held_after, pending, notes, AreHeld}
+use Rattle.mtrace_replay.specs.Totals.{IsPeak}
+use Rattle.mtrace_replay.specs.Ledger.{held_at}
+
+-- what stands in each moment in the place of a heap
+abbrev pub no_heap : Bare
+no_heap = created 0
+
+-- the entry, with no place
+abbrev pub unplaced : Entry → Given
+unplaced entry = record { entry = entry; place = 0 }
+
+-- what an act leaves
+abbrev pub served : Act → Moment
+served idle = unserved [] no_heap
+served (give entry align) = record { given = Some (unplaced entry); taken = None; diagnostics = []; content = no_heap }
+served (take address place) = record { given = None; taken = Some address; diagnostics = []; content = no_heap }
+served (move old place entry) = record { given = Some (unplaced entry); taken = Some old; diagnostics = []; content = no_heap }
+
+-- what a plan leaves
+abbrev pub all_served : Plan → Moment
+all_served planned = after_diagnostics planned.first (served planned.act)
+
+-- what the line behind these many lines leaves
+abbrev pub served_moment : ℕ → ReadLine → Option ℕ → (ℕ → Option Given) → Moment
+served_moment before line pending held = after_diagnostics (if is_new line then [] else half before pending) (all_served (plan (suc before) line pending held))
+
+-- the moments of lines, the latest first
+unfoldable pub served_moments : List ReadLine → List Moment
+served_moments [] = []
+served_moments (line ∷ past) = served_moment (length past) line (pending past) (held (served_moments past)) ∷ served_moments past
+
+-- the moments of a log's lines, the first line first
+abbrev pub served_history : List ReadLine → List Moment
+served_history lines = served_moments (reverse lines)
+
+-- the diagnostics of a log's lines, the first line first
+abbrev pub served_diagnostics : List ReadLine → List Diagnostic
+served_diagnostics lines = notes (served_history lines) ++ half (length lines) (pending (reverse lines))
+
+-- what an address is held under, without a place
+abbrev pub found_in : List Entry → ℕ → Option Given
+found_in all address = option_map unplaced (held_at all address)
+
+-- What a line does, or a part of it, as its plan says. Where memory is refused what is held stays.
+pub record Serves {E : Type 0} (planned : Plan) (diagnostics : List Diagnostic) (result : Result (Unit {0}) E) (old new : List Entry) : Type 0 where
+  pub held : OnOk result ((address : ℕ) → found_in new address ≡ held_after (all_served planned) (found_in old) address)
+  pub diagnostics_are : OnOk result (diagnostics ≡ (all_served planned).diagnostics)
+  pub unchanged : OnErr result (new ≡ old)
+
+-- the same, behind other diagnostics
+pub record ServesBehind {E : Type 0} (before : List Diagnostic) (planned : Plan) (diagnostics : List Diagnostic) (result : Result (Unit {0}) E) (old new : List Entry) : Type 0 where
+  pub held : OnOk result ((address : ℕ) → found_in new address ≡ held_after (all_served planned) (found_in old) address)
+  pub diagnostics_are : OnOk result (diagnostics ≡ before ++ (all_served planned).diagnostics)
+  pub unchanged : OnErr result (new ≡ old)
+
+-- a replay without a heap: what is held in order of address, how many lines there were, the greatest sum of bytes with
+-- its line, and the address of the last line where that is `<`
+pub record Standing : Type 0 where
+  pub all : List Entry
+  pub lines : ℕ
+  pub peak_bytes : ℕ
+  pub peak_line : ℕ
+  pub pending : Option ℕ
+
+-- the replay stands for the lines, of which the latest comes first
+pub record IsServed (replay : Standing) (past : List ReadLine) : Type 0 where
+  pub lines_are : replay.lines ≡ length past
+  pub pending_is : replay.pending ≡ pending past
+  pub held : AreHeld (map unplaced replay.all) (served_moments past)
+  pub peak : IsPeak (served_moments past) replay.peak_bytes replay.peak_line

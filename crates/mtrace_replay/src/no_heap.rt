@@ -1,0 +1,6 @@
+//! A log replayed without a heap: what is held, of any number of blocks.
+
+pub(crate) mod ledger;
+mod line;
+mod locations;
+pub(crate) mod replay;

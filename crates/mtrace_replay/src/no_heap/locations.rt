@@ -1,0 +1,95 @@
+//! The locations of a log, each kept once.
+
+ghost use Rattle.std.specs.Prelude.{◌≡◌, [], Some, slice_get, IfOk, IfSome};
+ghost use Rattle.std.specs.Option.{option_copied};
+ghost use Rattle.mtrace_replay.specs.Locations.{Extends, location_of, HasLocation};
+
+use indexmap::IndexSet;
+use std::alloc::{AllocError, Global};
+use std::marker::Model;
+
+/// The locations that were seen, each kept once, by number: the first has number 0.
+#[derive(Drop)]
+pub struct Locations {
+    alloc: Global,
+    seen: IndexSet<Vec<u8>>,
+}
+
+impl Model for Locations {
+    ghost use Rattle.std.specs.Prelude.{ℕ, List, map};
+    ghost use Rattle.mtrace_replay.specs.Locations.{bytes_of};
+
+    ghost Value = { List (List ℕ) };
+
+    ghost view = { λ p. map bytes_of p.seen.keys };
+}
+
+impl Locations {
+    /// None yet.
+    pub fn new(alloc: Global) -> Locations
+        ensures { result ≡ [] }
+    {
+        Locations {
+            alloc,
+            seen: IndexSet::new(alloc),
+        }
+    }
+
+    /// The number of a location, kept if it is new.
+    ///
+    /// # Errors
+    ///
+    /// `AllocError` where memory is refused, or there are 2^32 others.
+    pub fn number_of(&mut self, bytes: &[u8]) -> Result<u32, AllocError>
+        ensures found { IfOk result (λ number. slice_get self.new number ≡ Some bytes.now) }
+        ensures others { Extends self.old self.new }
+    {
+        if let Some(number) = self.seen.get_index_of(bytes) {
+            let Ok(number) = u32::try_from(number) else {
+                return Err(AllocError);
+            };
+            return Ok(number);
+        }
+        let kept = Vec::from_slice(self.alloc, bytes)?;
+        let (number, _) = self.seen.insert_full(kept)?;
+        let Ok(number) = u32::try_from(number) else {
+            return Err(AllocError);
+        };
+        Ok(number)
+    }
+
+    /// The number of the location of a line, if that has one.
+    ///
+    /// # Errors
+    ///
+    /// `AllocError` where memory is refused, or there are 2^32 others.
+    pub fn number_at(&mut self, at: Option<&[u8]>) -> Result<Option<u32>, AllocError>
+        ensures found { IfOk result (λ location. location_of self.new location ≡ option_copied at.entry) }
+        ensures there { IfOk result (HasLocation self.new) }
+        ensures others { Extends self.old self.new }
+    {
+        let Some(bytes) = at else {
+            return Ok(None);
+        };
+        let number = self.number_of(bytes)?;
+        Ok(Some(number))
+    }
+
+    /// The location of this number.
+    pub fn get(&self, number: u32) -> Option<&[u8]>
+        ensures { option_copied result ≡ slice_get self.now number }
+    {
+        let bytes = self.seen.get_index(number as usize)?;
+        Some(bytes.as_slice())
+    }
+
+    /// The location of that number, if there is a number.
+    pub fn at(&self, location: Option<u32>) -> Option<&[u8]>
+        ensures { option_copied result ≡ location_of self.now location }
+    {
+        match location {
+            Some(number) => self.get(number),
+            None => None,
+        }
+    }
+}
