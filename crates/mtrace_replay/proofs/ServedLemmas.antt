@@ -1,16 +1,18 @@
 -- A replay without a heap stands for one line more.
 use Rattle.std.proofs.Math.Path.{fun_ext}
 use Rattle.std.proofs.Common.{cond, Bool, true, false, Some, None, ◌≡◌, ℕ, suc, ◌+◌, List, [], ◌∷◌, length, map, refl, sym, ap, ◌∙◌, subst, arith}
-use Rattle.std.specs.Prelude.{◌==◌, nat_lt, if◌then◌else◌, option_map}
+use Rattle.std.specs.Prelude.{◌==◌, ◌++◌, is_some, count_by, nat_lt, if◌then◌else◌, option_map}
 use Rattle.std.specs.List.Sorted.{IsStrictlyIncreasing}
 use Rattle.mtrace_replay.specs.Entry.{Entry}
-use Rattle.mtrace_replay.specs.Moment.{ReadLine, Given, plan}
+use Rattle.mtrace_replay.specs.declared.diagnostic.Diagnostic.{Diagnostic}
+use Rattle.mtrace_replay.specs.Moment.{ReadLine, Given, Plan, plan, half, is_new}
 use Rattle.mtrace_replay.specs.History.{held, held_after, pending, old_address, AreHeld, entries_of}
 use Rattle.mtrace_replay.specs.Step.{found}
-use Rattle.mtrace_replay.specs.Totals.{Measures, IsPeak, bytes_in}
+use Rattle.mtrace_replay.specs.Totals.{is_served, Measures, IsPeak, bytes_in}
 use Rattle.mtrace_replay.specs.Texts.{total_size}
 use Rattle.mtrace_replay.specs.Ledger.{held_at}
-use Rattle.mtrace_replay.specs.Served.{unplaced, all_served, served_moments, found_in, Standing, IsServed}
+use Rattle.mtrace_replay.specs.Served.{unplaced, all_served, served_moment, served_moments, found_in, Standing, IsServed, added_served}
+use Rattle.tlsf_heap.proofs.Counts.{count-cons}
 use Rattle.mtrace_replay.proofs.FoundLemmas.{found_is_held, held_as_found, none_held}
 use Rattle.mtrace_replay.proofs.TotalsLemmas.{most_none, peak_goes_on}
 
@@ -35,9 +37,9 @@ unfolding served_moments
 length-served [] = refl
 length-served (line ∷ past) = ap suc (length-served past)
 
-pub none_served : IsServed (record { all = []; lines = 0; peak_bytes = 0; peak_line = 0; pending = None }) []
+pub none_served : IsServed (record { all = []; lines = 0; served = 0; peak_bytes = 0; peak_line = 0; pending = None }) []
 unfolding served_moments
-none_served = record { lines_are = refl; pending_is = refl; held = none_held; peak = most_none bytes_in refl }
+none_served = record { lines_are = refl; served_are = refl; pending_is = refl; held = none_held; peak = most_none bytes_in refl }
 
 module _ (old new : Standing) (past : List ReadLine) (line : ReadLine) (stands : IsServed old past)
     (serves : (address : ℕ) → found_in new.all address ≡ held_after (all_served (plan (old.lines + 1) line old.pending (found_in old.all))) (found_in old.all) address)
@@ -58,6 +60,29 @@ module _ (old new : Standing) (past : List ReadLine) (line : ReadLine) (stands :
   held_on = held_as_found (map unplaced new.all) _ (subst IsStrictlyIncreasing (sym (addresses_unplaced new.all)) rises)
       (λ address. found_unplaced new.all address ∙ serves address ∙ its_moment address)
 
+  -- the plan of the line, by what the replay keeps and by the lines
+  plan_is : plan (old.lines + 1) line old.pending (found_in old.all) ≡ plan (suc (length past)) line (pending past) (held (served_moments past))
+  plan_is =
+      let number : old.lines + 1 ≡ suc (length past) = omega (arith, stands.lines_are) in
+      ap (λ n. plan n line old.pending (found_in old.all)) number
+      ∙ ap (λ p. plan (suc (length past)) line p (found_in old.all)) stands.pending_is
+      ∙ ap (λ look. plan (suc (length past)) line (pending past) look) look_is
+
+  served_on : count_by is_served (served_moments past) + (if is_some (all_served (plan (old.lines + 1) line old.pending (found_in old.all))).given then 1 else 0) ≡ count_by is_served (served_moments (line ∷ past))
+  unfolding served_moments
+  served_on =
+      ap (λ (planned : Plan). count_by is_served (served_moments past) + (if is_some (all_served planned).given then 1 else 0)) plan_is
+      ∙ omega (arith, count-cons is_served (served_moment (length past) line (pending past) (held (served_moments past))) (served_moments past))
+
+  -- what the line adds to what is wrong
+  pub told_on : (diagnostics : List Diagnostic) → diagnostics ≡ (if is_new line then [] else half old.lines old.pending) ++ (all_served (plan (old.lines + 1) line old.pending (found_in old.all))).diagnostics
+      → diagnostics ≡ added_served line past
+  told_on diagnostics is =
+      is
+      ∙ ap (λ n. (if is_new line then [] else half n old.pending) ++ (all_served (plan (old.lines + 1) line old.pending (found_in old.all))).diagnostics) stands.lines_are
+      ∙ ap (λ p. (if is_new line then [] else half (length past) p) ++ (all_served (plan (old.lines + 1) line old.pending (found_in old.all))).diagnostics) stands.pending_is
+      ∙ ap (λ (planned : Plan). (if is_new line then [] else half (length past) (pending past)) ++ (all_served planned).diagnostics) plan_is
+
   measured_on : (bytes : ℕ) → bytes ≡ total_size new.all → Measures bytes_in (served_moments (line ∷ past)) bytes
   measured_on bytes is = record { all = map unplaced new.all; held = held_on; measured = is ∙ ap total_size (sym (entries_unplaced new.all)) }
 
@@ -66,11 +91,13 @@ module _ (old new : Standing) (past : List ReadLine) (line : ReadLine) (stands :
   unfolding served_moments
   peak_on bytes is = peak_goes_on bytes_in _ (served_moments past) old.peak_bytes bytes (measured_on bytes is) old.peak_line stands.peak (nat_lt old.peak_bytes bytes) refl
 
-  pub stands_on : (bytes : ℕ) → bytes ≡ total_size new.all → new.lines ≡ old.lines + 1 → new.pending ≡ old_address line
+  pub stands_on : (bytes : ℕ) → bytes ≡ total_size new.all → new.lines ≡ old.lines + 1
+      → new.served ≡ old.served + (if is_some (all_served (plan (old.lines + 1) line old.pending (found_in old.all))).given then 1 else 0) → new.pending ≡ old_address line
       → new.peak_bytes ≡ (if nat_lt old.peak_bytes bytes then bytes else old.peak_bytes) → new.peak_line ≡ (if nat_lt old.peak_bytes bytes then old.lines + 1 else old.peak_line)
       → IsServed new (line ∷ past)
-  stands_on bytes is lines_are pending_is peak_is line_is = record {
+  stands_on bytes is lines_are served_is pending_is peak_is line_is = record {
     lines_are = lines_are ∙ omega (arith, stands.lines_are);
+    served_are = served_is ∙ ap (λ n. n + (if is_some (all_served (plan (old.lines + 1) line old.pending (found_in old.all))).given then 1 else 0)) stands.served_are ∙ served_on;
     pending_is = pending_is;
     held = held_on;
     peak =

@@ -1,5 +1,5 @@
 -- What the lines of a log do where no heap is asked: each block that is asked for is given.
-use Rattle.std.specs.Prelude.{◌≡◌, ℕ, suc, List, [], ◌∷◌, ◌++◌, length, map, reverse, Option, Some, None, Result, OnOk, OnErr, if◌then◌else◌}
+use Rattle.std.specs.Prelude.{◌≡◌, ℕ, suc, Bool, List, [], ◌∷◌, ◌++◌, length, map, reverse, count_by, is_some, Option, Some, None, Result, IfOk, OnOk, OnErr, if◌then◌else◌}
 use Rattle.std.specs.Option.{option_map}
 use Rattle.tlsf_heap.specs.Pools.{created}
 use Rattle.mtrace_replay.specs.Entry.{Entry}
@@ -7,7 +7,9 @@ use Rattle.mtrace_replay.specs.declared.diagnostic.Diagnostic.{Diagnostic}
 use Rattle.mtrace_replay.specs.Started.{Bare}
 use Rattle.mtrace_replay.specs.Moment.{ReadLine, Given, Moment, Plan, Act, idle, give, take, move, plan, half, is_new, unserved, after_diagnostics}
 use Rattle.mtrace_replay.specs.History.{held, held_after, pending, notes, AreHeld}
-use Rattle.mtrace_replay.specs.Totals.{IsPeak}
+use Rattle.mtrace_replay.specs.Totals.{is_served, IsPeak}
+use Rattle.mtrace_replay.specs.declared.no_heap.replay.LedgerTotals.{LedgerTotals}
+use Rattle.mtrace_replay.specs.Texts.{total_size}
 use Rattle.mtrace_replay.specs.Ledger.{held_at}
 
 -- what stands in each moment in the place of a heap
@@ -50,23 +52,19 @@ served_diagnostics lines = notes (served_history lines) ++ half (length lines) (
 abbrev pub found_in : List Entry → ℕ → Option Given
 found_in all address = option_map unplaced (held_at all address)
 
--- What a line does, or a part of it, as its plan says. Where memory is refused what is held stays.
-pub record Serves {E : Type 0} (planned : Plan) (diagnostics : List Diagnostic) (result : Result (Unit {0}) E) (old new : List Entry) : Type 0 where
+-- What a line does, or a part of it, as its plan says, and whether a block is given. Where memory is refused what is held stays.
+pub record Serves {E : Type 0} (planned : Plan) (diagnostics : List Diagnostic) (result : Result Bool E) (old new : List Entry) : Type 0 where
   pub held : OnOk result ((address : ℕ) → found_in new address ≡ held_after (all_served planned) (found_in old) address)
   pub diagnostics_are : OnOk result (diagnostics ≡ (all_served planned).diagnostics)
+  pub given : IfOk result (λ given. given ≡ is_some (all_served planned).given)
   pub unchanged : OnErr result (new ≡ old)
 
--- the same, behind other diagnostics
-pub record ServesBehind {E : Type 0} (before : List Diagnostic) (planned : Plan) (diagnostics : List Diagnostic) (result : Result (Unit {0}) E) (old new : List Entry) : Type 0 where
-  pub held : OnOk result ((address : ℕ) → found_in new address ≡ held_after (all_served planned) (found_in old) address)
-  pub diagnostics_are : OnOk result (diagnostics ≡ before ++ (all_served planned).diagnostics)
-  pub unchanged : OnErr result (new ≡ old)
-
--- a replay without a heap: what is held in order of address, how many lines there were, the greatest sum of bytes with
--- its line, and the address of the last line where that is `<`
+-- a replay without a heap: what is held in order of address, how many lines there were and how many were served, the greatest
+-- sum of bytes with its line, and the address of the last line where that is `<`
 pub record Standing : Type 0 where
   pub all : List Entry
   pub lines : ℕ
+  pub served : ℕ
   pub peak_bytes : ℕ
   pub peak_line : ℕ
   pub pending : Option ℕ
@@ -74,6 +72,29 @@ pub record Standing : Type 0 where
 -- the replay stands for the lines, of which the latest comes first
 pub record IsServed (replay : Standing) (past : List ReadLine) : Type 0 where
   pub lines_are : replay.lines ≡ length past
+  pub served_are : replay.served ≡ count_by is_served (served_moments past)
   pub pending_is : replay.pending ≡ pending past
   pub held : AreHeld (map unplaced replay.all) (served_moments past)
   pub peak : IsPeak (served_moments past) replay.peak_bytes replay.peak_line
+
+-- the diagnostics that one more line adds
+abbrev pub added_served : ReadLine → List ReadLine → List Diagnostic
+added_served line past = (served_moment (length past) line (pending past) (held (served_moments past))).diagnostics
+
+-- The line of this number was fed. Where memory is refused the replay is as before the line.
+pub record FeedsLedger {E : Type 0} (number : ℕ) (line : ReadLine) (diagnostics : List Diagnostic) (result : Result (Unit {0}) E) (old new : Standing) : Type 0 where
+  pub stands : OnOk result ((past : List ReadLine) → IsServed old past → IsServed new (line ∷ past))
+  pub told : OnOk result ((past : List ReadLine) → IsServed old past → diagnostics ≡ added_served line past)
+  pub counted : OnOk result (new.lines ≡ number)
+  pub unchanged : OnErr result (new ≡ old)
+
+-- the sums over the lines of a replay
+abbrev pub totals_of : Standing → LedgerTotals
+totals_of replay = record {
+  lines = replay.lines;
+  served = replay.served;
+  live_bytes = total_size replay.all;
+  live_blocks = length replay.all;
+  peak_bytes = replay.peak_bytes;
+  peak_line = replay.peak_line;
+}

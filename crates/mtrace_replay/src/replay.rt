@@ -29,7 +29,7 @@ pub enum ReplayFault {
 const _: () = prove!(ReplayFault::BadSettings as u32 == 1 && ReplayFault::OutOfMemory as u32 == 2);
 
 /// The address of a line `<`.
-fn old_address(event: &Result<Event<LentLocation<'_>>, LineFault>) -> Option<Addr>
+pub(crate) fn old_address(event: &Result<Event<LentLocation<'_>>, LineFault>) -> Option<Addr>
     ensures { result ≡ old_address event.now }
 {
     match event {
@@ -39,7 +39,7 @@ fn old_address(event: &Result<Event<LentLocation<'_>>, LineFault>) -> Option<Add
 }
 
 /// The diagnostic of the line of this number, where it is `<`, its address pending, and no `>` follows.
-fn half_diagnostic(number: u64, pending: Option<Addr>) -> Option<Diagnostic>
+pub(crate) fn half_diagnostic(number: u64, pending: Option<Addr>) -> Option<Diagnostic>
     ensures { option_to_list result ≡ half number pending }
 {
     match pending {
@@ -52,7 +52,7 @@ fn half_diagnostic(number: u64, pending: Option<Addr>) -> Option<Diagnostic>
 }
 
 /// The diagnostic of the line before, of this number and with this address pending, unless the event is `>`.
-fn half_before(
+pub(crate) fn half_before(
     number: u64,
     pending: Option<Addr>,
     event: &Result<Event<LentLocation<'_>>, LineFault>,
@@ -66,7 +66,7 @@ fn half_before(
 }
 
 /// Puts the diagnostic of the line before, where there is one, before those of this line.
-fn put_half(half: Option<Diagnostic>, findings: &mut Findings)
+pub(crate) fn put_half(half: Option<Diagnostic>, findings: &mut Findings)
     requires { length (option_to_list half) + length findings.old ≤ 2 }
     ensures { findings.new ≡ option_to_list half ++ findings.old }
 {

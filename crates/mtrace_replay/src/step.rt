@@ -259,7 +259,7 @@ fn renew<H: Heaped>(
 }
 
 /// The entry of a line that asks for a block.
-fn entry_of<'a>(
+pub(crate) fn entry_of<'a>(
     number: u64,
     at: Option<LentLocation<'a>>,
     addr: Addr,

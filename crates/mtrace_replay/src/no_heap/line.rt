@@ -1,23 +1,17 @@
 //! What one line does to a ledger.
 
-ghost use Rattle.std.specs.Prelude.{◌≡◌, ◌≢◌, ◌&&◌, not, is_some, true, length, ℕ, [], None, Some, OnOk, OnErr, if◌then◌else◌, ◌==◌};
-ghost use Rattle.mtrace_replay.specs.Moment.{allocation, release, renewal, plan, one_diagnostic};
+ghost use Rattle.std.specs.Prelude.{◌≡◌, ◌≢◌, ◌&&◌, not, is_some, true, ℕ, [], None, Some, OnOk, OnErr, if◌then◌else◌, ◌==◌};
+ghost use Rattle.mtrace_replay.specs.Moment.{allocation, release, renewal, plan};
 ghost use Rattle.mtrace_replay.specs.Ledger.{held_at};
-ghost use Rattle.mtrace_replay.specs.Served.{Serves, ServesBehind, found_in};
+ghost use Rattle.mtrace_replay.specs.Served.{Serves, found_in};
 
 use super::ledger::Ledger;
-use mtrace_log::{Addr, Event, LentLocation, LineFault};
-use crate::diagnostic::{Diagnostic, Kind, Note};
+use crate::diagnostic::{Diagnostic, Kind};
 use crate::entry::Entry;
+use crate::findings::Findings;
+use crate::step::entry_of;
+use mtrace_log::{Addr, Event, LentLocation, LineFault};
 use std::alloc::AllocError;
-
-/// Puts what is wrong with a line, where nothing was.
-fn find(findings: &mut Note, line: u64, kind: Kind)
-    requires none { findings.old.items ≡ [] }
-    ensures { findings.new.items ≡ one_diagnostic line kind }
-{
-    findings.push(Diagnostic { line, kind });
-}
 
 /// Holds the address of an entry, which isn't held.
 fn hold(ledger: &mut Ledger, entry: &Entry<LentLocation<'_>>) -> Result<(), AllocError>
@@ -32,39 +26,42 @@ fn hold(ledger: &mut Ledger, entry: &Entry<LentLocation<'_>>) -> Result<(), Allo
     ledger.hold(entry.addr, entry.size, entry.line, Some(kept.bytes()))
 }
 
-/// `+ address size`: holds the address, unless it is held.
-pub(crate) fn allocate(
+/// `+ address size`, or `* address align size`: holds the address, unless it is held. Answers whether it does.
+#[inline(always)]
+fn allocate(
     ledger: &mut Ledger,
     entry: &Entry<LentLocation<'_>>,
-    findings: &mut Note,
-) -> Result<(), AllocError>
-    requires none { findings.old.items ≡ [] }
-    ensures { Serves (allocation entry.now None (found_in ledger.old entry.now.addr)) findings.new.items result ledger.old ledger.new }
+    findings: &mut Findings,
+) -> Result<bool, AllocError>
+    requires none { findings.old ≡ [] }
+    ensures { Serves (allocation entry.now None (found_in ledger.old entry.now.addr)) findings.new result ledger.old ledger.new }
 {
     if ledger.is_held(entry.addr) {
-        find(findings, entry.line, Kind::AlreadyHeld(entry.addr));
-        return Ok(());
+        findings.set_one(entry.line, Kind::AlreadyHeld(entry.addr));
+        return Ok(false);
     }
-    hold(ledger, entry)
+    hold(ledger, entry)?;
+    Ok(true)
 }
 
 /// `- address`: holds it no more.
-pub(crate) fn release(
+#[inline(always)]
+fn release(
     ledger: &mut Ledger,
     number: u64,
     address: Addr,
-    findings: &mut Note,
-) -> Result<(), AllocError>
-    requires none { findings.old.items ≡ [] }
-    ensures { Serves (release number address (found_in ledger.old address)) findings.new.items result ledger.old ledger.new }
+    findings: &mut Findings,
+) -> Result<bool, AllocError>
+    requires none { findings.old ≡ [] }
+    ensures { Serves (release number address (found_in ledger.old address)) findings.new result ledger.old ledger.new }
 {
     if !ledger.release(address) {
-        find(findings, number, Kind::NotHeld(address));
+        findings.set_one(number, Kind::NotHeld(address));
     }
-    Ok(())
+    Ok(false)
 }
 
-/// Holds the address of an entry in location of an old one, which may be the same.
+/// Holds the address of an entry in place of an old one, which may be the same.
 fn replace(
     ledger: &mut Ledger,
     old: Addr,
@@ -90,91 +87,64 @@ fn is_held_too(ledger: &Ledger, address: Addr, old: Addr) -> bool
     address != old && ledger.is_held(address)
 }
 
-/// `> address size`: holds the address in location of that of the line before, where that is `<`.
-pub(crate) fn renew(
+/// `> address size`: holds the address in place of that of the line before, where that is `<`.
+#[inline(never)]
+fn renew(
     ledger: &mut Ledger,
     pending: Option<Addr>,
     entry: &Entry<LentLocation<'_>>,
-    findings: &mut Note,
-) -> Result<(), AllocError>
-    requires none { findings.old.items ≡ [] }
-    ensures { Serves (renewal entry.now pending (found_in ledger.old)) findings.new.items result ledger.old ledger.new }
+    findings: &mut Findings,
+) -> Result<bool, AllocError>
+    requires none { findings.old ≡ [] }
+    ensures { Serves (renewal entry.now pending (found_in ledger.old)) findings.new result ledger.old ledger.new }
 {
+    let number = entry.line;
     let Some(old) = pending else {
-        find(findings, entry.line, Kind::Stray);
-        return Ok(());
+        findings.set_one(number, Kind::Stray);
+        return Ok(false);
     };
     if !ledger.is_held(old) {
-        find(findings, entry.line, Kind::NotHeld(old));
-        return allocate_too(ledger, entry, findings);
+        let is_given = allocate(ledger, entry, findings)?;
+        findings.put_first(Diagnostic {
+            line: number,
+            kind: Kind::NotHeld(old),
+        });
+        return Ok(is_given);
     }
     if is_held_too(ledger, entry.addr, old) {
-        find(findings, entry.line, Kind::AlreadyHeld(entry.addr));
-        return Ok(());
+        findings.set_one(number, Kind::AlreadyHeld(entry.addr));
+        return Ok(false);
     }
-    replace(ledger, old, entry)
+    replace(ledger, old, entry)?;
+    Ok(true)
 }
 
-/// The same as `allocate`, behind what else is wrong with the line.
-fn allocate_too(
-    ledger: &mut Ledger,
-    entry: &Entry<LentLocation<'_>>,
-    findings: &mut Note,
-) -> Result<(), AllocError>
-    requires one { length findings.old.items ≡ 1 }
-    ensures { ServesBehind findings.old.items (allocation entry.now None (found_in ledger.old entry.now.addr)) findings.new.items result ledger.old ledger.new }
-{
-    if ledger.is_held(entry.addr) {
-        findings.push(Diagnostic {
-            line: entry.line,
-            kind: Kind::AlreadyHeld(entry.addr),
-        });
-        return Ok(());
-    }
-    hold(ledger, entry)
-}
-
-/// The entry of a line that asks for a block.
-fn entry_of<'a>(
-    number: u64,
-    at: Option<LentLocation<'a>>,
-    addr: Addr,
-    size: u64,
-) -> Entry<LentLocation<'a>>
-    ensures { result ≡ record { addr = addr; size = size; line = number; at = at.entry } }
-{
-    Entry {
-        addr,
-        size,
-        line: number,
-        at,
-    }
-}
-
-/// What the line of this number does, where `pending` is the address of the line before, if that is `<`.
+/// What the line of this number does, where `pending` is the address of the line before, if that is `<`. Answers whether a block is
+/// given.
+#[inline(always)]
 pub(crate) fn outcome(
     ledger: &mut Ledger,
     number: u64,
     pending: Option<Addr>,
     event: Result<Event<LentLocation<'_>>, LineFault>,
-    findings: &mut Note,
-) -> Result<(), AllocError>
-    requires none { findings.old.items ≡ [] }
-    ensures { Serves (plan number event.entry pending (found_in ledger.old)) findings.new.items result ledger.old ledger.new }
+    findings: &mut Findings,
+) -> Result<bool, AllocError>
+    requires none { findings.old ≡ [] }
+    ensures { Serves (plan number event.entry pending (found_in ledger.old)) findings.new result ledger.old ledger.new }
 {
     match event {
         Err(LineFault::TooLong) => {
-            find(findings, number, Kind::TooLong);
-            Ok(())
+            findings.set_one(number, Kind::TooLong);
+            Ok(false)
         }
         Err(LineFault::NotALine) => {
-            find(findings, number, Kind::NotALine);
-            Ok(())
+            findings.set_one(number, Kind::NotALine);
+            Ok(false)
         }
-        Ok(Event::Start | Event::End | Event::Old { .. } | Event::Failed { .. }) => Ok(()),
+        Ok(Event::Start | Event::End | Event::Old { .. } | Event::Failed { .. }) => Ok(false),
         Ok(Event::Alloc { at, addr, size }) => {
             let Some(addr) = addr else {
-                return Ok(());
+                return Ok(false);
             };
             let entry = entry_of(number, at, addr, size);
             allocate(ledger, &entry, findings)

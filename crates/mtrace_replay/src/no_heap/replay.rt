@@ -1,43 +1,55 @@
 //! The replay of a log without a heap.
 
-ghost use Rattle.std.specs.Prelude.{◌≡◌, ◌+◌, ◌<◌, ◌^◌, ◌∷◌, [], List, OnOk, OnErr, if◌then◌else◌, nat_lt};
-ghost use Rattle.mtrace_replay.specs.Moment.{ReadLine};
-ghost use Rattle.mtrace_replay.specs.History.{old_address};
-ghost use Rattle.mtrace_replay.specs.Served.{IsServed};
+ghost use Rattle.std.specs.Prelude.{◌≡◌, ◌+◌, [], if◌then◌else◌, nat_lt};
+ghost use Rattle.mtrace_replay.specs.Moment.{half};
+ghost use Rattle.mtrace_replay.specs.Served.{IsServed, FeedsLedger, totals_of};
 
 use super::ledger::Ledger;
 use super::line::outcome;
-use mtrace_log::{Addr, Event, LentLocation, LineFault};
 use crate::diagnostic::Note;
+use crate::findings::Findings;
+use crate::replay::{half_before, half_diagnostic, old_address, put_half};
+use mtrace_log::{Addr, Event, LentLocation, LineFault};
 use std::alloc::{AllocError, Global};
 use std::marker::Model;
+
+/// The sums over the lines of a log, without a heap.
+#[derive(Clone, Copy, Debug, PartialEq, Eq)]
+pub struct LedgerTotals {
+    /// How many lines there are.
+    pub lines: u64,
+    /// How many lines were given a block.
+    pub served: u64,
+    /// The sum of the sizes held, in bytes as asked for.
+    pub live_bytes: u128,
+    /// How many addresses are held.
+    pub live_blocks: u64,
+    /// The greatest sum of sizes held after any line, in bytes.
+    pub peak_bytes: u128,
+    /// The first line after which that was held; 0 where nothing ever was.
+    pub peak_line: u64,
+}
 
 /// The replay of a log's lines without a heap: what is held, and the greatest sum of bytes that was.
 #[derive(Drop)]
 pub struct LedgerReplay {
     ledger: Ledger,
     lines: u64,
+    served: u64,
     peak_bytes: u128,
     peak_line: u64,
     pending: Option<Addr>,
 }
 
 impl Model for LedgerReplay {
+    ghost use Rattle.std.specs.Prelude.{◌≤◌};
     ghost use Rattle.mtrace_replay.specs.Served.{Standing};
 
     ghost Value = { Standing };
 
-    ghost view = { λ r. record { all = r.ledger; lines = r.lines; peak_bytes = r.peak_bytes; peak_line = r.peak_line; pending = r.pending } };
-}
+    ghost view = { λ r. record { all = r.ledger; lines = r.lines; served = r.served; peak_bytes = r.peak_bytes; peak_line = r.peak_line; pending = r.pending } };
 
-/// The address of a line `<`.
-fn old_address(event: &Result<Event<LentLocation<'_>>, LineFault>) -> Option<Addr>
-    ensures { result ≡ old_address event.now }
-{
-    match event {
-        Ok(Event::Old { addr, .. }) => Some(*addr),
-        _ => None,
-    }
+    ghost invariant = { λ r. r.served ≤ r.lines };
 }
 
 /// The greater of the most bytes so far and those now.
@@ -55,44 +67,78 @@ fn most_line(most: u128, bytes: u128, line: u64, number: u64) -> u64
 }
 
 impl LedgerReplay {
-    /// A replay of no line yet.
+    /// A replay of no line yet. It takes no memory.
     pub fn new(alloc: Global) -> LedgerReplay
         ensures { IsServed result [] }
     {
         LedgerReplay {
             ledger: Ledger::new(alloc),
             lines: 0,
+            served: 0,
             peak_bytes: 0,
             peak_line: 0,
             pending: None,
         }
     }
 
-    /// Replays the next line.
+    /// Replays the line of this number that says this, with its location where it lies. What is wrong goes to the findings.
     ///
     /// # Errors
     ///
     /// `AllocError` where memory is refused: then the replay is as before the line.
-    pub fn feed(
+    #[inline(always)]
+    pub(crate) fn feed_lent(
         &mut self,
+        number: u64,
         event: Result<Event<LentLocation<'_>>, LineFault>,
-        findings: &mut Note,
+        findings: &mut Findings,
     ) -> Result<(), AllocError>
-        requires few { self.old.lines + 1 < 2 ^ 64 }
-        requires none { findings.old.items ≡ [] }
-        ensures stands { OnOk result ((past : List ReadLine) → IsServed self.old past → IsServed self.new (event.entry ∷ past)) }
-        ensures unchanged { OnErr result (self.new ≡ self.old) }
+        requires next { number ≡ self.old.lines + 1 }
+        requires none { findings.old ≡ [] }
+        ensures { FeedsLedger number event.entry findings.new result self.old self.new }
     {
+        let half = half_before(self.lines, self.pending, &event);
         let next = old_address(&event);
-        let number = self.lines + 1;
-        outcome(&mut self.ledger, number, self.pending, event, findings)?;
+        let is_given = outcome(&mut self.ledger, number, self.pending, event, findings)?;
         self.ledger.keeps_order();
+        put_half(half, findings);
         let bytes = self.ledger.bytes();
         let most = self.peak_bytes;
         self.lines = number;
+        self.served += u64::from(is_given);
         self.peak_bytes = most_bytes(most, bytes);
         self.peak_line = most_line(most, bytes, self.peak_line, number);
         self.pending = next;
         Ok(())
+    }
+
+    /// What is wrong at the end: the last line, where that is half of a reallocation.
+    pub(crate) fn finish(&self) -> Note
+        ensures { result.items ≡ half self.now.lines self.now.pending }
+    {
+        let mut findings = Findings::none();
+        put_half(half_diagnostic(self.lines, self.pending), &mut findings);
+        findings.diagnostics()
+    }
+
+    /// The sums over the lines fed.
+    pub(crate) fn totals(&self) -> LedgerTotals
+        ensures { result ≡ totals_of self.now }
+    {
+        LedgerTotals {
+            lines: self.lines,
+            served: self.served,
+            live_bytes: self.ledger.bytes(),
+            live_blocks: self.ledger.len() as u64,
+            peak_bytes: self.peak_bytes,
+            peak_line: self.peak_line,
+        }
+    }
+
+    /// What is held.
+    pub(crate) fn ledger(&self) -> &Ledger
+        ensures { result.now ≡ self.now.all }
+    {
+        &self.ledger
     }
 }
