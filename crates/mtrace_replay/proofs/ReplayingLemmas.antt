@@ -15,7 +15,7 @@ use Rattle.mtrace_log.proofs.ReadLemmas.{HasRead-none, HasReadSo-line, HasReadSo
 use Rattle.mtrace_replay.specs.declared.settings.Settings.{Settings}
 use Rattle.mtrace_replay.specs.Replay.{Replayed, StandsFor}
 use Rattle.mtrace_replay.specs.Run.{with_unused, FailedInPiece, IsPastLastNumber}
-use Rattle.mtrace_replay.specs.Replaying.{IsReplaying, GoesOn}
+use Rattle.mtrace_replay.specs.Replaying.{IsFollowed, IsReplaying, GoesOn}
 
 pub prepend_nothing : (known : Bytes) → prepend_known [] known ≡ known
 prepend_nothing None = refl
@@ -29,9 +29,8 @@ abbrev pub no_line : Progress
 no_line = record { held = []; count = 0; stage = Reading; last = Some [] }
 
 -- before the first line
-abbrev pub replaying_start : (settings : Settings) (replay : Replayed) (reader : ReaderState) → StandsFor replay settings []
-    → IsReplaying settings no_line replay reader reader
-replaying_start settings replay reader stands = record {
+abbrev pub followed_start : (Stands : List (Result Event LineFault) → Type 0) (reader : ReaderState) → Stands [] → IsFollowed Stands no_line reader reader
+followed_start Stands reader stands = record {
   lines = [];
   count = refl;
   no_fault = no_fault_yet;
@@ -39,22 +38,34 @@ replaying_start settings replay reader stands = record {
   stands = stands;
 }
 
+abbrev pub replaying_start : (settings : Settings) (replay : Replayed) (reader : ReaderState) → StandsFor replay settings []
+    → IsReplaying settings no_line replay reader reader
+replaying_start settings replay reader stands = followed_start (λ past. StandsFor replay settings past) reader stands
+
 pub reverse-more : (lines : List (Result Event LineFault)) (line : Result Event LineFault) → reverse (lines ++ line ∷ []) ≡ line ∷ reverse lines
 reverse-more lines line = reverse-append lines (line ∷ [])
 
 -- one line more
+abbrev pub followed_line : (Stood Stands : List (Result Event LineFault) → Type 0) (old new : Progress) (start before after : ReaderState) (line : Line)
+    → (so_far : IsFollowed Stood old start before)
+    → GivesLine old new (to_come old before.left) (to_come new after.left) line
+    → Stands (line.event ∷ reverse so_far.lines)
+    → IsFollowed Stands new start after
+followed_line Stood Stands old new start before after line so_far given stands = record {
+  lines = so_far.lines ++ line.event ∷ [];
+  count = given.count ∙ given.number ∙ omega (arith, so_far.count, length-append {A = Result Event LineFault});
+  no_fault = (λ fault is. (let T : Stage → Type 0 = λ stage. ReadsLine stage (to_come old before.left) (to_come new after.left) line.event in subst T is given.taken));
+  read = HasReadSo-line start.left (to_come old before.left) (to_come new after.left) old new line so_far.lines so_far.read given;
+  stands = subst Stands (sym (reverse-more so_far.lines line.event)) stands;
+}
+
 abbrev pub replaying_line : (settings : Settings) (old new : Progress) (replay_old replay_new : Replayed) (start before after : ReaderState) (line : Line)
     → (so_far : IsReplaying settings old replay_old start before)
     → GivesLine old new (to_come old before.left) (to_come new after.left) line
     → StandsFor replay_new settings (line.event ∷ reverse so_far.lines)
     → IsReplaying settings new replay_new start after
-replaying_line settings old new replay_old replay_new start before after line so_far given stands = record {
-  lines = so_far.lines ++ line.event ∷ [];
-  count = given.count ∙ given.number ∙ omega (arith, so_far.count, length-append {A = Result Event LineFault});
-  no_fault = (λ fault is. (let T : Stage → Type 0 = λ stage. ReadsLine stage (to_come old before.left) (to_come new after.left) line.event in subst T is given.taken));
-  read = HasReadSo-line start.left (to_come old before.left) (to_come new after.left) old new line so_far.lines so_far.read given;
-  stands = (let Q : List (Result Event LineFault) → Type 0 = λ past. StandsFor replay_new settings past in subst Q (sym (reverse-more so_far.lines line.event)) stands);
-}
+replaying_line settings old new replay_old replay_new start before after line so_far given stands =
+    followed_line (λ past. StandsFor replay_old settings past) (λ past. StandsFor replay_new settings past) old new start before after line so_far given stands
 
 -- so far nothing came behind
 abbrev pub going_on_none : (settings : Settings) (progress : Progress) (replay : Replayed) (start now : ReaderState) (so_far : IsReplaying settings progress replay start now)
@@ -102,12 +113,19 @@ used_to_end held start left lines all =
     subst P (all_used held left all.at_end) all
 
 -- the end of the log
-pub replaying_end : {R : Type 0} (reads : R → ReaderState) (settings : Settings) (old new : Progress) (replay : Replayed) (start : ReaderState) (reader_old reader_new : R)
+pub followed_end : {R : Type 0} (reads : R → ReaderState) (Stands : List (Result Event LineFault) → Type 0) (old new : Progress) (start : ReaderState) (reader_old reader_new : R)
+    → (so_far : IsFollowed Stands old start (reads reader_old))
+    → FindsEnd old.stage old new reader_old reader_new (to_come old (reads reader_old).left) (to_come new (reads reader_new).left)
+    → HasReadAll start.left (reads reader_new).left so_far.lines
+followed_end reads Stands old new start reader_old reader_new so_far found =
+    used_to_end new.held start.left (reads reader_new).left so_far.lines (HasReadSo-end reads start.left old new reader_old reader_new so_far.lines so_far.read found)
+
+abbrev pub replaying_end : {R : Type 0} (reads : R → ReaderState) (settings : Settings) (old new : Progress) (replay : Replayed) (start : ReaderState) (reader_old reader_new : R)
     → (so_far : IsReplaying settings old replay start (reads reader_old))
     → FindsEnd old.stage old new reader_old reader_new (to_come old (reads reader_old).left) (to_come new (reads reader_new).left)
     → HasReadAll start.left (reads reader_new).left so_far.lines
 replaying_end reads settings old new replay start reader_old reader_new so_far found =
-    used_to_end new.held start.left (reads reader_new).left so_far.lines (HasReadSo-end reads start.left old new reader_old reader_new so_far.lines so_far.read found)
+    followed_end reads (λ past. StandsFor replay settings past) old new start reader_old reader_new so_far found
 
 -- why the reading stopped
 stop_reason : (fault : ReadFault) (count : ℕ) (start : ReaderState) (before : Bytes) (held : List ℕ) (reader : ReaderState) (lines : List (Result Event LineFault)) → count ≡ length lines
@@ -122,12 +140,12 @@ stop_reason TooManyLines count start before held reader lines same read lost not
     inr (held, record { count = sym same ∙ stop.0; read = subst P stop.1 read; more = stop.2; given = came })
 
 -- the reader failed, or there are no numbers left
-pub replaying_fault : {R : Type 0} (reads : R → ReaderState) (settings : Settings) (old new : Progress) (replay : Replayed) (start : ReaderState) (reader_old reader_new : R) (fault : ReadFault)
-    → (so_far : IsReplaying settings old replay start (reads reader_old))
+pub followed_fault : {R : Type 0} (reads : R → ReaderState) (Stands : List (Result Event LineFault) → Type 0) (old new : Progress) (start : ReaderState) (reader_old reader_new : R) (fault : ReadFault)
+    → (so_far : IsFollowed Stands old start (reads reader_old))
     → GivesFault old.stage fault old new reader_old reader_new (to_come old (reads reader_old).left) (to_come new (reads reader_new).left)
     → (fault ≡ ReaderFailed → new.held ≡ []) → CallsFor (Faulted fault) start.calls (reads reader_new).calls
     → FailedInPiece start (reads reader_new) so_far.lines ⊎ ((unused : List ℕ) × IsPastLastNumber start (with_unused unused (reads reader_new)) so_far.lines)
-replaying_fault {R} reads settings old new replay start reader_old reader_new fault so_far given nothing came = reason_by old.stage refl so_far.read given
+followed_fault {R} reads Stands old new start reader_old reader_new fault so_far given nothing came = reason_by old.stage refl so_far.read given
   where
     lost : HasReadBefore start.left (to_come new (reads reader_new).left) so_far.lines
     lost = HasReadSo-fault reads start.left old new reader_old reader_new fault so_far.lines so_far.read given
@@ -139,3 +157,11 @@ replaying_fault {R} reads settings old new replay start reader_old reader_new fa
         stop_reason fault old.count start (to_come old (reads reader_old).left) new.held (reads reader_new) so_far.lines so_far.count read lost nothing stop.2 came
     reason_by Ended is read stop = absurd stop
     reason_by (Faulted first) is read stop = absurd (so_far.no_fault first is)
+
+abbrev pub replaying_fault : {R : Type 0} (reads : R → ReaderState) (settings : Settings) (old new : Progress) (replay : Replayed) (start : ReaderState) (reader_old reader_new : R) (fault : ReadFault)
+    → (so_far : IsReplaying settings old replay start (reads reader_old))
+    → GivesFault old.stage fault old new reader_old reader_new (to_come old (reads reader_old).left) (to_come new (reads reader_new).left)
+    → (fault ≡ ReaderFailed → new.held ≡ []) → CallsFor (Faulted fault) start.calls (reads reader_new).calls
+    → FailedInPiece start (reads reader_new) so_far.lines ⊎ ((unused : List ℕ) × IsPastLastNumber start (with_unused unused (reads reader_new)) so_far.lines)
+replaying_fault reads settings old new replay start reader_old reader_new fault so_far given nothing came =
+    followed_fault reads (λ past. StandsFor replay settings past) old new start reader_old reader_new fault so_far given nothing came

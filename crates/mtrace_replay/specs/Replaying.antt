@@ -11,13 +11,17 @@ use Rattle.mtrace_replay.specs.declared.settings.Settings.{Settings}
 use Rattle.mtrace_replay.specs.Replay.{Replayed, StandsFor}
 use Rattle.mtrace_replay.specs.Again.{StopsEarly}
 
--- the lines so far were read and replayed
-pub record IsReplaying (settings : Settings) (progress : Progress) (replay : Replayed) (reader_start reader_now : ReaderState) : Type 0 where
+-- the lines so far were read, and this holds of them, the latest first
+pub record IsFollowed (Stands : List (Result Event LineFault) → Type 0) (progress : Progress) (reader_start reader_now : ReaderState) : Type 0 where
   pub lines : List (Result Event LineFault)
   pub count : progress.count ≡ length lines
   pub no_fault : (fault : ReadFault) → progress.stage ≢ Faulted fault
   pub read : HasReadSo progress.stage reader_start.left (to_come progress reader_now.left) lines
-  pub stands : StandsFor replay settings (reverse lines)
+  pub stands : Stands (reverse lines)
+
+-- the lines so far were read and replayed on a heap by the settings
+abbrev pub IsReplaying : (settings : Settings) (progress : Progress) (replay : Replayed) (reader_start reader_now : ReaderState) → Type 0
+IsReplaying settings progress replay reader_start reader_now = IsFollowed (λ past. StandsFor replay settings past) progress reader_start reader_now
 
 -- the lines so far, and more behind these, were read and replayed
 pub record GoesOn (settings : Settings) (before : List (Result Event LineFault)) (progress : Progress) (replay : Replayed) (reader_start reader_now : ReaderState) : Type 0 where

@@ -8,6 +8,9 @@ use Rattle.tlsf_heap.specs.declared.row.Row.{Row}
 use Rattle.tlsf_heap.specs.Content.{Pool, blocks_of, is_free}
 use Rattle.tlsf_heap.specs.Rows.{row_of}
 use Rattle.mtrace_replay.specs.Entry.{Entry}
+use Rattle.mtrace_replay.specs.declared.no_heap.replay.LedgerTotals.{LedgerTotals}
+use Rattle.mtrace_replay.specs.declared.no_heap.report.LedgerReport.{LedgerReport}
+use Rattle.mtrace_replay.specs.declared.no_heap.report.LedgerReport.TheVariants.{Held, Sums}
 use Rattle.mtrace_replay.specs.declared.report.Report.{Report}
 use Rattle.mtrace_replay.specs.declared.report.Report.TheVariants.{Leaks, Peak, Walk, Nothing}
 use Rattle.mtrace_replay.specs.declared.point.Point.{Point}
@@ -231,3 +234,16 @@ abbrev pub clean_or_found : List Diagnostic → List Entry → Status
 clean_or_found [] [] = Clean
 clean_or_found [] (first ∷ entries) = Found
 clean_or_found (diagnostic ∷ more) entries = Found
+
+-- the sums over the lines where there is no heap
+abbrev pub ledger_peak_report : LedgerTotals → List ℕ
+ledger_peak_report totals =
+    number_line (codes "lines: ") totals.lines
+    ++ number_line (codes "served: ") totals.served
+    ++ pair_line (codes "live: ") totals.live_bytes (codes " bytes in ") totals.live_blocks (codes " blocks")
+    ++ pair_line (codes "peak: ") totals.peak_bytes (codes " bytes at line ") totals.peak_line []
+
+-- the text of a report of a ledger
+abbrev pub ledger_report_text : LedgerReport → List Entry → LedgerTotals → List ℕ
+ledger_report_text Held entries totals = leaks_report entries
+ledger_report_text Sums entries totals = ledger_peak_report totals

@@ -40,7 +40,7 @@ pub(crate) fn push_number(text: &mut LineText, number: u128)
     push_bytes(text, buffer.format(number).as_bytes());
 }
 
-fn push_address(text: &mut LineText, address: Addr)
+pub(crate) fn push_address(text: &mut LineText, address: Addr)
     requires { array_vec_len text.old + LONGEST_ADDRESS ≤ LONGEST_TEXT }
     ensures { Appends (address_text address) LONGEST_ADDRESS text.old text.new }
 {
@@ -173,6 +173,26 @@ pub(crate) fn refused_text(refused: u64) -> LineText
 }
 
 /// Appends a line of two numbers, each behind its words, and the last words.
+pub(crate) fn push_wide_pair_line(
+    text: &mut LineText,
+    word: &[u8],
+    first: u128,
+    middle: &[u8],
+    second: u128,
+    last: &[u8],
+)
+    requires { array_vec_len text.old + length word.now + length middle.now + length last.now + 81 ≤ LONGEST_TEXT }
+    ensures { Appends (pair_line word.now first middle.now second last.now) (length word.now + length middle.now + length last.now + 81) text.old text.new }
+{
+    push_bytes(text, word);
+    push_number(text, first);
+    push_bytes(text, middle);
+    push_number(text, second);
+    push_bytes(text, last);
+    push_bytes(text, b"\n");
+}
+
+/// The same of numbers of 64 bits.
 pub(crate) fn push_pair_line(
     text: &mut LineText,
     word: &[u8],
@@ -184,28 +204,37 @@ pub(crate) fn push_pair_line(
     requires { array_vec_len text.old + length word.now + length middle.now + length last.now + 81 ≤ LONGEST_TEXT }
     ensures { Appends (pair_line word.now first middle.now second last.now) (length word.now + length middle.now + length last.now + 81) text.old text.new }
 {
-    push_bytes(text, word);
-    push_number(text, u128::from(first));
-    push_bytes(text, middle);
-    push_number(text, u128::from(second));
-    push_bytes(text, last);
-    push_bytes(text, b"\n");
+    push_wide_pair_line(
+        text,
+        word,
+        u128::from(first),
+        middle,
+        u128::from(second),
+        last,
+    );
 }
 
 /// The line of the totals: how many blocks are held, and how many bytes they have together.
-pub(crate) fn total_text(blocks: u64, bytes: u64) -> LineText
+pub(crate) fn wide_total_text(blocks: u64, bytes: u128) -> LineText
     ensures { result.items ≡ pair_line (codes "Total: ") blocks (codes " blocks, ") bytes (codes " bytes.") }
 {
     let mut text = ArrayVec::new();
-    push_pair_line(
+    push_wide_pair_line(
         &mut text,
         b"Total: ",
-        blocks,
+        u128::from(blocks),
         b" blocks, ",
         bytes,
         b" bytes.",
     );
     text
+}
+
+/// The same of bytes of 64 bits.
+pub(crate) fn total_text(blocks: u64, bytes: u64) -> LineText
+    ensures { result.items ≡ pair_line (codes "Total: ") blocks (codes " blocks, ") bytes (codes " bytes.") }
+{
+    wide_total_text(blocks, u128::from(bytes))
 }
 
 /// The words above the sites of what was held after a line, that of the peak.

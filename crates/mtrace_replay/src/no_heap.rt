@@ -4,3 +4,4 @@ pub(crate) mod ledger;
 mod line;
 mod locations;
 pub(crate) mod replay;
+pub(crate) mod report;

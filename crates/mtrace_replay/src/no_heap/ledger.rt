@@ -105,8 +105,14 @@ impl Ledger {
     {
         let location = self.locations.number_at(at)?;
         let _few = self.held.len();
-        self.held
-            .insert(address.value(), Kept { size, line, location })?;
+        self.held.insert(
+            address.value(),
+            Kept {
+                size,
+                line,
+                location,
+            },
+        )?;
         self.bytes += u128::from(size);
         Ok(())
     }
@@ -142,9 +148,14 @@ impl Ledger {
     {
         let location = self.locations.number_at(at)?;
         let _few = self.held.len();
-        let Some(before) = self
-            .held
-            .insert(address.value(), Kept { size, line, location })?
+        let Some(before) = self.held.insert(
+            address.value(),
+            Kept {
+                size,
+                line,
+                location,
+            },
+        )?
         else {
             unreachable!()
         };

@@ -1,0 +1,68 @@
+use Rattle.std.proofs.Common.{◌≡◌, ℕ, ◌+◌, ◌<◌, suc, List, ◌∷◌, ◌++◌, length, map, drop, get_or, flat_map, Some, None, sym, ap, ◌∙◌, subst, arith, drop-cons}
+use Rattle.std.specs.List.Sorted.{IsStrictlyIncreasing}
+use Rattle.std.proofs.lemmas.List.{get_or-map, length-map}
+use Rattle.std.proofs.lemmas.List.Elements.{Contains-get_or}
+use Rattle.std.proofs.lemmas.Map.Keys.{sorted_from_strictly_increasing}
+use Rattle.mtrace_log.specs.Output.{PutsAll, PutsPart}
+use Rattle.mtrace_log.proofs.Writing.{putting_more, putting_fails, puts_exit}
+use Rattle.mtrace_replay.specs.Entry.{Entry}
+use Rattle.mtrace_replay.specs.Texts.{entry_text}
+use Rattle.mtrace_replay.specs.Ledger.{held_at}
+use Rattle.mtrace_replay.proofs.SortedLemmas.{is_found}
+use Rattle.mtrace_replay.proofs.no_heap.report.put_entries.Goals as goal
+
+
+-- the entry of a number
+abbrev numbered : List Entry → ℕ → Entry
+numbered all index = get_or all index (record { addr = 0; size = 0; line = 0; at = None })
+
+from_some : (one other : Entry) → Some one ≡ Some other → one ≡ other
+from_some one other same = cc
+
+module _ (all : List Entry) (addresses : List ℕ) (index : ℕ) (same : addresses ≡ map (λ entry. entry.addr) all) (below : index < length addresses) where
+  within : index < length all
+  within = omega (arith, below, ap (length {A = ℕ}) same, length-map all (λ (entry : Entry). entry.addr))
+
+  -- what is held under the address of a number is the entry of that number
+  entry_at : IsStrictlyIncreasing (map (λ (entry : Entry). entry.addr) all) → held_at all (get_or addresses index 0) ≡ Some (numbered all index)
+  entry_at rises =
+      let at : get_or addresses index 0 ≡ (numbered all index).addr = ap (λ list. get_or list index 0) same ∙ get_or-map (λ (entry : Entry). entry.addr) all index (record { addr = 0; size = 0; line = 0; at = None }) 0 within in
+      ap (held_at all) at
+      ∙ is_found (λ entry. entry.addr) all (numbered all index) (sorted_from_strictly_increasing (map (λ entry. entry.addr) all) rises)
+      (Contains-get_or all index (record { addr = 0; size = 0; line = 0; at = None }) within)
+
+  -- its text stands in front of those of the rest
+  text_next : flat_map entry_text (drop index all) ≡ entry_text (numbered all index) ++ flat_map entry_text (drop (index + 1) all)
+  text_next =
+      let next : suc index ≡ index + 1 = omega arith in
+      ap (flat_map entry_text) (drop-cons all index (record { addr = 0; size = 0; line = 0; at = None }) within ∙ ap (λ n. numbered all index ∷ drop n all) next)
+
+pub unreachable-requires : goal.unreachable-requires
+unreachable-requires g c =
+    let there = entry_at c.args.ledger.now c.args.addresses.now c.loop-address.address-index c.requires c.loop-address-test.true c.keeps_order.ensures in
+    let none : None ≡ held_at c.args.ledger.now (get_or c.args.addresses.now c.loop-address.address-index 0) = c.in_default.ensures in
+    cc (none, there)
+
+pub loop-address-preserved : goal.loop-address-preserved
+loop-address-preserved g c =
+    let writes = g.W.Sink.shown in
+    let all = c.args.ledger.now in
+    let index = c.loop-address.address-index in
+    let seen = c.in-Some.seen in
+    let there = entry_at all c.args.addresses.now index c.requires c.loop-address-test.true c.keeps_order.ensures in
+    let same = from_some _ (numbered all index) (c.in-Some.ensures ∙ there) in
+    putting_more (writes c.args.writer.now) (writes c.loop-address.writer) (writes c.put_entry.new.writer) (flat_map entry_text all) (flat_map entry_text (drop index all)) (entry_text (numbered all index)) (flat_map entry_text (drop (index + 1) all))
+    c.loop-address.invariant (text_next all c.args.addresses.now index c.requires c.loop-address-test.true)
+    (subst (λ (entry : Entry). PutsAll (entry_text entry) (writes c.loop-address.writer) (writes c.put_entry.new.writer)) same c.in_ok-put_entry.ensures)
+
+pub returns-in_err-put_entry : goal.returns-in_err-put_entry
+returns-in_err-put_entry g c =
+    let writes = g.W.Sink.shown in
+    let all = c.args.ledger.now in
+    let index = c.loop-address.address-index in
+    let there = entry_at all c.args.addresses.now index c.requires c.loop-address-test.true c.keeps_order.ensures in
+    let same = from_some _ (numbered all index) (c.in-Some.ensures ∙ there) in
+    puts_exit c.from_residual.result _ c.from_residual.ensures.1 (flat_map entry_text all) (writes c.args.writer.now) (writes c.put_entry.new.writer)
+    (putting_fails (writes c.args.writer.now) (writes c.loop-address.writer) (writes c.put_entry.new.writer) (flat_map entry_text all) (flat_map entry_text (drop index all)) (entry_text (numbered all index)) (flat_map entry_text (drop (index + 1) all))
+    c.loop-address.invariant (text_next all c.args.addresses.now index c.requires c.loop-address-test.true)
+    (subst (λ (entry : Entry). PutsPart (entry_text entry) (writes c.loop-address.writer) (writes c.put_entry.new.writer)) same c.in_err-put_entry.ensures))
