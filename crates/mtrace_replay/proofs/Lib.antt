@@ -53,3 +53,4 @@ mod EntryOrder
 mod LedgerLemmas
 mod LocationsLemmas
 mod ServedLemmas
+mod ServedRunLemmas

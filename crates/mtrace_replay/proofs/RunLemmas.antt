@@ -57,7 +57,7 @@ next_moment settings lines line =
 pub history-more : (settings : Settings) (lines : List (Result Event LineFault)) (line : Result Event LineFault) → history settings (lines ++ line ∷ []) ≡ next_moment settings lines line ∷ history settings lines
 history-more settings lines line = ap (moments (started settings)) (reverse-more lines line) ∙ moments-line (started settings) line (reverse lines)
 
-diagnostics_text-append : (first second : List Diagnostic) → diagnostics_text (first ++ second) ≡ diagnostics_text first ++ diagnostics_text second
+pub diagnostics_text-append : (first second : List Diagnostic) → diagnostics_text (first ++ second) ≡ diagnostics_text first ++ diagnostics_text second
 diagnostics_text-append first second = flat_map-append diagnostic_text first second
 
 diagnostics_text-more : (settings : Settings) (lines : List (Result Event LineFault)) (line : Result Event LineFault)
@@ -65,7 +65,7 @@ diagnostics_text-more : (settings : Settings) (lines : List (Result Event LineFa
 diagnostics_text-more settings lines line =
     ap (λ past. diagnostics_text (notes past)) (history-more settings lines line) ∙ diagnostics_text-append (notes (history settings lines)) (next_moment settings lines line).diagnostics
 
-some_diagnostic-append : (first second : List Diagnostic) → has_some (first ++ second) ≡ (has_some first || has_some second)
+pub some_diagnostic-append : (first second : List Diagnostic) → has_some (first ++ second) ≡ (has_some first || has_some second)
 some_diagnostic-append [] second = refl
 some_diagnostic-append (diagnostic ∷ first) second = refl
 

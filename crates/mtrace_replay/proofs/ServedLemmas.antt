@@ -24,7 +24,7 @@ found_unplaced (entry ∷ rest) address = by (found_unplaced rest address) (entr
     by later true = refl
     by later false = later
 
-entries_unplaced : (all : List Entry) → entries_of (map unplaced all) ≡ all
+pub entries_unplaced : (all : List Entry) → entries_of (map unplaced all) ≡ all
 entries_unplaced [] = refl
 entries_unplaced (entry ∷ rest) = ap (λ more. entry ∷ more) (entries_unplaced rest)
 
@@ -32,7 +32,7 @@ addresses_unplaced : (all : List Entry) → map (λ (given : Given). given.entry
 addresses_unplaced [] = refl
 addresses_unplaced (entry ∷ rest) = ap (λ more. entry.addr ∷ more) (addresses_unplaced rest)
 
-length-served : (past : List ReadLine) → length (served_moments past) ≡ length past
+pub length-served : (past : List ReadLine) → length (served_moments past) ≡ length past
 unfolding served_moments
 length-served [] = refl
 length-served (line ∷ past) = ap suc (length-served past)

@@ -35,3 +35,4 @@ pub mod Totals
 pub mod Ledger
 pub mod Locations
 pub mod Served
+pub mod RunServed

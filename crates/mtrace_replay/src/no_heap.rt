@@ -5,3 +5,4 @@ mod line;
 mod locations;
 pub(crate) mod replay;
 pub(crate) mod report;
+pub(crate) mod run;

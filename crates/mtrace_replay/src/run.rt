@@ -19,7 +19,7 @@ use tlsf_heap::{Heap, Heaped};
 
 /// Puts a line for each diagnostic.
 #[inline(never)]
-fn put_diagnostics<W: Sink>(writer: &mut W, diagnostics: &Note) -> Result<(), Failed>
+pub(crate) fn put_diagnostics<W: Sink>(writer: &mut W, diagnostics: &Note) -> Result<(), Failed>
     ensures { Puts result (diagnostics_text diagnostics.now.items) (W.shown writer.old) (W.shown writer.new) }
 {
     for diagnostic in diagnostics.as_slice() {
@@ -30,7 +30,7 @@ fn put_diagnostics<W: Sink>(writer: &mut W, diagnostics: &Note) -> Result<(), Fa
 
 /// Puts what is wrong with a line; then nothing is.
 #[inline(never)]
-fn put_findings<W: Sink>(writer: &mut W, findings: &mut Findings) -> Result<(), Failed>
+pub(crate) fn put_findings<W: Sink>(writer: &mut W, findings: &mut Findings) -> Result<(), Failed>
     ensures put { Puts result (diagnostics_text findings.old) (W.shown writer.old) (W.shown writer.new) }
     ensures cleared { findings.new ≡ [] }
 {

@@ -13,7 +13,8 @@ ghost use Rattle.mtrace_replay.specs.declared.no_heap.report.LedgerReport.TheVar
 use super::ledger::{Ledger, Seen};
 use super::replay::{LedgerReplay, LedgerTotals};
 use crate::line_text::{
-    LineText, push_address, push_bytes, push_number, push_number_line, push_wide_pair_line, wide_total_text,
+    LineText, push_address, push_bytes, push_number, push_number_line, push_wide_pair_line,
+    wide_total_text,
 };
 use arrayvec::ArrayVec;
 use mtrace_log::{Addr, Failed, LONGEST_ADDRESS, Sink, put_all};

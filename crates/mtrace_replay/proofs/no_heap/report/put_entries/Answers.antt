@@ -11,7 +11,6 @@ use Rattle.mtrace_replay.specs.Ledger.{held_at}
 use Rattle.mtrace_replay.proofs.SortedLemmas.{is_found}
 use Rattle.mtrace_replay.proofs.no_heap.report.put_entries.Goals as goal
 
-
 -- the entry of a number
 abbrev numbered : List Entry → ℕ → Entry
 numbered all index = get_or all index (record { addr = 0; size = 0; line = 0; at = None })

@@ -1,0 +1,224 @@
+-- A run without a heap under way, and how it goes on and ends.
+use Rattle.std.proofs.Common.{◌≡◌, ℕ, Bool, false, ◌||◌, List, [], ◌∷◌, ◌++◌, length, map, refl, sym, ap, ◌∙◌, subst, Some, reverse, ◌⊎◌, inl, inr, append_assoc, if◌then◌else◌}
+use Rattle.std.specs.Prelude.{Result}
+use Rattle.std.proofs.lemmas.List.{length-reverse, length-map}
+use Rattle.mtrace_log.specs.Progress.{Progress, Reading, Faulted, to_come, GivesLine, FindsEnd, GivesFault, CallsFor}
+use Rattle.mtrace_log.specs.Shown.{Bytes, ReaderState, WriterState}
+use Rattle.mtrace_log.specs.HasRead.{HasReadAll}
+use Rattle.mtrace_log.specs.Output.{Wrote, Begins}
+use Rattle.mtrace_log.specs.declared.line.Line.{Line}
+use Rattle.mtrace_log.specs.declared.line.ReadFault.{ReadFault}
+use Rattle.mtrace_log.specs.declared.line.ReadFault.TheVariants.{ReaderFailed}
+use Rattle.mtrace_log.proofs.Writing.{Wrote-nothing, Wrote-append, Begins-after, Begins-longer}
+use Rattle.mtrace_replay.specs.declared.diagnostic.Diagnostic.{Diagnostic}
+use Rattle.mtrace_replay.specs.declared.status.Status.{Status}
+use Rattle.mtrace_replay.specs.declared.status.Status.TheVariants.{Clean, Found}
+use Rattle.mtrace_replay.specs.declared.no_heap.replay.LedgerTotals.{LedgerTotals}
+use Rattle.mtrace_replay.specs.declared.no_heap.report.LedgerReport.{LedgerReport}
+use Rattle.mtrace_replay.specs.Entry.{Entry}
+use Rattle.mtrace_replay.specs.Moment.{ReadLine, Given, Moment, half}
+use Rattle.mtrace_replay.specs.History.{held, notes, pending, entries_of}
+use Rattle.mtrace_replay.specs.Totals.{Measures, bytes_in, blocks_in}
+use Rattle.mtrace_replay.specs.Texts.{diagnostics_text, ledger_report_text, clean_or_found, total_size}
+use Rattle.mtrace_replay.specs.Run.{with_unused, has_some}
+use Rattle.mtrace_replay.specs.Replaying.{IsFollowed}
+use Rattle.mtrace_replay.specs.Served.{unplaced, served_moment, served_moments, served_history, served_diagnostics, added_served, Standing, IsServed, totals_of}
+use Rattle.mtrace_replay.specs.RunServed.{served_notes, whole_served, AreServedTotals, ReportsServed, StopsServedAtRead, StopsServedAtWrite, StopsForMemory, served_end, LineServed, LineServedInPart, HasServed}
+use Rattle.mtrace_replay.proofs.ReplayingLemmas.{prepend_nothing, no_line, followed_start, followed_line, followed_end, followed_fault, line_read, reverse-more}
+use Rattle.mtrace_replay.proofs.RunLemmas.{diagnostics_text-append, some_diagnostic-append, status-is}
+use Rattle.mtrace_replay.proofs.ServedLemmas.{length-served, entries_unplaced}
+
+-- the lines so far were read and followed, and their diagnostics written
+pub record IsFollowing (progress : Progress) (replay : Standing) (has_diagnostics : Bool) (reader_start reader_now : ReaderState) (writer_start writer_now : WriterState) : Type 0 where
+  pub so_far : IsFollowed (λ past. IsServed replay past) progress reader_start reader_now
+  pub wrote : Wrote writer_start writer_now (served_notes so_far.lines)
+  pub has_diagnostics_is : has_diagnostics ≡ has_some (notes (served_history so_far.lines))
+
+no_moment : served_history [] ≡ []
+unfolding served_moments
+no_moment = refl
+
+one_moment : (line : ReadLine) (past : List ReadLine) → served_moments (line ∷ past) ≡ served_moment (length past) line (pending past) (held (served_moments past)) ∷ served_moments past
+unfolding served_moments
+one_moment line past = refl
+
+-- the moments with one line more
+history-more : (lines : List ReadLine) (line : ReadLine)
+    → served_history (lines ++ line ∷ []) ≡ served_moment (length (reverse lines)) line (pending (reverse lines)) (held (served_history lines)) ∷ served_history lines
+history-more lines line = ap served_moments (reverse-more lines line) ∙ one_moment line (reverse lines)
+
+notes-more : (lines : List ReadLine) (line : ReadLine) → served_notes (lines ++ line ∷ []) ≡ served_notes lines ++ diagnostics_text (added_served line (reverse lines))
+notes-more lines line = ap (λ past. diagnostics_text (notes past)) (history-more lines line) ∙ diagnostics_text-append (notes (served_history lines)) (added_served line (reverse lines))
+
+-- before the first line
+pub following_start : (replay : Standing) (reader : ReaderState) (writer : WriterState) → IsServed replay [] → IsFollowing no_line replay false reader reader writer writer
+following_start replay reader writer stands = record {
+  so_far = followed_start (λ past. IsServed replay past) reader stands;
+  wrote = subst (λ (past : List Moment). Wrote writer writer (diagnostics_text (notes past))) (sym no_moment) (Wrote-nothing writer);
+  has_diagnostics_is = ap (λ past. has_some (notes past)) (sym no_moment);
+}
+
+module _ (old new : Progress) (replay_old replay_new : Standing) (had_diagnostics : Bool) (start before after : ReaderState) (writer_start writer_old writer_new : WriterState) (line : Line)
+    (under : IsFollowing old replay_old had_diagnostics start before writer_start writer_old) (given : GivesLine old new (to_come old before.left) (to_come new after.left) line) where
+  -- one line more
+  pub following_line : (more : Bool) → LineServed replay_new line.event (reverse under.so_far.lines) writer_old writer_new more → IsFollowing new replay_new (had_diagnostics || more) start after writer_start writer_new
+  following_line more gives =
+      let lines = under.so_far.lines in
+      let added = added_served line.event (reverse lines) in
+      record {
+        so_far = followed_line (λ past. IsServed replay_old past) (λ past. IsServed replay_new past) old new start before after line under.so_far given gives.stands;
+        wrote = subst (λ (text : List ℕ). Wrote writer_start writer_new text) (sym (notes-more lines line.event))
+            (Wrote-append writer_start writer_old writer_new (served_notes lines) (diagnostics_text added) under.wrote gives.wrote);
+        has_diagnostics_is = ap (λ b. b || more) under.has_diagnostics_is ∙ ap (λ b. has_some (notes (served_history lines)) || b) gives.has_diagnostics_is
+            ∙ sym (ap (λ past. has_some (notes past)) (history-more lines line.event) ∙ some_diagnostic-append (notes (served_history lines)) added);
+      }
+
+  -- memory was refused at a line
+  pub following_memory : writer_new ≡ writer_old → StopsForMemory start after writer_start writer_new
+  following_memory same =
+      let lines = under.so_far.lines in
+      -- the line was read, and isn't followed
+      let now = followed_line (λ past. IsServed replay_old past) (λ past. Unit {0}) old new start before after line under.so_far given tt in
+      record {
+        lines = lines;
+        unused = new.held;
+        reason = inl (line.event, line_read new.stage start.left (to_come old before.left) (to_come new after.left) now.lines line.event given.taken now.read);
+        wrote = subst (λ (writer : WriterState). Wrote writer_start writer (served_notes lines)) (sym same) under.wrote;
+      }
+
+-- what comes behind the diagnostics of the lines: that of the end, and the report
+abbrev last_text : LedgerReport → List ReadLine → List Given → LedgerTotals → List ℕ
+last_text report lines all totals = diagnostics_text (half (length lines) (pending (reverse lines))) ++ ledger_report_text report (entries_of all) totals
+
+whole_is : (report : LedgerReport) (lines : List ReadLine) (all : List Given) (totals : LedgerTotals) → whole_served report lines all totals ≡ served_notes lines ++ last_text report lines all totals
+whole_is report lines all totals =
+    let last = half (length lines) (pending (reverse lines)) in
+    let told = ledger_report_text report (entries_of all) totals in
+    ap (λ text. text ++ told) (diagnostics_text-append (notes (served_history lines)) last) ∙ append_assoc (served_notes lines) (diagnostics_text last) told
+
+module _ (replay : Standing) (lines : List ReadLine) (stands : IsServed replay (reverse lines)) where
+  abbrev given_of : List Given
+  given_of = map unplaced replay.all
+
+  half_is : half replay.lines replay.pending ≡ half (length lines) (pending (reverse lines))
+  half_is = ap (λ n. half n replay.pending) (stands.lines_are ∙ length-reverse lines) ∙ ap (half (length lines)) stands.pending_is
+
+  -- what a replay that stands for the lines writes at the end
+  end_is : (report : LedgerReport) → served_end report replay ≡ last_text report lines given_of (totals_of replay)
+  end_is report =
+      ap (λ last. diagnostics_text last ++ ledger_report_text report replay.all (totals_of replay)) half_is
+      ∙ ap (λ entries. diagnostics_text (half (length lines) (pending (reverse lines))) ++ ledger_report_text report entries (totals_of replay)) (sym (entries_unplaced replay.all))
+
+  summed : AreServedTotals (served_history lines) (totals_of replay)
+  summed = record {
+    lines = stands.lines_are ∙ sym (length-served (reverse lines));
+    served = stands.served_are;
+    live_bytes = record { all = given_of; held = stands.held; measured = ap total_size (sym (entries_unplaced replay.all)) };
+    live_blocks = record { all = given_of; held = stands.held; measured = sym (length-map replay.all unplaced) };
+    peak = stands.peak;
+  }
+
+-- the writer failed at a line's diagnostics
+pub following_write : (report : LedgerReport) (old new : Progress) (replay_old replay_new : Standing) (had_diagnostics : Bool) (start before after : ReaderState) (writer_start writer_old writer_new : WriterState) (line : Line)
+    → (under : IsFollowing old replay_old had_diagnostics start before writer_start writer_old)
+    → GivesLine old new (to_come old before.left) (to_come new after.left) line
+    → LineServedInPart replay_new line.event (reverse under.so_far.lines) writer_old writer_new
+    → StopsServedAtWrite report start after writer_start writer_new
+following_write report old new replay_old replay_new had_diagnostics start before after writer_start writer_old writer_new line under given begins =
+    let was = under.so_far.lines in
+    let now = followed_line (λ past. IsServed replay_old past) (λ past. IsServed replay_new past) old new start before after line under.so_far given begins.stands in
+    let lines = now.lines in
+    let begun : Begins writer_start writer_new (served_notes lines) =
+    subst (λ (text : List ℕ). Begins writer_start writer_new text) (sym (notes-more was line.event))
+    (Begins-after writer_start writer_old writer_new (served_notes was) (diagnostics_text (added_served line.event (reverse was))) under.wrote begins.begun) in
+    let all = given_of replay_new lines now.stands in
+    record {
+      lines = lines;
+      unused = new.held;
+      begun = elim (line_read new.stage start.left (to_come old before.left) (to_come new after.left) lines line.event given.taken now.read) [
+        | inl reading ↦ inl (reading, begun)
+        | inr read ↦ inr (record {
+          read = read;
+          all = all;
+          held = now.stands.held;
+          totals = totals_of replay_new;
+          summed = summed replay_new lines now.stands;
+          begun = subst (λ (text : List ℕ). Begins writer_start writer_new text) (sym (whole_is report lines all (totals_of replay_new)))
+              (Begins-longer writer_start writer_new (served_notes lines) (last_text report lines all (totals_of replay_new)) begun);
+        })
+      ];
+    }
+
+-- the end of the log
+pub following_end : {R : Type 0} (reads : R → ReaderState) (old new : Progress) (replay : Standing) (has_diagnostics : Bool) (start : ReaderState) (reader_old reader_new : R) (writer_start writer : WriterState)
+    → IsFollowing old replay has_diagnostics start (reads reader_old) writer_start writer
+    → FindsEnd old.stage old new reader_old reader_new (to_come old (reads reader_old).left) (to_come new (reads reader_new).left)
+    → HasServed replay has_diagnostics start (reads reader_new) writer_start writer
+following_end reads old new replay has_diagnostics start reader_old reader_new writer_start writer under found = record {
+  lines = under.so_far.lines;
+  read = followed_end reads (λ past. IsServed replay past) old new start reader_old reader_new under.so_far found;
+  stands = under.so_far.stands;
+  wrote = under.wrote;
+  has_diagnostics_is = under.has_diagnostics_is;
+}
+
+-- the reader failed, or there are no numbers left
+pub following_fault : {R : Type 0} (reads : R → ReaderState) (old new : Progress) (replay : Standing) (has_diagnostics : Bool) (start : ReaderState) (reader_old reader_new : R) (writer_start writer : WriterState) (fault : ReadFault)
+    → IsFollowing old replay has_diagnostics start (reads reader_old) writer_start writer
+    → GivesFault old.stage fault old new reader_old reader_new (to_come old (reads reader_old).left) (to_come new (reads reader_new).left)
+    → (fault ≡ ReaderFailed → new.held ≡ []) → CallsFor (Faulted fault) start.calls (reads reader_new).calls
+    → StopsServedAtRead start (reads reader_new) writer_start writer
+following_fault reads old new replay has_diagnostics start reader_old reader_new writer_start writer fault under given nothing came = record {
+  lines = under.so_far.lines;
+  reason = followed_fault reads (λ past. IsServed replay past) old new start reader_old reader_new fault under.so_far given nothing came;
+  wrote = under.wrote;
+}
+
+module _ (report : LedgerReport) (replay : Standing) (has_diagnostics : Bool) (reader_old reader_new : ReaderState) (writer_old writer_middle writer_new : WriterState)
+    (done : HasServed replay has_diagnostics reader_old reader_new writer_old writer_middle) where
+  -- the writer failed at the end
+  pub served_write : Begins writer_middle writer_new (served_end report replay) → StopsServedAtWrite report reader_old reader_new writer_old writer_new
+  served_write begins =
+      let all = given_of replay done.lines done.stands in
+      record {
+        lines = done.lines;
+        unused = [];
+        begun = inr (record {
+          read = subst (λ (after : Bytes). HasReadAll reader_old.left after done.lines) (sym (prepend_nothing reader_new.left)) done.read;
+          all = all;
+          held = done.stands.held;
+          totals = totals_of replay;
+          summed = summed replay done.lines done.stands;
+          begun = subst (λ (text : List ℕ). Begins writer_old writer_new text) (sym (whole_is report done.lines all (totals_of replay)))
+              (Begins-after writer_old writer_middle writer_new (served_notes done.lines) (last_text report done.lines all (totals_of replay)) done.wrote
+              (subst (λ (text : List ℕ). Begins writer_middle writer_new text) (end_is replay done.lines done.stands report) begins));
+        });
+      }
+
+  -- all was written
+  pub served_all : (status : Status) → Wrote writer_middle writer_new (served_end report replay)
+      → status ≡ (if has_diagnostics || (has_some (half replay.lines replay.pending) || has_some replay.all) then Found else Clean)
+      → ReportsServed report status reader_old reader_new writer_old writer_new
+  served_all status wrote is =
+      let all = given_of replay done.lines done.stands in
+      let last = half (length done.lines) (pending (reverse done.lines)) in
+      record {
+        lines = done.lines;
+        read = done.read;
+        all = all;
+        held = done.stands.held;
+        totals = totals_of replay;
+        summed = summed replay done.lines done.stands;
+        wrote = subst (λ (text : List ℕ). Wrote writer_old writer_new text) (sym (whole_is report done.lines all (totals_of replay)))
+            (Wrote-append writer_old writer_middle writer_new (served_notes done.lines) (last_text report done.lines all (totals_of replay)) done.wrote
+            (subst (λ (text : List ℕ). Wrote writer_middle writer_new text) (end_is replay done.lines done.stands report) wrote));
+        status_is = is
+            ∙ ap (λ b. if b || (has_some (half replay.lines replay.pending) || has_some replay.all) then Found else Clean) done.has_diagnostics_is
+            ∙ ap (λ more. if has_some (notes (served_history done.lines)) || (has_some more || has_some replay.all) then Found else Clean) (half_is replay done.lines done.stands)
+            ∙ status-is (notes (served_history done.lines)) last replay.all
+            ∙ ap (clean_or_found (notes (served_history done.lines) ++ last)) (sym (entries_unplaced replay.all));
+      }
+
+  -- memory was refused behind the last line
+  pub served_memory : StopsForMemory reader_old reader_new writer_old writer_middle
+  served_memory = record { lines = done.lines; unused = []; reason = inr done.read; wrote = done.wrote }

@@ -1,0 +1,24 @@
+use Rattle.std.proofs.Common.{List, ◌++◌, subst, ◌∙◌, arith}
+use Rattle.std.proofs.lemmas.Result.{err_from_is_err_and}
+use Rattle.std.proofs.lemmas.Grind.{common_steps}
+use Rattle.mtrace_log.specs.Output.{Begins}
+use Rattle.mtrace_log.proofs.Writing.{Begins-all}
+use Rattle.mtrace_replay.specs.declared.diagnostic.Diagnostic.{Diagnostic}
+use Rattle.mtrace_replay.specs.Texts.{diagnostics_text, ledger_report_text}
+use Rattle.mtrace_replay.specs.Served.{totals_of}
+use Rattle.mtrace_replay.proofs.no_heap.run.finish.Goals as goal
+
+pub returns-in_err-flush : goal.returns-in_err-flush
+returns-in_err-flush g c =
+    let writes = g.W.Sink.shown in
+    let put = c.in_ok-put_end.ensures in
+    let p = err_from_is_err_and c.from_residual-in_err-flush.result c.from_residual-in_err-flush.ensures.1 in
+    let P : List Diagnostic → Type 0 = λ diagnostics. Begins (writes c.args.writer.now) (writes c.flush.new.self)
+    (diagnostics_text diagnostics ++ ledger_report_text c.args.report c.args.replay.now.all (totals_of c.args.replay.now)) in
+    rw p.1 (record {
+      all = tt;
+      status = tt;
+      flushed = tt;
+      beginning = subst P c.finish-diagnostics.ensures (Begins-all (writes c.args.writer.now) (writes c.flush.new.self) _ (c.flush.ensures.kept ∙ put.wrote));
+      failed = grind (arith, common_steps);
+    })

@@ -1,0 +1,178 @@
+-- What a run without a heap read and wrote, by its answer.
+use Rattle.std.specs.Prelude.{◌≡◌, ◌≢◌, ◌⊎◌, ℕ, Bool, List, [], ◌∷◌, ◌++◌, length, reverse, count_by, Result, Ok, Err, IfOk, OnOk, OnErr, IsErrOf, ◌||◌, if◌then◌else◌}
+use Rattle.mtrace_log.specs.HasRead.{HasRead, HasReadAll}
+use Rattle.mtrace_log.specs.Shown.{ReaderState, WriterState}
+use Rattle.mtrace_log.specs.Output.{Wrote, Begins}
+use Rattle.mtrace_log.specs.Trace.{HasGivenAll, HasNotFailed, HasTaken, HasTakenAndFlushed, HasTakenAndFailed, HasFailedToWrite, FlushWasAsked}
+use Rattle.mtrace_replay.specs.declared.diagnostic.Diagnostic.{Diagnostic}
+use Rattle.mtrace_replay.specs.declared.status.Status.{Status}
+use Rattle.mtrace_replay.specs.declared.status.Status.TheVariants.{Clean, Found}
+use Rattle.mtrace_replay.specs.declared.status.RunFault.{RunFault}
+use Rattle.mtrace_replay.specs.declared.status.RunFault.TheVariants.{Read, Write, OutOfMemory, BadSettings, Image}
+use Rattle.mtrace_replay.specs.declared.no_heap.replay.LedgerTotals.{LedgerTotals}
+use Rattle.mtrace_replay.specs.declared.no_heap.report.LedgerReport.{LedgerReport}
+use Rattle.mtrace_replay.specs.declared.no_heap.run.Stop.{Stop}
+use Rattle.mtrace_replay.specs.declared.no_heap.run.Stop.TheVariants.{Reader, Writer, Memory}
+use Rattle.mtrace_replay.specs.Moment.{ReadLine, Given, Moment, half}
+use Rattle.mtrace_replay.specs.History.{notes, AreHeld, entries_of}
+use Rattle.mtrace_replay.specs.Totals.{is_served, Measures, IsPeak, bytes_in, blocks_in}
+use Rattle.mtrace_replay.specs.Texts.{diagnostics_text, ledger_report_text, clean_or_found}
+use Rattle.mtrace_replay.specs.Served.{served_history, served_diagnostics, added_served, Standing, IsServed, totals_of}
+use Rattle.mtrace_replay.specs.Run.{with_unused, FailedInPiece, IsPastLastNumber, NothingDone, has_some}
+
+-- the text of the diagnostics of lines, the first line first
+abbrev pub served_notes : List ReadLine → List ℕ
+served_notes lines = diagnostics_text (notes (served_history lines))
+
+-- all diagnostics of the lines, and then the report
+abbrev pub whole_served : LedgerReport → List ReadLine → List Given → LedgerTotals → List ℕ
+whole_served report lines all totals = diagnostics_text (served_diagnostics lines) ++ ledger_report_text report (entries_of all) totals
+
+-- the sums over lines without a heap
+pub record AreServedTotals (past : List Moment) (totals : LedgerTotals) : Type 0 where
+  pub lines : totals.lines ≡ length past
+  pub served : totals.served ≡ count_by is_served past
+  pub live_bytes : Measures bytes_in past totals.live_bytes
+  pub live_blocks : Measures blocks_in past totals.live_blocks
+  pub peak : IsPeak past totals.peak_bytes totals.peak_line
+
+-- all of the log was read, and the whole text of its history was written; the status is that text's
+pub record ReportsServed (report : LedgerReport) (status : Status) (reader_old reader_new : ReaderState) (writer_old writer_new : WriterState) : Type 0 where
+  pub lines : List ReadLine
+  pub read : HasReadAll reader_old.left reader_new.left lines
+  pub all : List Given
+  pub held : AreHeld all (served_history lines)
+  pub totals : LedgerTotals
+  pub summed : AreServedTotals (served_history lines) totals
+  pub wrote : Wrote writer_old writer_new (whole_served report lines all totals)
+  pub status_is : status ≡ clean_or_found (served_diagnostics lines) (entries_of all)
+
+-- all of the log was read, and a beginning of the whole text was written
+pub record BeginsServed (report : LedgerReport) (reader_old reader_new : ReaderState) (writer_old writer_new : WriterState) (lines : List ReadLine) : Type 0 where
+  pub read : HasReadAll reader_old.left reader_new.left lines
+  pub all : List Given
+  pub held : AreHeld all (served_history lines)
+  pub totals : LedgerTotals
+  pub summed : AreServedTotals (served_history lines) totals
+  pub begun : Begins writer_old writer_new (whole_served report lines all totals)
+
+-- The reader failed, or a line past the last number would come. In the second case unused are the bytes that were asked of the
+-- reader and belong to no line that was read. The diagnostics of the lines read were written, and no report.
+pub record StopsServedAtRead (reader_old reader_new : ReaderState) (writer_old writer_new : WriterState) : Type 0 where
+  pub lines : List ReadLine
+  pub reason : FailedInPiece reader_old reader_new lines
+      ⊎ ((unused : List ℕ) × IsPastLastNumber reader_old (with_unused unused reader_new) lines)
+  pub wrote : Wrote writer_old writer_new (served_notes lines)
+
+-- The writer failed, after a beginning of what was to be written. Unused are the bytes that were asked of the reader and belong to
+-- no line that was read.
+pub record StopsServedAtWrite (report : LedgerReport) (reader_old reader_new : ReaderState) (writer_old writer_new : WriterState) : Type 0 where
+  pub lines : List ReadLine
+  pub unused : List ℕ
+  pub begun : (HasRead reader_old.left (with_unused unused reader_new).left lines × Begins writer_old writer_new (served_notes lines))
+      ⊎ BeginsServed report reader_old (with_unused unused reader_new) writer_old writer_new lines
+
+-- the lines were read, and perhaps to the end of the log
+abbrev pub HasReadThese : (reader_old reader_new : ReaderState) → List ReadLine → Type 0
+HasReadThese reader_old reader_new lines = HasRead reader_old.left reader_new.left lines ⊎ HasReadAll reader_old.left reader_new.left lines
+
+-- Memory was refused, at the line behind these, or behind the last one of the log. The diagnostics of these lines were written,
+-- and no report. Unused are the bytes that were asked of the reader and belong to no line that was read.
+pub record StopsForMemory (reader_old reader_new : ReaderState) (writer_old writer_new : WriterState) : Type 0 where
+  pub lines : List ReadLine
+  pub unused : List ℕ
+  pub reason : ((line : ReadLine) × HasReadThese reader_old (with_unused unused reader_new) (lines ++ line ∷ []))
+      ⊎ HasReadAll reader_old.left reader_new.left lines
+  pub wrote : Wrote writer_old writer_new (served_notes lines)
+
+-- all of the log was read, and the whole text was written and flushed
+pub record ServedToEnd (report : LedgerReport) (status : Status) (reader_old reader_new : ReaderState) (writer_old writer_new : WriterState) : Type 0 where
+  pub finished : ReportsServed report status reader_old reader_new writer_old writer_new
+  pub reader_ended : HasGivenAll reader_old.calls reader_new.calls
+  pub writer_flushed : HasTakenAndFlushed writer_old.calls writer_new.calls
+
+-- the reading stopped, and then the writer was asked to flush
+pub record ServedToRead (reader_old reader_new : ReaderState) (writer_old writer_new : WriterState) : Type 0 where
+  pub read_fault : StopsServedAtRead reader_old reader_new writer_old writer_new
+  pub flush_asked : FlushWasAsked writer_old.calls writer_new.calls
+
+-- the writer failed, and the reader did not
+pub record ServedToWrite (report : LedgerReport) (reader_old reader_new : ReaderState) (writer_old writer_new : WriterState) : Type 0 where
+  pub write_fault : StopsServedAtWrite report reader_old reader_new writer_old writer_new
+  pub writer_failed : HasFailedToWrite writer_old.calls writer_new.calls
+  pub reader_not_failed : HasNotFailed reader_old.calls reader_new.calls
+
+-- memory was refused, and then the writer was asked to flush; the reader did not fail
+pub record ServedToMemory (reader_old reader_new : ReaderState) (writer_old writer_new : WriterState) : Type 0 where
+  pub memory : StopsForMemory reader_old reader_new writer_old writer_new
+  pub flush_asked : FlushWasAsked writer_old.calls writer_new.calls
+  pub reader_not_failed : HasNotFailed reader_old.calls reader_new.calls
+
+-- how a run ended, by what it answers, which is never `BadSettings` or `Image`
+abbrev pub ServedEnds : LedgerReport → Result Status RunFault → (reader_old reader_new : ReaderState) (writer_old writer_new : WriterState) → Type 0
+ServedEnds report (Ok status) reader_old reader_new writer_old writer_new = ServedToEnd report status reader_old reader_new writer_old writer_new
+ServedEnds report (Err Read) reader_old reader_new writer_old writer_new = ServedToRead reader_old reader_new writer_old writer_new
+ServedEnds report (Err Write) reader_old reader_new writer_old writer_new = ServedToWrite report reader_old reader_new writer_old writer_new
+ServedEnds report (Err OutOfMemory) reader_old reader_new writer_old writer_new = ServedToMemory reader_old reader_new writer_old writer_new
+ServedEnds report (Err _) reader_old reader_new writer_old writer_new = ⊥
+
+-- What a run without a heap leaves. The reader has the same bytes in whole.
+pub record RunsServed (report : LedgerReport) (result : Result Status RunFault) (reader_old reader_new : ReaderState) (writer_old writer_new : WriterState) : Type 0 where
+  pub ends : ServedEnds report result reader_old reader_new writer_old writer_new
+  pub whole : reader_new.whole ≡ reader_old.whole
+
+-- what is written at the end: the diagnostic of the last line, and the report
+abbrev pub served_end : LedgerReport → Standing → List ℕ
+served_end report replay = diagnostics_text (half replay.lines replay.pending) ++ ledger_report_text report replay.all (totals_of replay)
+
+-- one line more was followed, and its diagnostics were written
+pub record LineServed (new : Standing) (line : ReadLine) (past : List ReadLine) (writer_old writer_new : WriterState) (has_diagnostics : Bool) : Type 0 where
+  pub stands : IsServed new (line ∷ past)
+  pub wrote : Wrote writer_old writer_new (diagnostics_text (added_served line past))
+  pub has_diagnostics_is : has_diagnostics ≡ has_some (added_served line past)
+
+-- one line more was followed, and its diagnostics were begun
+pub record LineServedInPart (new : Standing) (line : ReadLine) (past : List ReadLine) (writer_old writer_new : WriterState) : Type 0 where
+  pub stands : IsServed new (line ∷ past)
+  pub begun : Begins writer_old writer_new (diagnostics_text (added_served line past))
+
+-- What a call leaves that follows one line and puts what is wrong with it, for all lines before it. Where memory is refused, nothing
+-- is put, and the replay stays.
+pub record FollowsLine (number : ℕ) (line : ReadLine) (result : Result Bool Stop) (replay_old replay_new : Standing) (findings : List Diagnostic) (writer_old writer_new : WriterState) : Type 0 where
+  pub done : IfOk result (λ has_diagnostics. (past : List ReadLine) → IsServed replay_old past → LineServed replay_new line past writer_old writer_new has_diagnostics)
+  pub counted : OnOk result (replay_new.lines ≡ number)
+  pub cleared : OnOk result (findings ≡ [])
+  pub took : result ≢ Err Writer → HasTaken writer_old.calls writer_new.calls
+  pub no_reader : result ≢ Err Reader
+  pub write : IsErrOf result Writer → (past : List ReadLine) → IsServed replay_old past → LineServedInPart replay_new line past writer_old writer_new
+  pub failed : IsErrOf result Writer → HasTakenAndFailed writer_old.calls writer_new.calls
+  pub memory : IsErrOf result Memory → (replay_new ≡ replay_old) × (writer_new ≡ writer_old)
+
+-- all lines of the log were read and followed, and their diagnostics were written
+pub record HasServed (replay : Standing) (has_diagnostics : Bool) (reader_old reader_new : ReaderState) (writer_old writer_new : WriterState) : Type 0 where
+  pub lines : List ReadLine
+  pub read : HasReadAll reader_old.left reader_new.left lines
+  pub stands : IsServed replay (reverse lines)
+  pub wrote : Wrote writer_old writer_new (served_notes lines)
+  pub has_diagnostics_is : has_diagnostics ≡ has_some (notes (served_history lines))
+
+-- What a call leaves that reads and follows all lines and puts what is wrong with each, unless the reader or the writer fails, or
+-- memory is refused.
+pub record FollowsLines (result : Result Bool Stop) (replay_old replay_new : Standing) (reader_old reader_new : ReaderState) (writer_old writer_new : WriterState) : Type 0 where
+  pub done : IfOk result (λ has_diagnostics. IsServed replay_old [] → HasServed replay_new has_diagnostics reader_old reader_new writer_old writer_new)
+  pub whole : reader_new.whole ≡ reader_old.whole
+  pub reader_ended : OnOk result (HasGivenAll reader_old.calls reader_new.calls)
+  pub reader_not_failed : result ≢ Err Reader → HasNotFailed reader_old.calls reader_new.calls
+  pub writer_took : result ≢ Err Writer → HasTaken writer_old.calls writer_new.calls
+  pub writer_failed : IsErrOf result Writer → HasTakenAndFailed writer_old.calls writer_new.calls
+  pub read : IsErrOf result Reader → IsServed replay_old [] → StopsServedAtRead reader_old reader_new writer_old writer_new
+  pub write : IsErrOf result Writer → IsServed replay_old [] → (report : LedgerReport) → StopsServedAtWrite report reader_old reader_new writer_old writer_new
+  pub memory : IsErrOf result Memory → IsServed replay_old [] → StopsForMemory reader_old reader_new writer_old writer_new
+
+-- What a call leaves that puts all that is written at the end, and flushes. It answers the status, by whether a line had a diagnostic.
+pub record FinishesServed {E : Type 0} (report : LedgerReport) (has_diagnostics : Bool) (result : Result Status E) (replay : Standing) (writer_old writer_new : WriterState) : Type 0 where
+  pub all : OnOk result (Wrote writer_old writer_new (served_end report replay))
+  pub status : IfOk result (λ status. status ≡ (if has_diagnostics || (has_some (half replay.lines replay.pending) || has_some replay.all) then Found else Clean))
+  pub flushed : OnOk result (HasTakenAndFlushed writer_old.calls writer_new.calls)
+  pub beginning : OnErr result (Begins writer_old writer_new (served_end report replay))
+  pub failed : OnErr result (HasFailedToWrite writer_old.calls writer_new.calls)

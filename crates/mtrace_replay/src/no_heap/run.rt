@@ -1,0 +1,177 @@
+//! The run that writes the report of a log without a heap.
+
+ghost use Rattle.std.specs.Prelude.{◌≡◌, ◌+◌, ◌++◌, [], map, IfOk};
+ghost use Rattle.mtrace_log.specs.Output.{Puts};
+ghost use Rattle.mtrace_replay.specs.Texts.{diagnostics_text, ledger_report_text};
+ghost use Rattle.mtrace_replay.specs.Served.{totals_of};
+ghost use Rattle.mtrace_replay.specs.RunServed.{RunsServed, FollowsLine, FollowsLines, FinishesServed};
+ghost use Rattle.mtrace_replay.specs.declared.no_heap.report.LedgerReport.TheVariants.{Held};
+
+use super::replay::LedgerReplay;
+use super::report::{LedgerReport, put_ledger_report};
+use crate::diagnostic::Note;
+use crate::findings::Findings;
+use crate::run::{put_diagnostics, put_findings};
+use crate::status::{RunFault, Status};
+use mtrace_log::{Event, Failed, LentLocation, LineFault, Lines, Sink, Source};
+use std::alloc::{AllocError, Global};
+
+/// Why no more lines are followed.
+#[derive(Clone, Copy)]
+pub(crate) enum Stop {
+    // The reader failed, or a line past the last number would come.
+    Reader,
+    // The writer failed.
+    Writer,
+    // Memory was refused.
+    Memory,
+}
+
+/// Follows one line and puts what is wrong with it. Answers whether anything is. The findings are empty before and after, so one
+/// serves all lines.
+#[inline(always)]
+fn follow_line<W: Sink>(
+    writer: &mut W,
+    replay: &mut LedgerReplay,
+    number: u64,
+    event: Result<Event<LentLocation<'_>>, LineFault>,
+    findings: &mut Findings,
+) -> Result<bool, Stop>
+    requires next { number ≡ replay.old.lines + 1 }
+    requires none { findings.old ≡ [] }
+    ensures { FollowsLine number event.entry result replay.old replay.new findings.new (W.shown writer.old) (W.shown writer.new) }
+{
+    if replay.feed_lent(number, event, findings).is_err() {
+        return Err(Stop::Memory);
+    }
+    if findings.is_empty() {
+        return Ok(false);
+    }
+    match put_findings(writer, findings) {
+        Ok(()) => Ok(true),
+        Err(_) => Err(Stop::Writer),
+    }
+}
+
+/// Reads and follows all lines of the log; what is wrong with a line is put at once. Answers whether anything is.
+fn follow_lines<R: Source, W: Sink>(
+    reader: &mut R,
+    writer: &mut W,
+    replay: &mut LedgerReplay,
+) -> Result<bool, Stop>
+    requires start { replay.old.lines ≡ 0 }
+    ensures { FollowsLines result replay.old replay.new (R.shown reader.old) (R.shown reader.new) (W.shown writer.old) (W.shown writer.new) }
+{
+    let mut lines = Lines::new();
+    let mut has_diagnostics = false;
+    let mut findings = Findings::none();
+    loop {
+        let number = match lines.advance(reader) {
+            Ok(Some(number)) => number,
+            Ok(None) => return Ok(has_diagnostics),
+            Err(_) => return Err(Stop::Reader),
+        };
+        match follow_line(writer, replay, number, lines.event(), &mut findings) {
+            Ok(more) => has_diagnostics |= more,
+            Err(stop) => return Err(stop),
+        }
+    }
+}
+
+/// Puts what is wrong at the end, and then the report.
+fn put_end<W: Sink>(
+    writer: &mut W,
+    replay: &LedgerReplay,
+    diagnostics: &Note,
+    report: LedgerReport,
+    addresses: &[u64],
+) -> Result<(), Failed>
+    requires addresses { report ≡ Held → addresses.now ≡ map (λ entry. entry.addr) replay.now.all }
+    ensures { Puts result (diagnostics_text diagnostics.now.items ++ ledger_report_text report replay.now.all (totals_of replay.now)) (W.shown writer.old) (W.shown writer.new) }
+{
+    put_diagnostics(writer, diagnostics)?;
+    put_ledger_report(writer, replay, report, addresses)
+}
+
+/// Puts what is wrong at the end and the report, and flushes. Answers the status.
+fn finish<W: Sink>(
+    writer: &mut W,
+    replay: &LedgerReplay,
+    has_diagnostics: bool,
+    report: LedgerReport,
+    addresses: &[u64],
+) -> Result<Status, Failed>
+    requires addresses { report ≡ Held → addresses.now ≡ map (λ entry. entry.addr) replay.now.all }
+    ensures { FinishesServed report has_diagnostics result replay.now (W.shown writer.old) (W.shown writer.new) }
+{
+    let diagnostics = replay.finish();
+    let is_found = has_diagnostics || !diagnostics.is_empty() || replay.ledger().len() > 0;
+    put_end(writer, replay, &diagnostics, report, addresses)?;
+    writer.flush()?;
+    if is_found {
+        return Ok(Status::Found);
+    }
+    Ok(Status::Clean)
+}
+
+/// The addresses that a report names, in order.
+fn named_addresses(
+    alloc: Global,
+    replay: &LedgerReplay,
+    report: LedgerReport,
+) -> Result<Vec<u64>, AllocError>
+    ensures { IfOk result (λ addresses. report ≡ Held → addresses.items ≡ map (λ entry. entry.addr) replay.now.all) }
+{
+    match report {
+        LedgerReport::Held => replay.ledger().addresses(alloc),
+        LedgerReport::Sums => Ok(Vec::new(alloc)),
+    }
+}
+
+/// Reads a log of mtrace(3) and follows it without a heap, so that each block that is asked for is given: of any size, and any
+/// number of them. Writes what is wrong with its lines, each as it comes. Then writes the report.
+///
+/// The writer is flushed once at the end, but not after `Write`. After `Read` and `OutOfMemory` it doesn't matter whether that
+/// succeeds. Memory is taken for each address that is held, for each location that is named, and at the end for the report.
+///
+/// # Errors
+///
+/// `Read` where the reader failed, or line 2^64 would come: then what is wrong with the lines before is written. `Write` where the
+/// writer answered an error, took no byte of some, or failed its flush: then a beginning of the text is written. `OutOfMemory`
+/// where memory is refused: then what is wrong with the lines before is written.
+pub fn run_ledger<R: Source, W: Sink>(
+    alloc: Global,
+    reader: &mut R,
+    writer: &mut W,
+    report: LedgerReport,
+) -> Result<Status, RunFault>
+    ensures { RunsServed report result (R.shown reader.old) (R.shown reader.new) (W.shown writer.old) (W.shown writer.new) }
+{
+    let mut replay = LedgerReplay::new(alloc);
+    let has_diagnostics = match follow_lines(reader, writer, &mut replay) {
+        Ok(has_diagnostics) => has_diagnostics,
+        Err(Stop::Writer) => return Err(RunFault::Write),
+        Err(Stop::Reader) => {
+            let _ = writer.flush();
+            return Err(RunFault::Read);
+        }
+        Err(Stop::Memory) => {
+            let _ = writer.flush();
+            return Err(RunFault::OutOfMemory);
+        }
+    };
+    let Ok(addresses) = named_addresses(alloc, &replay, report) else {
+        let _ = writer.flush();
+        return Err(RunFault::OutOfMemory);
+    };
+    match finish(
+        writer,
+        &replay,
+        has_diagnostics,
+        report,
+        addresses.as_slice(),
+    ) {
+        Ok(status) => Ok(status),
+        Err(_) => Err(RunFault::Write),
+    }
+}
