@@ -63,6 +63,53 @@ static void plain(void)
     expect(calloc(half, 4) == NULL && errno == ENOMEM, "calloc of a product that is too much: ENOMEM");
     errno = 0;
     expect(calloc(huge, 1) == NULL && errno == ENOMEM, "calloc of too much: ENOMEM");
+    bool overflows = true;
+    for (size_t more = 1; more <= 100; more++) {
+        errno = 0;
+        overflows = overflows && calloc(half + more, 2) == NULL && errno == ENOMEM;
+        errno = 0;
+        overflows = overflows && calloc(2, half + more) == NULL && errno == ENOMEM;
+    }
+    expect(overflows, "calloc of a product that is 2 to 200 modulo 2^64: ENOMEM");
+}
+
+/* What is served leaves errno as it was. */
+static void served_errno(void)
+{
+    void *given[8], *out = NULL;
+    errno = EDOM;
+    given[0] = malloc(100);
+    given[1] = calloc(10, 10);
+    given[2] = realloc(malloc(10), 5000);
+    given[3] = memalign(64, 100);
+    given[4] = valloc(100);
+    given[5] = pvalloc(100);
+    given[6] = calloc(zero, 10);
+    given[7] = calloc(10, zero);
+    bool all = posix_memalign(&out, 64, 100) == 0 && malloc_usable_size(out) >= 100;
+    for (int k = 0; k < 8; k++) {
+        all = all && given[k] != NULL;
+        free(given[k]);
+    }
+    free(out);
+    expect(all && errno == EDOM, "what is served leaves errno");
+}
+
+/* Blocks at a page, held beside small ones: none is there by luck. */
+static void pages(void)
+{
+    void *held[3 * HELD];
+    bool each = true;
+    for (unsigned k = 0; k < HELD; k++) {
+        held[3 * k] = malloc(16 * (k % 50) + 1);
+        held[3 * k + 1] = valloc(100 + k);
+        held[3 * k + 2] = pvalloc(100 + k);
+        each = each && is_at(held[3 * k + 1], 4096) && is_at(held[3 * k + 2], 4096);
+    }
+    for (unsigned k = 0; k < 3 * HELD; k++) {
+        free(held[k]);
+    }
+    expect(each, "128 blocks by valloc and pvalloc at multiples of 4,096");
 }
 
 /* All of the room that malloc_usable_size tells is the block's own. */
@@ -370,6 +417,8 @@ int main(int count, char **words)
         return cases_end();
     }
     plain();
+    served_errno();
+    pages();
     rooms();
     moves();
     aligned();
