@@ -110,7 +110,7 @@ static uint64_t mark_of(const struct control *control)
     uint64_t word = 0;
     uint64_t sum = 0;
     for (size_t at = 0; at < sizeof *control; at += WORD) {
-        (void)memcpy(&word, (const unsigned char *)control + at, WORD);
+        (void)__builtin_memcpy(&word, (const unsigned char *)control + at, WORD);
         sum += times(at) * word;
     }
     return sum - TIMES(mark) * control->mark - TIMES(figures.bytes_live) * figures->bytes_live
