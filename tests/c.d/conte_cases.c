@@ -67,6 +67,15 @@ static void exact_memory(void)
     }
 }
 
+/* Where a call that makes a heap was refused there is none. */
+static bool is_no_heap(unsigned char *at)
+{
+    tlsf_figures figures;
+    return tlsf_check(at) == -1 && tlsf_stats(at, &figures) == -1 && tlsf_get_pool(at) == NULL
+           && tlsf_malloc(at, 1) == NULL
+           && tlsf_add_pool(at, other_memory, sizeof other_memory) == NULL;
+}
+
 static void creates(void)
 {
     size_t least = control_bytes(1) + 24;
@@ -82,8 +91,8 @@ static void creates(void)
            "the least with a pool, at another of 8");
     expect(tlsf_create_with_pool(memory, 0) == NULL && tlsf_create_with_pool(memory, 100) == NULL,
            "too few bytes, no heap");
-    expect(tlsf_create_records(memory, 1 << 16, 0) == NULL
-               && tlsf_create_records(memory, SIZE_MAX / 2, 65536) == NULL,
+    expect(tlsf_create_records(memory, 1 << 16, 0) == NULL && is_no_heap(memory)
+               && tlsf_create_records(memory, SIZE_MAX / 2, 65536) == NULL && is_no_heap(memory),
            "records: none, or too many");
     tlsf_t tlsf = tlsf_create_records(memory, control_bytes(1), 1);
     expect(tlsf != NULL && tlsf_get_pool(tlsf) == NULL
@@ -397,7 +406,13 @@ static void greatest(unsigned char *large)
     one = tlsf_malloc(tlsf, tlsf_block_size_max());
     expect(one != NULL && has(pool, 1, 0), "a malloc of the greatest block");
     tlsf_free(tlsf, one);
-    expect(tlsf_create_with_pool(large, 2 * GIGABYTE) == NULL,
+    /* The greatest size of a class is 1,056,964,608, and an aligned request asks for 16 more. */
+    one = tlsf_memalign(tlsf, 32, 1056964608 - 16 - 8);
+    expect(one != NULL && (uintptr_t)one % 32 == 0
+               && tlsf_memalign(tlsf, 32, tlsf_block_size_max()) == NULL,
+           "a memalign of the most that a class surely has");
+    tlsf_free(tlsf, one);
+    expect(tlsf_create_with_pool(large, 2 * GIGABYTE) == NULL && is_no_heap(large),
            "a heap with a pool above the greatest");
 }
 
@@ -418,6 +433,27 @@ static void places(unsigned char *large)
     expect(tlsf_add_pool(tlsf, large + GIGABYTE + 64, GIGABYTE - (4 << 20)) != NULL
                && tlsf_check(tlsf) == 0,
            "one is gone, and another is added");
+}
+
+/* Four of the greatest pools side by side, from a multiple of 2^21 on, leave 64 of the 2^32 places. */
+static void all_places(unsigned char *large)
+{
+    size_t two = (size_t)2 << 20;
+    unsigned char *even = large + (two - (uintptr_t)large % two);
+    bool all = true;
+    tlsf_t tlsf = tlsf_create(memory);
+    for (size_t k = 0; k < 4; k++) {
+        all = all && tlsf_add_pool(tlsf, even + k * GREATEST_POOL - 8, GREATEST_POOL) != NULL;
+    }
+    unsigned char *last = even + (size_t)4 * GREATEST_POOL;
+    expect(all && tlsf_add_pool(tlsf, last - 8, 80) == NULL
+               && tlsf_add_pool(tlsf, last - 8, 64) != NULL && tlsf_check(tlsf) == 0,
+           "pools of 4 GiB in all, and not 16 bytes more");
+    expect(tlsf_malloc(tlsf, 56) == last && tlsf_live_size(tlsf, last) == 56
+               && tlsf_block_size(last) == 56 && tlsf_check(tlsf) == 0,
+           "a block at the last places");
+    tlsf_free(tlsf, last);
+    expect(tlsf_live_size(tlsf, last) == 0 && tlsf_check(tlsf) == 0, "and it is freed");
 }
 
 /* A pool goes to the first range of places that has room for it, wherever its entry is. */
@@ -470,8 +506,36 @@ static void places_removed(unsigned char *large)
     expect(same != NULL, "one of 500 MiB isn't");
     tlsf_remove_pool(tlsf, same);
     tlsf_remove_pool(tlsf, made[3]);
-    expect(tlsf_add_pool(tlsf, behind + 8, more) != NULL && tlsf_check(tlsf) == 0,
+    same = tlsf_add_pool(tlsf, behind + 8, more);
+    expect(same != NULL && tlsf_check(tlsf) == 0,
            "nor one of 600 MiB, where two gaps have become one");
+    tlsf_remove_pool(tlsf, tlsf_get_pool(tlsf) == same ? same : NULL);
+    expect(tlsf_get_pool(tlsf) == NULL && tlsf_add_pool(tlsf, large + 8, 1000) != NULL
+               && tlsf_get_pool(tlsf) != NULL,
+           "its entry is the next pool's");
+}
+
+/* The places below all pools are taken, too, where another pool has the entry of the one before. */
+static void places_below(unsigned char *large)
+{
+    enum { MEGABYTE = 1 << 20 };
+    static const size_t sizes[] = {500, 1000, 1000, 1000, 580};
+    size_t at = 0;
+    bool all = true;
+    tlsf_t tlsf = tlsf_create(memory);
+    for (int k = 0; k < 5; k++) {
+        pool_t pool = tlsf_add_pool(tlsf, large + at * MEGABYTE + 8, sizes[k] * MEGABYTE);
+        all = all && pool != NULL;
+        if (k == 2) {
+            tlsf_remove_pool(tlsf, tlsf_get_pool(tlsf));
+        }
+        at += sizes[k];
+    }
+    expect(all && tlsf_get_pool(tlsf) != NULL
+               && tlsf_add_pool(tlsf, large + 8, (size_t)500 * MEGABYTE) != NULL
+               && tlsf_add_pool(tlsf, large + at * MEGABYTE + 8, (size_t)50 * MEGABYTE) == NULL
+               && tlsf_check(tlsf) == 0,
+           "a pool in the places below all others");
 }
 
 static void pools(void)
@@ -581,6 +645,57 @@ static void old_pointers(void)
            "one with a changed byte in front of it, and the check tells it");
     memcpy((unsigned char *)moved - 8, kept, 8);
     expect(tlsf_check(tlsf) == 0 && tlsf_block_size(moved) == 3000, "whole again");
+}
+
+/* Writes at a place the front that a live block would have there: its own, with the distance added. */
+static void forge_front(unsigned char *at, const unsigned char *live)
+{
+    uint64_t front;
+    memcpy(&front, live - 8, 8);
+    front += (uint64_t)(at - live);
+    memcpy(at - 8, &front, 8);
+}
+
+/* A whole front where no block begins. tlsf_block_size gets no heap, and looks at no more than it. */
+static void forged_fronts(void)
+{
+    tlsf_t tlsf = tlsf_create_with_pool(memory, sizeof memory),
+           other = tlsf_create_with_pool(other_memory, sizeof other_memory);
+    unsigned char *one = (unsigned char *)tlsf_malloc(tlsf, 1000),
+                  *far = (unsigned char *)tlsf_malloc(other, 1000);
+    bool good = true;
+    for (size_t skip = 8; skip <= 900; skip += 8) {
+        forge_front(one + skip, one);
+        forge_front(far + skip, one);
+        good = good && refuses(tlsf, one + skip) && tlsf_live_size(tlsf, one + skip) == 0
+               && refuses(other, far + skip) && tlsf_live_size(other, far + skip) == 0
+               && refuses(tlsf, far + skip)
+               && tlsf_block_size(one + skip) == (skip % 16 == 0 ? 1000 : 0);
+    }
+    expect(good && tlsf_live_size(tlsf, one) == 1000 && tlsf_live_size(other, far) == 1000,
+           "a whole front where no block begins is of no block");
+}
+
+/* A front of the block before it became smaller, and one of another block of its size: the check
+ * tells each. */
+static void other_fronts(void)
+{
+    tlsf_t tlsf = tlsf_create_with_pool(memory, sizeof memory);
+    unsigned char *one = (unsigned char *)tlsf_malloc(tlsf, 200),
+                  *two = (unsigned char *)tlsf_malloc(tlsf, 104), before[8], now[8];
+    memcpy(before, one - 8, 8);
+    bool good = tlsf_realloc(tlsf, one, 104) == one && tlsf_check(tlsf) == 0;
+    memcpy(now, one - 8, 8);
+    memcpy(one - 8, before, 8);
+    expect(good && tlsf_check(tlsf) == -1 && tlsf_check_pool(tlsf_get_pool(tlsf)) == -1,
+           "a front with another size is told");
+    forge_front(one, two);
+    expect(tlsf_check(tlsf) == -1 && tlsf_live_size(tlsf, one) == 0 && tlsf_block_size(one) == 104,
+           "so is one with another slot");
+    tlsf_free(tlsf, one);
+    memcpy(one - 8, now, 8);
+    expect(tlsf_check(tlsf) == 0 && tlsf_live_size(tlsf, one) == 104 && tlsf_live_size(tlsf, two) == 104,
+           "and both blocks are kept");
 }
 
 /* Each byte of a front, in each way: the check tells it, no call takes the pointer for its block, and
@@ -946,11 +1061,15 @@ struct ending {
     pool_t pool;
     size_t calls, ends_at;
     bool whole;
+    unsigned char *behind; /* where the last block ended, with the next one's front */
+    bool in_order;
 };
 
 static void end_all(void *ptr, size_t size, int used, void *user)
 {
     struct ending *ending = (struct ending *)user;
+    ending->in_order = ending->in_order && (ending->behind == NULL || ptr == ending->behind);
+    ending->behind = (unsigned char *)ptr + size + 8;
     if (++ending->calls > ending->ends_at) {
         return;
     }
@@ -970,10 +1089,10 @@ static void walks_that_end(void)
         for (int k = 0; k < 100; k++) {
             tlsf_malloc(tlsf, 100);
         }
-        struct ending ending = {tlsf, tlsf_get_pool(tlsf), 0, whole ? 3 : 101, whole};
+        struct ending ending = {tlsf, tlsf_get_pool(tlsf), 0, whole ? 3 : 101, whole, NULL, true};
         tlsf_walk_pool(ending.pool, end_all, &ending);
-        expect(ending.calls == (whole ? 64 : 101) && tlsf_get_pool(tlsf) == NULL
-                   && has(ending.pool, 0, 0),
+        expect(ending.calls == (whole ? 64 : 101) && ending.in_order
+                   && tlsf_get_pool(tlsf) == NULL && has(ending.pool, 0, 0),
                whole ? "a walker may end the heap" : "a walker may end the pool");
     }
 }
@@ -995,7 +1114,7 @@ static void walks_that_grow(void)
     for (int k = 0; k < 64; k++) {
         tlsf_malloc(tlsf, 64);
     }
-    struct ending ending = {tlsf, NULL, 0, 10, false};
+    struct ending ending = {tlsf, NULL, 0, 10, false, NULL, true};
     tlsf_walk_pool(tlsf_get_pool(tlsf), grow_next, &ending);
     expect(ending.calls == 74 && tlsf_check(tlsf) == 0, "a walker may allocate");
 }
@@ -1041,6 +1160,28 @@ static void copies(unsigned char *large)
         memset(copy, 0, tlsf_size_records(8));
     }
     expect(none, "a copy of a heap is none, near or far");
+}
+
+static void shrink_last(void *ptr, size_t size, int used, void *user)
+{
+    struct ending *ending = (struct ending *)user;
+    (void)size;
+    if (++ending->calls == ending->ends_at && used) {
+        tlsf_realloc(ending->tlsf, ptr, 20);
+    }
+}
+
+/* The last block of a piece becomes smaller. The next piece begins at its end of before, and so
+ * behind the free block that is left of it. */
+static void walks_that_shrink(void)
+{
+    tlsf_t tlsf = tlsf_create_with_pool(memory, sizeof memory);
+    for (int k = 0; k < 100; k++) {
+        tlsf_malloc(tlsf, 100);
+    }
+    struct ending ending = {tlsf, NULL, 0, 64, false, NULL, true};
+    tlsf_walk_pool(tlsf_get_pool(tlsf), shrink_last, &ending);
+    expect(ending.calls == 101 && has(tlsf_get_pool(tlsf), 100, 2), "a walker may make a block smaller");
 }
 
 static void ends(void)
@@ -1090,8 +1231,10 @@ int main(void)
         first_place(large);
         greatest(large);
         places(large);
+        all_places(large);
         places_between(large);
         places_removed(large);
+        places_below(large);
         copies(large);
         munmap(large, room);
     }
@@ -1101,6 +1244,8 @@ int main(void)
     own_memory();
     pointers();
     old_pointers();
+    forged_fronts();
+    other_fronts();
     each_byte_in_front();
     overruns();
     refused_requests();
@@ -1114,5 +1259,6 @@ int main(void)
     ends();
     walks_that_end();
     walks_that_grow();
+    walks_that_shrink();
     return cases_end();
 }
