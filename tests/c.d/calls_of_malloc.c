@@ -175,6 +175,16 @@ static void aligned(void)
         free(other);
         free(third);
     }
+    void *odd = aligned_alloc(64, 100), *one = pvalloc(1), *whole = pvalloc(4096);
+    expect(is_at(odd, 64) && malloc_usable_size(odd) >= 100,
+           "aligned_alloc of bytes that are no multiple of the alignment");
+    expect(is_at(one, 4096) && malloc_usable_size(one) >= 4096 && malloc_usable_size(one) < 8192
+               && is_at(whole, 4096) && malloc_usable_size(whole) >= 4096
+               && malloc_usable_size(whole) < 8192,
+           "pvalloc of 1 and of 4,096: one page");
+    free(odd);
+    free(one);
+    free(whole);
     expect(memaligns, "memalign at each power of two up to 2^24");
     expect(allocs, "aligned_alloc at each power of two up to 2^24");
     expect(posix, "posix_memalign at each power of two up to 2^24");
@@ -350,6 +360,9 @@ static void refused(void)
         void *volatile unmapped = (void *)(far ? UINTPTR_MAX - 15 : 16);
         free(unmapped);
     }
+    void *volatile nowhere = (void *)16;
+    bool none = malloc_usable_size(nowhere) == 0 && malloc_usable_size(inside) == 0 && malloc_usable_size(stale) == 0;
+    expect(none, "malloc_usable_size of what is no live block's: 0, and nothing is read where no memory is");
     expect(realloc(foreign, 10) == NULL && malloc_usable_size(foreign) == 0, "realloc of another's address: a null pointer");
     unsigned char *third = malloc(100);
     expect(third != one && third != other && holds(one, 100, 1) && holds(other, 100, 2), "a second free, and one of an address that was never given, change nothing");

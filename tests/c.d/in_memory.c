@@ -200,6 +200,27 @@ static void broken_without_memory(void)
            "and of one with a vacant record that isn't zero: broken states");
 }
 
+/* The function that the library calls, beside what it never asks for. */
+static void beyond_all(void)
+{
+    bool refused = true;
+    start(0);
+    for (size_t less = 0; less <= 30; less++) {
+        struct rattle_tried none = rattle_alloc(SIZE_MAX - less, 16), odd = rattle_alloc(less, 32);
+        refused = refused && !none.ok && none.p != NULL && !odd.ok && odd.p != NULL;
+    }
+    expect(refused && takes == 0, "rattle_alloc of some 2^64 bytes, or at an alignment above 16");
+    bool served = true;
+    start(0);
+    for (size_t bytes = 0; bytes < 100; bytes++) {
+        struct rattle_tried some = rattle_alloc(bytes, 1u << bytes % 5);
+        served = served && some.ok && (uintptr_t)some.p % 16 == 0;
+        memset(some.p, 0xff, bytes);
+        rattle_dealloc(some.p);
+    }
+    expect(served && takes == 100 && returns == 100, "of 0 to 99 bytes, at each alignment up to 16");
+}
+
 /* A heap of malloc's memory asks for what the header tells, and each refusal is answered. */
 static void of_malloc(void)
 {
@@ -383,6 +404,7 @@ int main(void)
     other_refusals();
     after_refusals();
     broken_without_memory();
+    beyond_all();
     of_malloc();
     ends();
     side_by_side();
