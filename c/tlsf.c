@@ -3,7 +3,9 @@
  * The heap hands out places, from 0 to 2^32 - 1. It chooses each block, and knows whether a live
  * block has a place and a slot: that is proved. This file turns places into addresses and back:
  *
- * - The control part, at the start of the memory handed in, keeps each pool's address and places.
+ * - The control part, at the start of the memory handed in, keeps each pool's address and places. It
+ *   ends with its mark, a sum over it. So tlsf_check tells a byte that is changed there, and reads
+ *   the table only where none is.
  * - A block begins eight bytes in front of its pointer. Its place is as far behind the pool's first
  *   place as the pointer behind the first pointer, and equals the pointer modulo TLSF_MOST_ALIGN.
  *   So where the place is a multiple of an alignment, the pointer is one too.
@@ -95,8 +97,8 @@ static size_t taken(uintptr_t own, uint32_t records)
     return part + skipped(own + part) + TLSF_HEAP_TABLE_BYTES(records);
 }
 
-/* A word of the control part is in its mark as often as an odd number, by where it is: so one that
- * changes shows. The live blocks and their bytes aren't in it. */
+/* The mark is the sum of the control part's words, each times an odd number of its own. So a word
+ * that changes shows. The live blocks and their bytes aren't in it: a check counts them again. */
 #define WORD sizeof(uint64_t)
 #define TIMES(field) times(offsetof(struct control, field))
 static inline uint64_t times(size_t at)

@@ -79,3 +79,53 @@ fn a_block_that_shrinks_takes_no_byte_of_the_next() {
         );
     }
 }
+
+#[test]
+fn no_bytes_are_a_block_of_their_own() {
+    let heap: Global<4096> = Global::new();
+    let none = Layout::from_size_align(0, 1).unwrap();
+    let some = Layout::from_size_align(100, 1).unwrap();
+    unsafe {
+        let (first, second) = (heap.alloc(none), heap.alloc(none));
+        assert!(!first.is_null() && !second.is_null() && first != second);
+        let block = heap.alloc(some);
+        let shrunk = heap.realloc(block, some, 0);
+        assert!(!shrunk.is_null() && heap.figures().blocks_live == 3);
+        for block in [first, second, shrunk] {
+            heap.dealloc(block, none);
+        }
+    }
+    assert_eq!(
+        (heap.figures().blocks_live, heap.figures().refusals),
+        (0, [0; 5])
+    );
+}
+
+#[test]
+fn a_refused_realloc_keeps_the_block() {
+    let heap: Global<16384> = Global::new();
+    for align in [1, 64, 1024] {
+        let layout = Layout::from_size_align(100, align).unwrap();
+        unsafe {
+            let block = heap.alloc(layout);
+            block.write_bytes(3, 100);
+            assert!(heap.realloc(block, layout, 20_000).is_null());
+            assert!(holds(block, 100, 3) && heap.figures().blocks_live == 1);
+            heap.dealloc(block, layout);
+        }
+    }
+    assert_eq!(heap.figures().refusals, [3, 0, 0, 0, 0]);
+}
+
+#[test]
+fn a_byte_in_front_of_a_block_is_told() {
+    let heap: Global<4096> = Global::new();
+    let layout = Layout::from_size_align(100, 1).unwrap();
+    unsafe {
+        let block = heap.alloc(layout);
+        *block.sub(1) ^= 1;
+        assert!(!heap.is_whole());
+        *block.sub(1) ^= 1;
+    }
+    assert!(heap.is_whole());
+}

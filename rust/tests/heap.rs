@@ -141,3 +141,27 @@ fn zeroed_bytes_are_zero_where_others_were() {
         bytes.fill(0xff);
     }
 }
+
+#[test]
+fn a_heap_has_a_pool_and_ends() {
+    let mut memory = [0; 4096];
+    let least = (1..4096).find(|bytes| Heap::with_records(&mut memory[..*bytes], 4).is_some());
+    assert!(least.is_some());
+    {
+        let heap = Heap::with_records(&mut memory[..least.unwrap()], 4).unwrap();
+        assert!(heap.boxed(1_u64).is_ok());
+    }
+    assert!(memory[..16].iter().all(|byte| *byte == 0));
+}
+
+#[test]
+fn a_byte_in_front_of_a_block_is_told() {
+    let mut memory = [0; 4096];
+    let heap = Heap::new(&mut memory).unwrap();
+    let block = heap.boxed(1_u64).unwrap();
+    let front = (&*block as *const u64 as *mut u8).wrapping_sub(1);
+    unsafe { *front ^= 1 };
+    assert!(!heap.is_whole());
+    unsafe { *front ^= 1 };
+    assert!(heap.is_whole());
+}
