@@ -76,8 +76,8 @@ static void after_fork(void)
  * there is no memory each call is refused. */
 static void make(void)
 {
-    const char *report = getenv("TLSF_REPORT");
-    bool reports = report != NULL && strcmp(report, "1") == 0;
+    const char *asked = getenv("TLSF_REPORT");
+    bool reports = asked != NULL && strcmp(asked, "1") == 0;
     size_t records = setting("TLSF_RECORDS", TLSF_HEAP_RECORDS_MOST, TLSF_HEAP_RECORDS_MOST);
     size_t pool = (setting("TLSF_POOL", TLSF_HEAP_GREATEST, POOL) + UNIT - 1) / UNIT * UNIT;
     size_t bytes = tlsf_size_records((uint32_t)records) + pool + UNIT;
@@ -193,12 +193,12 @@ EXPORT size_t malloc_usable_size(void *address)
 __attribute__((destructor)) static void report(void)
 {
     tlsf_figures told;
-    size_t refused = 0;
     if (report_to < 0) {
         return;
     }
     begin();
     if (tlsf_stats(heap, &told) == 0) {
+        size_t refused = 0;
         for (int what = 0; what < TLSF_REFUSALS; what++) {
             refused += told.refusals[what];
         }

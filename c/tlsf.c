@@ -3,7 +3,9 @@
  * The heap hands out places, from 0 to 2^32 - 1. It chooses each block, and knows whether a live
  * block has a place and a slot: that is proved. This file turns places into addresses and back:
  *
- * - The control part, at the start of the memory handed in, keeps each pool's address and places.
+ * - The control part, at the start of the memory handed in, keeps each pool's address and places. It
+ *   ends with its mark, a sum over it. So tlsf_check tells a byte that is changed there, and reads
+ *   the table only where none is.
  * - A block begins eight bytes in front of its pointer. Its place is as far behind the pool's first
  *   place as the pointer behind the first pointer, and equals the pointer modulo TLSF_MOST_ALIGN.
  *   So where the place is a multiple of an alignment, the pointer is one too.
@@ -88,11 +90,40 @@ static inline size_t in_units(size_t bytes) { return (bytes + FRONT + UNIT - 1u)
 /* The bytes to the next multiple of 16. */
 static size_t skipped(uintptr_t address) { return (UNIT - address % UNIT) % UNIT; }
 
+/* What a heap takes of the memory handed in: the control part, and behind it the table. */
+static size_t taken(uintptr_t own, uint32_t records)
+{
+    size_t part = sizeof(struct control);
+    return part + skipped(own + part) + TLSF_HEAP_TABLE_BYTES(records);
+}
+
+/* The mark is the sum of the control part's words, each times an odd number of its own. So a word
+ * that changes shows. The live blocks and their bytes aren't in it: a check counts them again. */
+#define WORD sizeof(uint64_t)
+#define TIMES(field) times(offsetof(struct control, field))
+static inline uint64_t times(size_t at)
+{
+    uint64_t number = (at / WORD + 1u) * SCRAMBLE;
+    return (number ^ (number >> 32u)) | 1u;
+}
+static uint64_t mark_of(const struct control *control)
+{
+    const tlsf_figures *figures = &control->figures;
+    uint64_t word = 0;
+    uint64_t sum = 0;
+    for (size_t at = 0; at < sizeof *control; at += WORD) {
+        (void)__builtin_memcpy(&word, (const unsigned char *)control + at, WORD);
+        sum += times(at) * word;
+    }
+    return sum - TIMES(mark) * control->mark - TIMES(figures.bytes_live) * figures->bytes_live
+           - TIMES(figures.blocks_live) * figures->blocks_live;
+}
+
 /* The entry that a pool of these bytes takes: none where they are the heap's own or a pool's. */
 static struct pool *entry_of(struct control *control, uintptr_t address, size_t bytes)
 {
     uintptr_t own = (uintptr_t)control;
-    bool good = address + bytes <= own || own + control->taken <= address;
+    bool good = address + bytes <= own || own + taken(own, control->figures.records) <= address;
     struct pool *vacant = NULL;
     for (uint32_t k = POOLS; k > 0u; k--) {
         struct pool *pool = &control->pools[k - 1u];
@@ -119,7 +150,10 @@ pool_t tlsf_add_pool(tlsf_t tlsf, void *mem, size_t bytes)
         uint64_t place = from + ((address + FRONT - from) & (TLSF_MOST_ALIGN - 1u));
         if (tlsf_heap_add_pool(&control->heap, place, usable) == TLSF_OK) {
             unsigned char *first = (unsigned char *)mem + skip + FRONT;
-            *pool = (struct pool){control, first, usable - FRONT, (uint32_t)place};
+            ptrdiff_t number = pool - control->pools;
+            *pool = (struct pool){control, first, usable - FRONT, (uint32_t)place,
+                                  (uint32_t)number};
+            control->mark = mark_of(control);
             return pool;
         }
     }
@@ -135,6 +169,7 @@ void tlsf_remove_pool(tlsf_t tlsf, pool_t pool)
         if (own == pool && own->reach != 0u
             && tlsf_heap_remove_pool(&control->heap, own->place) == TLSF_OK) {
             (void)memset(own, 0, sizeof *own);
+            control->mark = mark_of(control);
         }
     }
 }
@@ -150,16 +185,18 @@ tlsf_t tlsf_create_records(void *mem, size_t bytes, uint32_t records)
 {
     struct control *control = (struct control *)mem;
     size_t table = TLSF_HEAP_TABLE_BYTES(records);
-    size_t taken = sizeof *control + skipped((uintptr_t)mem + sizeof *control) + table;
-    if (!may_begin(mem) || bytes < taken) {
+    size_t front = taken((uintptr_t)mem, records);
+    if (!may_begin(mem) || bytes < front) {
         return NULL;
     }
-    unsigned char *end = (unsigned char *)mem + taken;
-    *control = (struct control){.magic = (uintptr_t)mem + MAGIC, .taken = (uint32_t)taken};
+    unsigned char *end = (unsigned char *)mem + front;
+    *control = (struct control){.magic = (uintptr_t)mem + MAGIC};
     control->figures.records = records;
-    if (tlsf_heap_create_in(end - table, table, records, &control->heap) == TLSF_OK
-        && (bytes - taken < LEAST_POOL || tlsf_add_pool(control, end, bytes - taken) != NULL)) {
-        return control;
+    if (tlsf_heap_create_in(end - table, table, records, &control->heap) == TLSF_OK) {
+        control->mark = mark_of(control);
+        if (bytes - front < LEAST_POOL || tlsf_add_pool(control, end, bytes - front) != NULL) {
+            return control;
+        }
     }
     tlsf_destroy(control);
     return NULL;
@@ -212,7 +249,9 @@ size_t tlsf_block_size(void *ptr)
 /* Counts what is refused, and tells it. */
 static void *refuse(struct control *control, enum tlsf_refusal what, const void *ptr, size_t bytes)
 {
+    size_t at = offsetof(struct control, figures.refusals);
     control->figures.refusals[what]++;
+    control->mark += times(at + (size_t)what * WORD);
     if (control->hook != NULL) {
         control->hook(what, ptr, bytes, control->user);
     }
@@ -254,6 +293,8 @@ static inline void count_bytes(struct control *control, size_t had, size_t has)
     tlsf_figures *figures = &control->figures;
     figures->bytes_live += has - had;
     if (figures->most_bytes_live < figures->bytes_live) {
+        size_t more = figures->bytes_live - figures->most_bytes_live;
+        control->mark += TIMES(figures.most_bytes_live) * more;
         figures->most_bytes_live = figures->bytes_live;
     }
 }
@@ -394,6 +435,7 @@ void tlsf_set_refusal_hook(tlsf_t tlsf, tlsf_refusal_hook hook, void *user)
     if (control != NULL) {
         control->hook = hook;
         control->user = user;
+        control->mark = mark_of(control);
     }
 }
 
@@ -420,10 +462,14 @@ int tlsf_stats(tlsf_t tlsf, tlsf_figures *out)
     return 0;
 }
 
-/* The control part of a pool's heap, or a null pointer where the pool isn't there. */
-static struct control *control_of_pool(pool_t pool)
+/* The control part of a pool's heap, or a null pointer where the pool isn't there. It isn't read
+ * where it doesn't have the entry. */
+static struct control *control_of_pool(struct pool *pool)
 {
-    return pool == NULL ? NULL : control_of(((struct pool *)pool)->control);
+    size_t at = offsetof(struct control, pools);
+    bool is = pool != NULL && pool->number < POOLS
+              && (uintptr_t)pool - (uintptr_t)pool->control == at + pool->number * sizeof *pool;
+    return is ? control_of(pool->control) : NULL;
 }
 
 static void print(void *ptr, size_t size, int used, void *user)
@@ -437,7 +483,7 @@ static void print(void *ptr, size_t size, int used, void *user)
 /* How many rows of a pool there are from a place on; none where it or its heap is gone. */
 static uint64_t read_rows(struct pool *own, uint64_t base, uint64_t from, tlsf_heap_row *rows)
 {
-    const struct control *control = control_of(own->control);
+    const struct control *control = control_of_pool(own);
     uint64_t count = 0;
     bool is = control != NULL
               && tlsf_heap_walk(&control->heap, base, from, rows, TLSF_WALK_ROWS, &count) == TLSF_OK;
@@ -471,33 +517,53 @@ static void walk(struct pool *own, tlsf_walker walker, void *user, bool locks)
 
 void tlsf_walk_pool(pool_t pool, tlsf_walker walker, void *user)
 {
-    if (control_of_pool(pool) != NULL) {
-        walk((struct pool *)pool, walker == NULL ? print : walker, user, true);
+    struct pool *own = (struct pool *)pool;
+    if (control_of_pool(own) != NULL) {
+        walk(own, walker == NULL ? print : walker, user, true);
     }
 }
 
-/* Counts the live blocks whose front isn't what it was. */
-static void count_fault(void *ptr, size_t size, int used, void *user)
+/* What a check counts: the live blocks, their bytes, those of all blocks, and the faults. */
+struct counts {
+    const struct control *control;
+    size_t blocks_live;
+    size_t bytes_live;
+    size_t bytes;
+    int faults;
+};
+
+/* A live block whose front isn't what it was is a fault. */
+static void count_block(void *ptr, size_t size, int used, void *user)
 {
-    struct control *control = (struct control *)user;
-    if (used != 0 && (live_size(control, ptr) != size || tlsf_block_size(ptr) != size)) {
-        control->faults++;
+    struct counts *counts = (struct counts *)user;
+    counts->bytes += size + FRONT;
+    if (used != 0) {
+        bool good = live_size(counts->control, ptr) == size && tlsf_block_size(ptr) == size;
+        counts->blocks_live++;
+        counts->bytes_live += size;
+        counts->faults += good ? 0 : 1;
     }
 }
 
-/* Of one pool, or of all for none. Where the table isn't whole nothing else of the heap is read. */
-static int check(struct control *control, pool_t pool)
+/* Of one pool, or of all for none. The table is read where the control part is whole, and the blocks
+ * where the table is. */
+static int check(struct control *control, const struct pool *pool)
 {
-    if (control == NULL || !tlsf_heap_check(&control->heap)) {
+    struct counts counts = {control, 0, 0, 0, 0};
+    if (control == NULL || control->mark != mark_of(control) || !tlsf_heap_check(&control->heap)) {
         return -1;
     }
-    control->faults = 0;
     for (uint32_t k = 0; k < POOLS; k++) {
-        if (pool == NULL || pool == &control->pools[k]) {
-            walk(&control->pools[k], count_fault, control, false);
+        struct pool *own = &control->pools[k];
+        if (pool == NULL || pool == own) {
+            counts.bytes = 0;
+            walk(own, count_block, &counts, false);
+            counts.faults += counts.bytes == (own->reach == 0u ? 0u : own->reach + FRONT) ? 0 : 1;
         }
     }
-    return -control->faults;
+    bool counted = counts.blocks_live == control->figures.blocks_live
+                   && counts.bytes_live == control->figures.bytes_live;
+    return pool == NULL && !counted ? -counts.faults - 1 : -counts.faults;
 }
 
 int tlsf_check(tlsf_t tlsf)
@@ -507,7 +573,7 @@ int tlsf_check(tlsf_t tlsf)
 }
 int tlsf_check_pool(pool_t pool)
 {
-    struct control *control = control_of_pool(pool);
+    struct control *control = control_of_pool((struct pool *)pool);
     LOCKED(control);
-    return check(control, pool);
+    return check(control, (struct pool *)pool);
 }

@@ -58,7 +58,9 @@ pool_t tlsf_get_pool(tlsf_t tlsf);
  * - the heap has eight pools already
  * - the heap has some of this memory already
  * - no record is vacant
- * - all pools together would have some 4 GiB. */
+ * - no piece of the heap's 4 GiB of places has room. A pool takes as many places as it has bytes, in
+ *   one piece. Up to 2 MiB in front of it stay unused. It keeps its places until it is removed. So
+ *   with pools in between, a greater one may be refused where a smaller one was removed. */
 pool_t tlsf_add_pool(tlsf_t tlsf, void *mem, size_t bytes);
 
 /* Removes the pool. A pool with a live block stays. */
@@ -160,8 +162,9 @@ size_t tlsf_sure_bytes(uint32_t blocks, size_t bytes, size_t largest);
 typedef void (*tlsf_walker)(void *ptr, size_t size, int used, void *user);
 void tlsf_walk_pool(pool_t pool, tlsf_walker walker, void *user);
 
-/* Checks the table, and the 8 bytes in front of each live block, of all pools or of one. Answers 0
- * where all is whole, else less than 0. */
+/* Checks what the heap keeps at its start, its table, and the 8 bytes in front of each live block, of
+ * all pools or of one. Answers 0 where all is whole, else less than 0. At the heap's start each byte
+ * that is changed is told. tlsf_check_pool doesn't tell the figures of live blocks. */
 int tlsf_check(tlsf_t tlsf);
 int tlsf_check_pool(pool_t pool);
 

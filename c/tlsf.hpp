@@ -6,6 +6,10 @@
 #ifndef TLSF_HPP
 #define TLSF_HPP
 
+#if __cplusplus < 201703L
+#error "tlsf.hpp is for C++17 or later: before, there is no std::pmr::memory_resource"
+#endif
+
 #include <cstddef>
 #include <cstdlib>
 #include <memory_resource>

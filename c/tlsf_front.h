@@ -21,13 +21,14 @@
 /* What the control part begins with, less its own address: so a copy is no heap. */
 #define MAGIC 0x544c5346u
 
-/* A pool: its first pointer, how far behind it another may be, and the first place. One that isn't
- * there has no reach. */
+/* A pool: its first pointer, how far behind it another may be, the first place, and which of the
+ * heap's it is. One that isn't there has no reach. */
 struct pool {
     struct control *control;
     unsigned char *first;
     size_t reach;
     uint32_t place;
+    uint32_t number;
 };
 
 /* What stands at the start of the memory handed in, in front of the table. */
@@ -38,8 +39,7 @@ struct control {
     tlsf_figures figures; /* those that the heap can't tell */
     tlsf_refusal_hook hook;
     void *user;
-    uint32_t taken; /* its bytes, with the table's behind it */
-    int faults;     /* what a check counts */
+    uint64_t mark; /* a sum over it, but for what a check counts again */
 };
 
 /* A front is a size in units and a slot, 42 bits, times an odd number, and the pointer added. The

@@ -87,3 +87,81 @@ fn a_slice_may_begin_anywhere() {
         scope.spawn(move || assert_eq!(*heap.boxed(5).unwrap(), 5));
     });
 }
+
+#[test]
+fn a_block_of_no_bytes_is_freed_once() {
+    let mut memory = [0; 4096];
+    let heap = Heap::new(&mut memory).unwrap();
+    let (none, other) = (heap.zeroed(0).unwrap(), heap.zeroed(0).unwrap());
+    let unit = heap.boxed(()).unwrap();
+    assert!(none.is_empty() && none.as_ptr() != other.as_ptr());
+    assert_eq!((heap.figures().blocks_live, *unit), (3, ()));
+    drop((none, unit));
+    let first = heap.boxed(1_u64).unwrap();
+    drop(other);
+    let second = heap.boxed(2_u64).unwrap();
+    assert_eq!((*first, *second, heap.figures().blocks_live), (1, 2, 2));
+    drop((first, second));
+    assert_eq!(
+        (heap.figures().blocks_live, heap.figures().refusals),
+        (0, [0; 5])
+    );
+    assert!(heap.is_whole());
+}
+
+/// A value at a multiple of 32, of a size that isn't one of 64.
+#[repr(align(32))]
+struct Half([u8; 32]);
+
+#[test]
+fn each_alignment_holds_beside_small_blocks() {
+    let mut memory = vec![0; 1 << 17];
+    let heap = Heap::new(&mut memory).unwrap();
+    let mut small = Vec::new();
+    let mut halves = Vec::new();
+    let mut lines = Vec::new();
+    for k in 0..100_u8 {
+        small.push(heap.zeroed(usize::from(k) % 7 * 16 + 1).unwrap());
+        halves.push(heap.boxed(Half([k; 32])).ok().unwrap());
+        lines.push(heap.boxed(Line([k; 64])).ok().unwrap());
+    }
+    assert!(halves.iter().all(|half| half.0.as_ptr() as usize % 32 == 0));
+    assert!(lines.iter().all(|line| line.0.as_ptr() as usize % 64 == 0));
+    assert!((0..100).all(|k| halves[k].0 == [k as u8; 32] && lines[k].0 == [k as u8; 64]));
+    assert!(halves.iter().any(|half| half.0.as_ptr() as usize % 64 != 0));
+}
+
+#[test]
+fn zeroed_bytes_are_zero_where_others_were() {
+    let mut memory = [0; 8192];
+    let heap = Heap::new(&mut memory).unwrap();
+    for _ in 0..3 {
+        let mut bytes = heap.zeroed(4000).unwrap();
+        assert!(bytes.iter().all(|byte| *byte == 0));
+        bytes.fill(0xff);
+    }
+}
+
+#[test]
+fn a_heap_has_a_pool_and_ends() {
+    let mut memory = [0; 4096];
+    let least = (1..4096).find(|bytes| Heap::with_records(&mut memory[..*bytes], 4).is_some());
+    assert!(least.is_some());
+    {
+        let heap = Heap::with_records(&mut memory[..least.unwrap()], 4).unwrap();
+        assert!(heap.boxed(1_u64).is_ok());
+    }
+    assert!(memory[..16].iter().all(|byte| *byte == 0));
+}
+
+#[test]
+fn a_byte_in_front_of_a_block_is_told() {
+    let mut memory = [0; 4096];
+    let heap = Heap::new(&mut memory).unwrap();
+    let block = heap.boxed(1_u64).unwrap();
+    let front = (&*block as *const u64 as *mut u8).wrapping_sub(1);
+    unsafe { *front ^= 1 };
+    assert!(!heap.is_whole());
+    unsafe { *front ^= 1 };
+    assert!(heap.is_whole());
+}

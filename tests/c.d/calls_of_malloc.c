@@ -63,6 +63,53 @@ static void plain(void)
     expect(calloc(half, 4) == NULL && errno == ENOMEM, "calloc of a product that is too much: ENOMEM");
     errno = 0;
     expect(calloc(huge, 1) == NULL && errno == ENOMEM, "calloc of too much: ENOMEM");
+    bool overflows = true;
+    for (size_t more = 1; more <= 100; more++) {
+        errno = 0;
+        overflows = overflows && calloc(half + more, 2) == NULL && errno == ENOMEM;
+        errno = 0;
+        overflows = overflows && calloc(2, half + more) == NULL && errno == ENOMEM;
+    }
+    expect(overflows, "calloc of a product that is 2 to 200 modulo 2^64: ENOMEM");
+}
+
+/* What is served leaves errno as it was. */
+static void served_errno(void)
+{
+    void *given[8], *out = NULL;
+    errno = EDOM;
+    given[0] = malloc(100);
+    given[1] = calloc(10, 10);
+    given[2] = realloc(malloc(10), 5000);
+    given[3] = memalign(64, 100);
+    given[4] = valloc(100);
+    given[5] = pvalloc(100);
+    given[6] = calloc(zero, 10);
+    given[7] = calloc(10, zero);
+    bool all = posix_memalign(&out, 64, 100) == 0 && malloc_usable_size(out) >= 100;
+    for (int k = 0; k < 8; k++) {
+        all = all && given[k] != NULL;
+        free(given[k]);
+    }
+    free(out);
+    expect(all && errno == EDOM, "what is served leaves errno");
+}
+
+/* Blocks at a page, held beside small ones: none is there by luck. */
+static void pages(void)
+{
+    void *held[3 * HELD];
+    bool each = true;
+    for (unsigned k = 0; k < HELD; k++) {
+        held[3 * k] = malloc(16 * (k % 50) + 1);
+        held[3 * k + 1] = valloc(100 + k);
+        held[3 * k + 2] = pvalloc(100 + k);
+        each = each && is_at(held[3 * k + 1], 4096) && is_at(held[3 * k + 2], 4096);
+    }
+    for (unsigned k = 0; k < 3 * HELD; k++) {
+        free(held[k]);
+    }
+    expect(each, "128 blocks by valloc and pvalloc at multiples of 4,096");
 }
 
 /* All of the room that malloc_usable_size tells is the block's own. */
@@ -128,6 +175,16 @@ static void aligned(void)
         free(other);
         free(third);
     }
+    void *odd = aligned_alloc(64, 100), *one = pvalloc(1), *whole = pvalloc(4096);
+    expect(is_at(odd, 64) && malloc_usable_size(odd) >= 100,
+           "aligned_alloc of bytes that are no multiple of the alignment");
+    expect(is_at(one, 4096) && malloc_usable_size(one) >= 4096 && malloc_usable_size(one) < 8192
+               && is_at(whole, 4096) && malloc_usable_size(whole) >= 4096
+               && malloc_usable_size(whole) < 8192,
+           "pvalloc of 1 and of 4,096: one page");
+    free(odd);
+    free(one);
+    free(whole);
     expect(memaligns, "memalign at each power of two up to 2^24");
     expect(allocs, "aligned_alloc at each power of two up to 2^24");
     expect(posix, "posix_memalign at each power of two up to 2^24");
@@ -303,6 +360,9 @@ static void refused(void)
         void *volatile unmapped = (void *)(far ? UINTPTR_MAX - 15 : 16);
         free(unmapped);
     }
+    void *volatile nowhere = (void *)16;
+    bool none = malloc_usable_size(nowhere) == 0 && malloc_usable_size(inside) == 0 && malloc_usable_size(stale) == 0;
+    expect(none, "malloc_usable_size of what is no live block's: 0, and nothing is read where no memory is");
     expect(realloc(foreign, 10) == NULL && malloc_usable_size(foreign) == 0, "realloc of another's address: a null pointer");
     unsigned char *third = malloc(100);
     expect(third != one && third != other && holds(one, 100, 1) && holds(other, 100, 2), "a second free, and one of an address that was never given, change nothing");
@@ -370,6 +430,8 @@ int main(int count, char **words)
         return cases_end();
     }
     plain();
+    served_errno();
+    pages();
     rooms();
     moves();
     aligned();

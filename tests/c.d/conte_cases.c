@@ -67,6 +67,15 @@ static void exact_memory(void)
     }
 }
 
+/* Where a call that makes a heap was refused there is none. */
+static bool is_no_heap(unsigned char *at)
+{
+    tlsf_figures figures;
+    return tlsf_check(at) == -1 && tlsf_stats(at, &figures) == -1 && tlsf_get_pool(at) == NULL
+           && tlsf_malloc(at, 1) == NULL
+           && tlsf_add_pool(at, other_memory, sizeof other_memory) == NULL;
+}
+
 static void creates(void)
 {
     size_t least = control_bytes(1) + 24;
@@ -82,8 +91,8 @@ static void creates(void)
            "the least with a pool, at another of 8");
     expect(tlsf_create_with_pool(memory, 0) == NULL && tlsf_create_with_pool(memory, 100) == NULL,
            "too few bytes, no heap");
-    expect(tlsf_create_records(memory, 1 << 16, 0) == NULL
-               && tlsf_create_records(memory, SIZE_MAX / 2, 65536) == NULL,
+    expect(tlsf_create_records(memory, 1 << 16, 0) == NULL && is_no_heap(memory)
+               && tlsf_create_records(memory, SIZE_MAX / 2, 65536) == NULL && is_no_heap(memory),
            "records: none, or too many");
     tlsf_t tlsf = tlsf_create_records(memory, control_bytes(1), 1);
     expect(tlsf != NULL && tlsf_get_pool(tlsf) == NULL
@@ -348,6 +357,30 @@ static void side_by_side(void)
            "each has a block of its own, and no block lies in two");
 }
 
+/* A heap at `at`, a multiple of 8: its own memory ends at a multiple of 16. A pool of 64 bytes at
+ * each multiple of 8 around is refused exactly where one of its bytes is the heap's own. */
+static bool keeps_its_memory(unsigned char *at)
+{
+    tlsf_t tlsf = tlsf_create_records(at, tlsf_size_records(4), 4);
+    uintptr_t own = (uintptr_t)at, end = (own + tlsf_size_records(4)) / 16 * 16;
+    bool good = tlsf != NULL;
+    for (uintptr_t from = own - 128; from <= end + 128; from += 8) {
+        uintptr_t first = (from + 7) / 16 * 16 + 8;
+        bool shares = first + 64 > own && first < end;
+        pool_t pool = tlsf_add_pool(tlsf, at + (ptrdiff_t)(from - own), (size_t)(first - from) + 64);
+        good = good && (pool == NULL) == shares && tlsf_check(tlsf) == 0;
+        tlsf_remove_pool(tlsf, pool);
+    }
+    tlsf_destroy(tlsf);
+    return good;
+}
+
+static void own_memory(void)
+{
+    expect(keeps_its_memory(other_memory + 1024), "pools that share 8 bytes or more with the heap");
+    expect(keeps_its_memory(other_memory + 1032), "and with one at another multiple of 8");
+}
+
 static void greatest(unsigned char *large)
 {
     tlsf_t tlsf = tlsf_create(memory);
@@ -373,7 +406,13 @@ static void greatest(unsigned char *large)
     one = tlsf_malloc(tlsf, tlsf_block_size_max());
     expect(one != NULL && has(pool, 1, 0), "a malloc of the greatest block");
     tlsf_free(tlsf, one);
-    expect(tlsf_create_with_pool(large, 2 * GIGABYTE) == NULL,
+    /* The greatest size of a class is 1,056,964,608, and an aligned request asks for 16 more. */
+    one = tlsf_memalign(tlsf, 32, 1056964608 - 16 - 8);
+    expect(one != NULL && (uintptr_t)one % 32 == 0
+               && tlsf_memalign(tlsf, 32, tlsf_block_size_max()) == NULL,
+           "a memalign of the most that a class surely has");
+    tlsf_free(tlsf, one);
+    expect(tlsf_create_with_pool(large, 2 * GIGABYTE) == NULL && is_no_heap(large),
            "a heap with a pool above the greatest");
 }
 
@@ -394,6 +433,27 @@ static void places(unsigned char *large)
     expect(tlsf_add_pool(tlsf, large + GIGABYTE + 64, GIGABYTE - (4 << 20)) != NULL
                && tlsf_check(tlsf) == 0,
            "one is gone, and another is added");
+}
+
+/* Four of the greatest pools side by side, from a multiple of 2^21 on, leave 64 of the 2^32 places. */
+static void all_places(unsigned char *large)
+{
+    size_t two = (size_t)2 << 20;
+    unsigned char *even = large + (two - (uintptr_t)large % two);
+    bool all = true;
+    tlsf_t tlsf = tlsf_create(memory);
+    for (size_t k = 0; k < 4; k++) {
+        all = all && tlsf_add_pool(tlsf, even + k * GREATEST_POOL - 8, GREATEST_POOL) != NULL;
+    }
+    unsigned char *last = even + (size_t)4 * GREATEST_POOL;
+    expect(all && tlsf_add_pool(tlsf, last - 8, 80) == NULL
+               && tlsf_add_pool(tlsf, last - 8, 64) != NULL && tlsf_check(tlsf) == 0,
+           "pools of 4 GiB in all, and not 16 bytes more");
+    expect(tlsf_malloc(tlsf, 56) == last && tlsf_live_size(tlsf, last) == 56
+               && tlsf_block_size(last) == 56 && tlsf_check(tlsf) == 0,
+           "a block at the last places");
+    tlsf_free(tlsf, last);
+    expect(tlsf_live_size(tlsf, last) == 0 && tlsf_check(tlsf) == 0, "and it is freed");
 }
 
 /* A pool goes to the first range of places that has room for it, wherever its entry is. */
@@ -420,6 +480,62 @@ static void places_between(unsigned char *large)
     expect(tlsf_add_pool(tlsf, large + 2 * GIGABYTE, GREATEST_POOL) != NULL
                && tlsf_check(tlsf) == 0,
            "and one behind it");
+}
+
+/* Eight pools of 500 MiB, and each second one removed: four gaps of places, and some 96 MiB behind. A
+ * pool that is greater than a gap finds room where two gaps have become one. */
+static void places_removed(unsigned char *large)
+{
+    enum { MEGABYTE = 1 << 20 };
+    size_t each = (size_t)500 * MEGABYTE, more = (size_t)600 * MEGABYTE;
+    unsigned char *behind = large + 8 * each;
+    pool_t made[8];
+    bool all = true;
+    tlsf_t tlsf = tlsf_create(memory);
+    for (int k = 0; k < 8; k++) {
+        made[k] = tlsf_add_pool(tlsf, large + k * each + 8, each);
+        all = all && made[k] != NULL;
+    }
+    expect(all && tlsf_add_pool(tlsf, behind + 8, 64) == NULL, "eight pools of 500 MiB");
+    for (int k = 0; k < 8; k += 2) {
+        tlsf_remove_pool(tlsf, made[k]);
+    }
+    expect(tlsf_add_pool(tlsf, behind + 8, more) == NULL && tlsf_check(tlsf) == 0,
+           "with each second one removed, one of 600 MiB is refused");
+    pool_t same = tlsf_add_pool(tlsf, behind + 8, each);
+    expect(same != NULL, "one of 500 MiB isn't");
+    tlsf_remove_pool(tlsf, same);
+    tlsf_remove_pool(tlsf, made[3]);
+    same = tlsf_add_pool(tlsf, behind + 8, more);
+    expect(same != NULL && tlsf_check(tlsf) == 0,
+           "nor one of 600 MiB, where two gaps have become one");
+    tlsf_remove_pool(tlsf, tlsf_get_pool(tlsf) == same ? same : NULL);
+    expect(tlsf_get_pool(tlsf) == NULL && tlsf_add_pool(tlsf, large + 8, 1000) != NULL
+               && tlsf_get_pool(tlsf) != NULL,
+           "its entry is the next pool's");
+}
+
+/* The places below all pools are taken, too, where another pool has the entry of the one before. */
+static void places_below(unsigned char *large)
+{
+    enum { MEGABYTE = 1 << 20 };
+    static const size_t sizes[] = {500, 1000, 1000, 1000, 580};
+    size_t at = 0;
+    bool all = true;
+    tlsf_t tlsf = tlsf_create(memory);
+    for (int k = 0; k < 5; k++) {
+        pool_t pool = tlsf_add_pool(tlsf, large + at * MEGABYTE + 8, sizes[k] * MEGABYTE);
+        all = all && pool != NULL;
+        if (k == 2) {
+            tlsf_remove_pool(tlsf, tlsf_get_pool(tlsf));
+        }
+        at += sizes[k];
+    }
+    expect(all && tlsf_get_pool(tlsf) != NULL
+               && tlsf_add_pool(tlsf, large + 8, (size_t)500 * MEGABYTE) != NULL
+               && tlsf_add_pool(tlsf, large + at * MEGABYTE + 8, (size_t)50 * MEGABYTE) == NULL
+               && tlsf_check(tlsf) == 0,
+           "a pool in the places below all others");
 }
 
 static void pools(void)
@@ -515,7 +631,8 @@ static void old_pointers(void)
     void *two = tlsf_malloc(tlsf, 100), *behind = tlsf_malloc(tlsf, 100);
     unsigned char kept[8];
     void *moved = tlsf_realloc(tlsf, two, 3000);
-    expect(behind != NULL && moved != NULL && moved != two && refuses(tlsf, two),
+    expect(behind != NULL && moved != NULL && moved != two && refuses(tlsf, two)
+               && tlsf_block_size(two) == 0 && tlsf_live_size(tlsf, two) == 0,
            "one that a realloc moved");
     void *aligned = tlsf_memalign(tlsf, 1024, 50);
     tlsf_free(tlsf, aligned);
@@ -528,6 +645,57 @@ static void old_pointers(void)
            "one with a changed byte in front of it, and the check tells it");
     memcpy((unsigned char *)moved - 8, kept, 8);
     expect(tlsf_check(tlsf) == 0 && tlsf_block_size(moved) == 3000, "whole again");
+}
+
+/* Writes at a place the front that a live block would have there: its own, with the distance added. */
+static void forge_front(unsigned char *at, const unsigned char *live)
+{
+    uint64_t front;
+    memcpy(&front, live - 8, 8);
+    front += (uint64_t)(at - live);
+    memcpy(at - 8, &front, 8);
+}
+
+/* A whole front where no block begins. tlsf_block_size gets no heap, and looks at no more than it. */
+static void forged_fronts(void)
+{
+    tlsf_t tlsf = tlsf_create_with_pool(memory, sizeof memory),
+           other = tlsf_create_with_pool(other_memory, sizeof other_memory);
+    unsigned char *one = (unsigned char *)tlsf_malloc(tlsf, 1000),
+                  *far = (unsigned char *)tlsf_malloc(other, 1000);
+    bool good = true;
+    for (size_t skip = 8; skip <= 900; skip += 8) {
+        forge_front(one + skip, one);
+        forge_front(far + skip, one);
+        good = good && refuses(tlsf, one + skip) && tlsf_live_size(tlsf, one + skip) == 0
+               && refuses(other, far + skip) && tlsf_live_size(other, far + skip) == 0
+               && refuses(tlsf, far + skip)
+               && tlsf_block_size(one + skip) == (skip % 16 == 0 ? 1000 : 0);
+    }
+    expect(good && tlsf_live_size(tlsf, one) == 1000 && tlsf_live_size(other, far) == 1000,
+           "a whole front where no block begins is of no block");
+}
+
+/* A front of the block before it became smaller, and one of another block of its size: the check
+ * tells each. */
+static void other_fronts(void)
+{
+    tlsf_t tlsf = tlsf_create_with_pool(memory, sizeof memory);
+    unsigned char *one = (unsigned char *)tlsf_malloc(tlsf, 200),
+                  *two = (unsigned char *)tlsf_malloc(tlsf, 104), before[8], now[8];
+    memcpy(before, one - 8, 8);
+    bool good = tlsf_realloc(tlsf, one, 104) == one && tlsf_check(tlsf) == 0;
+    memcpy(now, one - 8, 8);
+    memcpy(one - 8, before, 8);
+    expect(good && tlsf_check(tlsf) == -1 && tlsf_check_pool(tlsf_get_pool(tlsf)) == -1,
+           "a front with another size is told");
+    forge_front(one, two);
+    expect(tlsf_check(tlsf) == -1 && tlsf_live_size(tlsf, one) == 0 && tlsf_block_size(one) == 104,
+           "so is one with another slot");
+    tlsf_free(tlsf, one);
+    memcpy(one - 8, now, 8);
+    expect(tlsf_check(tlsf) == 0 && tlsf_live_size(tlsf, one) == 104 && tlsf_live_size(tlsf, two) == 104,
+           "and both blocks are kept");
 }
 
 /* Each byte of a front, in each way: the check tells it, no call takes the pointer for its block, and
@@ -649,6 +817,38 @@ static void refused_requests(void)
     expect(tlsf_malloc(NULL, 1) == NULL && told.calls == 0, "no heap tells nothing");
 }
 
+/* A realloc that has to move, and a tight fit, each without a record for the rest. */
+static void refused_once(void)
+{
+    struct told told = {TLSF_REFUSALS, NULL, 0, 0}, other = told;
+    tlsf_t tlsf = tlsf_create_records(memory, 32768, 3);
+    void *one = tlsf_malloc(tlsf, 100), *two = tlsf_malloc(tlsf, 100);
+    tlsf_set_refusal_hook(tlsf, tell, &told);
+    bool good = two != NULL && tlsf_realloc(tlsf, one, 200) == NULL
+                && was_told(&told, 1, TLSF_REFUSED_TABLE_FULL, one, 200);
+    expect(good && refused(tlsf, TLSF_REFUSED_TABLE_FULL) == 1
+               && refused(tlsf, TLSF_REFUSED_NO_FIT) == 0 && tlsf_live_size(tlsf, one) == 104,
+           "a realloc without a record is told once: table full");
+    tlsf_set_refusal_hook(tlsf, tell, &other);
+    good = tlsf_malloc(tlsf, 40000) == NULL && told.calls == 0
+           && was_told(&other, 1, TLSF_REFUSED_NO_FIT, NULL, 40000);
+    expect(good, "a hook that is set anew gets the new user");
+    tlsf = tlsf_create_records(memory, control_bytes(1), 1);
+    tlsf_add_pool(tlsf, other_memory, 2080 + 16);
+    tlsf_set_refusal_hook(tlsf, tell, &told);
+    good = tlsf_malloc(tlsf, 2072) == NULL
+           && was_told(&told, 1, TLSF_REFUSED_TABLE_FULL, NULL, 2072);
+    expect(good && refused(tlsf, TLSF_REFUSED_TABLE_FULL) == 1
+               && refused(tlsf, TLSF_REFUSED_NO_FIT) == 0,
+           "a block of the class below without a record is told: table full");
+    tlsf = tlsf_create_records(memory, control_bytes(2), 2);
+    tlsf_add_pool(tlsf, other_memory, 2080 + 16);
+    tlsf_set_refusal_hook(tlsf, tell, &told);
+    expect(tlsf_malloc(tlsf, 2073) == NULL && was_told(&told, 1, TLSF_REFUSED_NO_FIT, NULL, 2073)
+               && refused(tlsf, TLSF_REFUSED_TABLE_FULL) == 0,
+           "and one that is too small, with a record: no fit");
+}
+
 /* A free and a realloc of a pointer, each refused as this. */
 static bool both_tell(tlsf_t tlsf, struct told *told, enum tlsf_refusal what, void *ptr)
 {
@@ -736,6 +936,115 @@ static void forgotten_pools(void)
     expect(one != NULL && tlsf_get_pool(tlsf) == NULL && tlsf_malloc(tlsf, 100) == NULL
                && tlsf_memalign(tlsf, 64, 100) == NULL && tlsf_realloc(tlsf, one, 2000) == NULL,
            "where the pools are forgotten no block is handed out");
+    expect(tlsf_check(tlsf) == -1, "and the check tells it");
+}
+
+/* The bytes of the control part, without what is in front of the table. */
+static size_t control_part(void) { return tlsf_size_records(0) - 8 - 1696; }
+
+/* Each byte of the control part in turn, with each other value. The check of one pool doesn't tell
+ * two numbers of the control part, the live blocks and their bytes. */
+static void each_byte_of_control(tlsf_t tlsf, const pool_t pools[3])
+{
+    size_t told = 0, of_pool[3] = {0}, changes = 255 * control_part();
+    for (size_t k = 0; k < changes; k++) {
+        unsigned char *at = (unsigned char *)tlsf + k / 255, change = (unsigned char)(1 + k % 255);
+        *at ^= change;
+        told += tlsf_check(tlsf) < 0;
+        for (int pool = 0; pool < 3; pool++) {
+            of_pool[pool] += tlsf_check_pool(pools[pool]) < 0;
+        }
+        *at ^= change;
+    }
+    expect(told == changes, "each byte of the control part, changed to each other value, is told");
+    expect(of_pool[0] == changes - 255 * 16 && of_pool[1] == of_pool[0] && of_pool[2] == of_pool[0],
+           "and by the check of a pool, but for two figures");
+}
+
+/* Pieces of the control part are overwritten, or copied over others. */
+static void pieces_of_control(tlsf_t tlsf)
+{
+    unsigned char kept[512], *control = (unsigned char *)tlsf;
+    bool told = true;
+    memcpy(kept, control, control_part());
+    for (size_t at = 0; at < control_part(); at += 8) {
+        for (size_t bytes = 8; bytes <= 64 && at + bytes <= control_part(); bytes += 8) {
+            memset(control + at, (int)at + 1, bytes);
+            told = told && tlsf_check(tlsf) < 0;
+            memcpy(control, kept, control_part());
+        }
+        for (size_t from = 0; from + 32 <= control_part() && at + 32 <= control_part(); from += 8) {
+            memcpy(control + at, kept + from, 32);
+            bool same = memcmp(control, kept, control_part()) == 0;
+            told = told && (tlsf_check(tlsf) == 0) == same;
+            memcpy(control, kept, control_part());
+        }
+    }
+    expect(told, "pieces of it that are overwritten or copied are told");
+}
+
+/* An entry behind the eight, which says that it is the hundredth: its last four bytes are its number. */
+static void ninth_pool(void)
+{
+    uint32_t number = 100;
+    tlsf_t tlsf = tlsf_create_records(memory, tlsf_size_records(12), 12);
+    pool_t first = tlsf_add_pool(tlsf, other_memory, 2048);
+    unsigned char *entry = (unsigned char *)first + 32 * number;
+    memcpy(entry, first, 28);
+    memcpy(entry + 28, &number, 4);
+    expect(tlsf_check_pool(first) == 0 && tlsf_check_pool(entry) == -1 && has(entry, 0, 0),
+           "an entry that isn't of the eight is no pool");
+}
+
+/* A whole table, but of before: what the control part has since then the check misses there. */
+static void table_of_before(void)
+{
+    unsigned char kept[4096], *table = memory + control_part();
+    size_t bytes = tlsf_size_records(12) - control_part();
+    tlsf_t tlsf = tlsf_create_records(memory, tlsf_size_records(12), 12);
+    pool_t first = tlsf_add_pool(tlsf, other_memory, 2048);
+    void *one = tlsf_malloc(tlsf, 100);
+    memcpy(kept, table, bytes);
+    pool_t second = tlsf_add_pool(tlsf, other_memory + 4096, 2048);
+    expect(tlsf_check(tlsf) == 0 && tlsf_check_pool(second) == 0, "a pool is added");
+    memcpy(table, kept, bytes);
+    expect(tlsf_check(tlsf) < 0 && tlsf_check_pool(second) < 0 && tlsf_check_pool(first) == 0,
+           "one that the table doesn't have is told");
+    tlsf = tlsf_create_records(memory, tlsf_size_records(12), 12);
+    first = tlsf_add_pool(tlsf, other_memory, 2048);
+    memcpy(kept, table, bytes);
+    tlsf_remove_pool(tlsf, first);
+    first = tlsf_add_pool(tlsf, other_memory, 1024);
+    memcpy(table, kept, bytes);
+    expect(tlsf_check(tlsf) < 0 && tlsf_check_pool(first) < 0, "so is one that is longer there");
+    tlsf = tlsf_create_records(memory, tlsf_size_records(12), 12);
+    first = tlsf_add_pool(tlsf, other_memory, 2048);
+    memcpy(kept, table, bytes);
+    one = tlsf_malloc(tlsf, 100);
+    expect(one != NULL && tlsf_check(tlsf) == 0, "a block is live");
+    memcpy(table, kept, bytes);
+    expect(tlsf_check(tlsf) < 0 && tlsf_check_pool(first) == 0, "one that isn't there is missed");
+}
+
+static void spoiled_control(void)
+{
+    struct told told = {TLSF_REFUSALS, NULL, 0, 0};
+    tlsf_t tlsf = tlsf_create_records(memory, tlsf_size_records(12), 12);
+    pool_t pools[3];
+    for (int k = 0; k < 3; k++) {
+        pools[k] = tlsf_add_pool(tlsf, other_memory + 4096 * k + 8 * k, 2048);
+    }
+    void *one = tlsf_malloc(tlsf, 1500), *two = tlsf_malloc(tlsf, 1600), *three = tlsf_malloc(tlsf, 100);
+    tlsf_set_refusal_hook(tlsf, tell, &told);
+    tlsf_free(tlsf, one);
+    tlsf_free(tlsf, one);
+    expect(two != NULL && three != NULL && tlsf_malloc(tlsf, 4000) == NULL && told.calls == 2
+               && tlsf_check(tlsf) == 0,
+           "a heap that was in use is whole");
+    each_byte_of_control(tlsf, pools);
+    pieces_of_control(tlsf);
+    expect(tlsf_check(tlsf) == 0 && tlsf_malloc(tlsf, 100) != NULL && tlsf_check(tlsf) == 0,
+           "and with its bytes as they were it is whole");
 }
 
 static void free_block(void *ptr, size_t size, int used, void *user)
@@ -752,11 +1061,15 @@ struct ending {
     pool_t pool;
     size_t calls, ends_at;
     bool whole;
+    unsigned char *behind; /* where the last block ended, with the next one's front */
+    bool in_order;
 };
 
 static void end_all(void *ptr, size_t size, int used, void *user)
 {
     struct ending *ending = (struct ending *)user;
+    ending->in_order = ending->in_order && (ending->behind == NULL || ptr == ending->behind);
+    ending->behind = (unsigned char *)ptr + size + 8;
     if (++ending->calls > ending->ends_at) {
         return;
     }
@@ -776,10 +1089,10 @@ static void walks_that_end(void)
         for (int k = 0; k < 100; k++) {
             tlsf_malloc(tlsf, 100);
         }
-        struct ending ending = {tlsf, tlsf_get_pool(tlsf), 0, whole ? 3 : 101, whole};
+        struct ending ending = {tlsf, tlsf_get_pool(tlsf), 0, whole ? 3 : 101, whole, NULL, true};
         tlsf_walk_pool(ending.pool, end_all, &ending);
-        expect(ending.calls == (whole ? 64 : 101) && tlsf_get_pool(tlsf) == NULL
-                   && has(ending.pool, 0, 0),
+        expect(ending.calls == (whole ? 64 : 101) && ending.in_order
+                   && tlsf_get_pool(tlsf) == NULL && has(ending.pool, 0, 0),
                whole ? "a walker may end the heap" : "a walker may end the pool");
     }
 }
@@ -801,9 +1114,74 @@ static void walks_that_grow(void)
     for (int k = 0; k < 64; k++) {
         tlsf_malloc(tlsf, 64);
     }
-    struct ending ending = {tlsf, NULL, 0, 10, false};
+    struct ending ending = {tlsf, NULL, 0, 10, false, NULL, true};
     tlsf_walk_pool(tlsf_get_pool(tlsf), grow_next, &ending);
     expect(ending.calls == 74 && tlsf_check(tlsf) == 0, "a walker may allocate");
+}
+
+/* No call takes this for a heap, or its entry for a pool: it is a copy of a heap that has a block. */
+static bool is_none(unsigned char *copy, tlsf_t heap, void *one)
+{
+    size_t bytes = tlsf_size_records(8);
+    tlsf_figures figures;
+    pool_t pool = copy + ((unsigned char *)tlsf_get_pool(heap) - (unsigned char *)heap);
+    struct told told = {TLSF_REFUSALS, NULL, 0, 0};
+    bool good = tlsf_check(copy) == -1 && tlsf_malloc(copy, 1) == NULL
+                && tlsf_memalign(copy, 64, 1) == NULL && tlsf_realloc(copy, one, 300) == NULL
+                && tlsf_realloc(copy, one, 0) == NULL && tlsf_live_size(copy, one) == 0
+                && tlsf_stats(copy, &figures) == -1 && tlsf_get_pool(copy) == NULL
+                && tlsf_check_pool(pool) == -1 && has(pool, 0, 0);
+    tlsf_free(copy, one);
+    tlsf_remove_pool(copy, tlsf_get_pool(heap));
+    tlsf_set_refusal_hook(copy, tell, &told);
+    good = good && tlsf_add_pool(copy, other_memory, 1000) == NULL
+           && tlsf_malloc(copy, SIZE_MAX) == NULL && told.calls == 0
+           && memcmp(copy, heap, bytes) == 0;
+    tlsf_destroy(copy);
+    return good && memcmp(copy, heap, bytes) == 0 && tlsf_live_size(heap, one) == 104
+           && tlsf_check(heap) == 0;
+}
+
+/* Copies near and far, up to 4 GiB behind the heap. A near one lies over the heap, which has moved. */
+static void copies(unsigned char *large)
+{
+    static const size_t near[] = {8, 16, 32, 64, 224, 256, 400};
+    static const size_t far[] = {2400, 4096, 65536, 1 << 24, GIGABYTE, 2 * GIGABYTE, 4 * GIGABYTE};
+    bool none = true;
+    for (size_t k = 0; k < sizeof near / sizeof near[0] + sizeof far / sizeof far[0]; k++) {
+        bool is_far = k >= sizeof near / sizeof near[0];
+        unsigned char *copy = large + (is_far ? far[k - sizeof near / sizeof near[0]] : near[k]);
+        tlsf_t tlsf = tlsf_create_records(large, tlsf_size_records(8), 8);
+        tlsf_add_pool(tlsf, memory, 4096);
+        void *one = tlsf_malloc(tlsf, 100);
+        memmove(copy, large, tlsf_size_records(8));
+        none = none && (is_far ? is_none(copy, tlsf, one) : tlsf_check(copy) == -1)
+               && tlsf_malloc(copy, 1) == NULL && tlsf_get_pool(copy) == NULL;
+        memset(copy, 0, tlsf_size_records(8));
+    }
+    expect(none, "a copy of a heap is none, near or far");
+}
+
+static void shrink_last(void *ptr, size_t size, int used, void *user)
+{
+    struct ending *ending = (struct ending *)user;
+    (void)size;
+    if (++ending->calls == ending->ends_at && used) {
+        tlsf_realloc(ending->tlsf, ptr, 20);
+    }
+}
+
+/* The last block of a piece becomes smaller. The next piece begins at its end of before, and so
+ * behind the free block that is left of it. */
+static void walks_that_shrink(void)
+{
+    tlsf_t tlsf = tlsf_create_with_pool(memory, sizeof memory);
+    for (int k = 0; k < 100; k++) {
+        tlsf_malloc(tlsf, 100);
+    }
+    struct ending ending = {tlsf, NULL, 0, 64, false, NULL, true};
+    tlsf_walk_pool(tlsf_get_pool(tlsf), shrink_last, &ending);
+    expect(ending.calls == 101 && has(tlsf_get_pool(tlsf), 100, 2), "a walker may make a block smaller");
 }
 
 static void ends(void)
@@ -837,7 +1215,7 @@ static void ends(void)
 
 int main(void)
 {
-    size_t room = 4 * GIGABYTE + 8192;
+    size_t room = 5 * GIGABYTE;
     exact_memory();
     creates();
     records();
@@ -845,7 +1223,7 @@ int main(void)
     limits();
     unsigned char *large = (unsigned char *)mmap(
         NULL, room, PROT_READ | PROT_WRITE, MAP_PRIVATE | MAP_ANONYMOUS | MAP_NORESERVE, -1, 0);
-    expect((void *)large != MAP_FAILED, "4 GiB of addresses");
+    expect((void *)large != MAP_FAILED, "5 GiB of addresses");
     if ((void *)large != MAP_FAILED) {
         overheads(large);
         alignments(large);
@@ -853,22 +1231,34 @@ int main(void)
         first_place(large);
         greatest(large);
         places(large);
+        all_places(large);
         places_between(large);
+        places_removed(large);
+        places_below(large);
+        copies(large);
         munmap(large, room);
     }
     tight_fits();
     pools();
     side_by_side();
+    own_memory();
     pointers();
     old_pointers();
+    forged_fronts();
+    other_fronts();
     each_byte_in_front();
     overruns();
     refused_requests();
+    refused_once();
     refused_pointers();
     figures();
     forgotten_pools();
+    spoiled_control();
+    table_of_before();
+    ninth_pool();
     ends();
     walks_that_end();
     walks_that_grow();
+    walks_that_shrink();
     return cases_end();
 }

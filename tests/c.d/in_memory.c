@@ -132,6 +132,95 @@ static void other_refusals(void)
     tlsf_heap_destroy(&heap);
 }
 
+/* Behind a refused call this memory is the program's again: another call takes it, and one without
+ * memory asks malloc. */
+static void is_free_again(const char *what)
+{
+    tlsf_heap heap = {0}, other = {0};
+    start(0);
+    bool good = tlsf_heap_create(RECORDS, &heap) == TLSF_OK && takes == 2 && works(&heap);
+    tlsf_heap_destroy(&heap);
+    good = good && returns == 2 && tlsf_heap_load(image, sizeof image, &heap) == TLSF_OK
+           && takes == 4 && works(&heap);
+    tlsf_heap_destroy(&heap);
+    for (int loads = 0; loads <= 1; loads++) {
+        fill();
+        good = good && make(loads, memory + EDGE, TLSF_HEAP_TABLE_BYTES(RECORDS), &other) == TLSF_OK
+               && works(&other) && edges_stay(EDGE, TLSF_HEAP_TABLE_BYTES(RECORDS));
+        tlsf_heap_destroy(&other);
+    }
+    expect(good && takes == 4 && returns == 4, what);
+}
+
+static void after_refusals(void)
+{
+    const size_t bytes = TLSF_HEAP_TABLE_BYTES(RECORDS);
+    tlsf_heap heap = {0};
+    unsigned char *at = memory + EDGE;
+    bool refused = tlsf_heap_create_in(at, bytes, 0, &heap) == TLSF_BAD_COUNT;
+    is_free_again("no record, and the memory is free again");
+    refused = tlsf_heap_create_in(at, bytes, 65536, &heap) == TLSF_BAD_COUNT && refused;
+    is_free_again("too many records, and the memory is free again");
+    refused = tlsf_heap_create_in(at, bytes - 1, RECORDS, &heap) == TLSF_BAD_MEMORY && refused;
+    is_free_again("memory for one piece, and it is free again");
+    refused = tlsf_heap_load_in(at, bytes - 1, image, sizeof image, &heap) == TLSF_BAD_MEMORY && refused;
+    is_free_again("memory for one piece of an image's heap, and it is free again");
+    refused = tlsf_heap_create_in(NULL, bytes, RECORDS, &heap) == TLSF_BAD_MEMORY && refused;
+    is_free_again("no memory, and the next is taken");
+    refused = tlsf_heap_load_in(at, bytes, image, sizeof image - 1, &heap) == TLSF_BROKEN_LENGTH && refused;
+    is_free_again("a broken image, and the memory is free again");
+    expect(refused && heap.at == NULL, "each was refused");
+}
+
+/* An image that is broken at this byte, over no memory, or over too little. */
+static bool is_told_as(size_t at, uint32_t wanted)
+{
+    tlsf_heap heap = {0};
+    image[at] ^= 1;
+    bool told = tlsf_heap_load_in(NULL, 0, image, sizeof image, &heap) == wanted
+                && tlsf_heap_load_in(NULL, sizeof memory, image, sizeof image, &heap) == wanted
+                && tlsf_heap_load_in(memory, 0, image, sizeof image, &heap) == wanted
+                && tlsf_heap_load_in(memory + 1, sizeof memory, image, sizeof image, &heap) == wanted;
+    image[at] ^= 1;
+    return told && heap.at == NULL;
+}
+
+/* The rules come before the memory. The image is of a heap without pools: its first words are the
+ * magic, the number of records and that of pools. */
+static void broken_without_memory(void)
+{
+    tlsf_heap heap = {0};
+    start(0);
+    expect(is_told_as(0, TLSF_BROKEN_MAGIC) && is_told_as(7, TLSF_BROKEN_MAGIC),
+           "load_in at a null pointer of bytes that are no image: broken magic");
+    expect(is_told_as(8, TLSF_BROKEN_LENGTH), "and of one with another number of records: broken length");
+    expect(tlsf_heap_load_in(NULL, 0, image, 0, &heap) == TLSF_BROKEN_MAGIC && takes == 0,
+           "and of no byte: broken magic");
+    expect(is_told_as(sizeof image - 16, TLSF_BROKEN_STATES),
+           "and of one with a vacant record that isn't zero: broken states");
+}
+
+/* The function that the library calls, beside what it never asks for. */
+static void beyond_all(void)
+{
+    bool refused = true;
+    start(0);
+    for (size_t less = 0; less <= 30; less++) {
+        struct rattle_tried none = rattle_alloc(SIZE_MAX - less, 16), odd = rattle_alloc(less, 32);
+        refused = refused && !none.ok && none.p != NULL && !odd.ok && odd.p != NULL;
+    }
+    expect(refused && takes == 0, "rattle_alloc of some 2^64 bytes, or at an alignment above 16");
+    bool served = true;
+    start(0);
+    for (size_t bytes = 0; bytes < 100; bytes++) {
+        struct rattle_tried some = rattle_alloc(bytes, 1u << bytes % 5);
+        served = served && some.ok && (uintptr_t)some.p % 16 == 0;
+        memset(some.p, 0xff, bytes);
+        rattle_dealloc(some.p);
+    }
+    expect(served && takes == 100 && returns == 100, "of 0 to 99 bytes, at each alignment up to 16");
+}
+
 /* A heap of malloc's memory asks for what the header tells, and each refusal is answered. */
 static void of_malloc(void)
 {
@@ -313,6 +402,9 @@ int main(void)
     at_its_bytes(false);
     at_its_bytes(true);
     other_refusals();
+    after_refusals();
+    broken_without_memory();
+    beyond_all();
     of_malloc();
     ends();
     side_by_side();

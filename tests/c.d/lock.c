@@ -14,7 +14,7 @@ enum { THREADS = 4, STEPS = 20000, HELD = 40 };
 static _Alignas(16) unsigned char memory[1 << 18], more[1 << 14], last[4096];
 static pthread_mutex_t lock;
 static size_t takes;
-static bool wrong;
+static bool wrong, is_held;
 static tlsf_t heap;
 
 void take_lock(void *tlsf)
@@ -22,11 +22,13 @@ void take_lock(void *tlsf)
     wrong = pthread_mutex_lock(&lock) != 0 || wrong;
     wrong = tlsf != heap || wrong;
     takes++;
+    is_held = true;
 }
 
 void give_lock(void *tlsf)
 {
     wrong = tlsf != heap || wrong;
+    is_held = false;
     if (pthread_mutex_unlock(&lock) != 0) {
         wrong = true;
     }
@@ -124,6 +126,58 @@ static bool took(size_t times)
     return good;
 }
 
+/* What a walker or a hook saw of the lock. */
+struct seen {
+    size_t calls, held;
+    void *kept;
+};
+
+static void look(struct seen *seen)
+{
+    seen->calls++;
+    seen->held += is_held;
+}
+
+/* A walker may call the heap: each call takes the lock, and gives it back. */
+static void look_and_call(void *ptr, size_t size, int used, void *user)
+{
+    struct seen *seen = (struct seen *)user;
+    (void)size;
+    look(seen);
+    if (used && ptr != seen->kept) {
+        tlsf_free(heap, ptr);
+    }
+    look(seen);
+}
+
+static void look_in_hook(enum tlsf_refusal what, const void *ptr, size_t bytes, void *user)
+{
+    (void)what, (void)ptr, (void)bytes;
+    look((struct seen *)user);
+}
+
+/* A walker runs without the lock, and a hook with it. */
+static void callbacks(void)
+{
+    struct seen walker = {0, 0, NULL}, hook = {0, 0, NULL};
+    tlsf_create_with_pool(heap, sizeof memory);
+    for (int k = 0; k < 200; k++) {
+        walker.kept = tlsf_malloc(heap, 16);
+    }
+    size_t before = takes;
+    tlsf_walk_pool(tlsf_get_pool(heap), look_and_call, &walker);
+    expect(walker.calls >= 2 * 200 && walker.held == 0 && !wrong && takes > before + 199,
+           "a walker runs without the lock, and may call the heap");
+    tlsf_set_refusal_hook(heap, look_in_hook, &hook);
+    void *one = walker.kept;
+    bool good = tlsf_malloc(heap, SIZE_MAX) == NULL && tlsf_memalign(heap, 3, 1) == NULL
+                && tlsf_realloc(heap, one, SIZE_MAX) == NULL;
+    tlsf_free(heap, one);
+    tlsf_free(heap, one);
+    expect(good && hook.calls == 4 && hook.held == 4 && !is_held && !wrong,
+           "a hook runs with the lock");
+}
+
 /* Each call takes the lock once. */
 static void each_call(void)
 {
@@ -180,5 +234,6 @@ int main(void)
            && figures.refusals[TLSF_REFUSED_POINTER] == 0 && tlsf_check(heap) == 0;
     expect(good, "and all is given back");
     each_call();
+    callbacks();
     return cases_end();
 }

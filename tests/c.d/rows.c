@@ -321,6 +321,11 @@ static void helpers(void)
     expect(refused, "the block at an address inside another is none");
     tlsf_heap_block back = tlsf_heap_block_at(bytes, at, block.slot);
     expect(back.place == block.place && tlsf_heap_free(&heap, back) == TLSF_OK, "and the block at an address");
+    tlsf_heap_block last = {4294967280u, 7}, there;
+    there = tlsf_heap_block_at(NULL, (void *)(uintptr_t)last.place, last.slot);
+    expect((uintptr_t)tlsf_heap_address((void *)65536, last) == 65536 + (uintptr_t)last.place
+               && there.place == last.place && there.slot == 7,
+           "the address of the last place, and its block");
     expect(strcmp(tlsf_heap_status_name(TLSF_TABLE_FULL), "table full") == 0, "the name of a status");
     expect(strcmp(tlsf_heap_status_name(12), "unknown") == 0, "of none");
     end();

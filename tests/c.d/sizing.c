@@ -172,6 +172,35 @@ static bool is_served(unsigned char *memory)
     return served;
 }
 
+/* The pool of a heap in just tlsf_sure_bytes has the bytes that the law of a sure pool asks for, and
+ * at most a unit more. A block has 8 bytes in front, which take it to the next unit at most. */
+static bool has_sure_pool(unsigned char *memory)
+{
+    tlsf_figures figures;
+    uint32_t blocks = (uint32_t)below(300);
+    size_t largest = 1 + below(30000), bytes = 16 * below(200000);
+    uint64_t class_size = wanted_class_size(1, largest + 8);
+    uint64_t pool = bytes + 16 * (uint64_t)blocks + (blocks + 1) * (class_size - 16) + 16;
+    tlsf_t tlsf = tlsf_create_records(memory + 8 * below(2), tlsf_sure_bytes(blocks, bytes, largest),
+                                      2 * blocks + 3);
+    bool good = tlsf_stats(tlsf, &figures) == 0 && figures.bytes_free >= pool
+                && figures.bytes_free <= pool + 16 && figures.records == 2 * blocks + 3;
+    tlsf_destroy(tlsf);
+    return good;
+}
+
+static void sure_bytes(void)
+{
+    size_t room = (size_t)16 << 20;
+    unsigned char *memory = (unsigned char *)malloc(room);
+    bool good = memory != NULL && tlsf_sure_bytes(299, 3200000, 30000) < room - 8;
+    for (int k = 0; good && k < VALUES / 10; k++) {
+        good = has_sure_pool(memory);
+    }
+    expect(good, "the pools of 10,000 heaps in tlsf_sure_bytes are sure ones");
+    free(memory);
+}
+
 /* Every second of as many small blocks as there may be is freed, and a large one is asked for. */
 static bool is_served_in_holes(unsigned char *memory, uint32_t blocks, size_t small, size_t large)
 {
@@ -217,5 +246,6 @@ int main(void)
     sure_pools();
     bound_is_exact();
     programs();
+    sure_bytes();
     return cases_end();
 }
