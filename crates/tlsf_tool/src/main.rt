@@ -172,13 +172,13 @@ fn save<R: Read + Drop>(
     if run.is_output(number) {
         return Err(ToolFault::ImageIsOutput(image));
     }
+    let mut writer = run.output()?;
     let mut file = match run.make_image(image.as_str()) {
         Ok(file) => file,
         Err(error) => return Err(image_fault(&error, image)),
     };
     let mut reader = run.reader(log.file);
     let mut errors = run.errors();
-    let mut writer = run.output()?;
     let mut sink = run.image(&mut file);
     let status = serve_save(
         run.rt.alloc(),
