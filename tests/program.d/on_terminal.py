@@ -14,8 +14,9 @@ from concurrent.futures import ThreadPoolExecutor
 from pathlib import Path
 
 PROGRAM, PRELOADED = sys.argv[1:3]
-NOTICE = rb"\r\x1b\[Ktlsf: (\d+) lines read(?:, \d+ of \d+ sizes tried)?"
-SIZES = rb"lines read, (\d+) of (\d+) sizes tried"
+NOTICE = rb"\r\x1b\[Ktlsf: (\d+) lines, \d+ kB read(?:, \d+ of \d+ sizes tried)?"
+KILOBYTES = rb" lines, (\d+) kB read"
+SIZES = rb" kB read, (\d+) of (\d+) sizes tried"
 PIECE = 4096
 
 # Five pieces of lines of several lengths: with no effect, and with a diagnostic each, which are
@@ -122,11 +123,12 @@ def wrong(case):
         errors = (folder / "stderr").read_bytes() if (folder / "stderr").exists() else b""
     told = [int(number) for number in re.findall(NOTICE, said)]
     cleared = len(re.findall(NOTICE + rb"(?=\r\x1b\[K)", said))
-    clears = len(re.findall(rb"\r\x1b\[K(?!tlsf: \d+ lines read)", said))
+    clears = len(re.findall(rb"\r\x1b\[K(?!tlsf: \d+ lines, \d+ kB read)", said))
     rest = re.sub(rb"\r\x1b\[K", b"", re.sub(NOTICE, b"", said))
     for what, is_so, wanted in (
         ("status", status, case["status"]),
         ("notices", told, case.get("told", [])),
+        ("kilobytes", [int(number) for number in re.findall(KILOBYTES, said)], case.get("kilobytes", [])),
         ("sizes", [(int(tried), int(all)) for tried, all in re.findall(SIZES, said)], case.get("sizes", [])),
         ("notices cleared", cleared, len(told)),
         ("clears without a notice", max(clears - len(told), 0), 0),
@@ -141,7 +143,8 @@ def wrong(case):
 
 def slow(text, **more):
     """A run in which the second and the fourth read wait."""
-    return {"text": text, "how": {"IO_WAIT": "2,4"}, "told": [lines_in(text, 2), lines_in(text, 4)], **more}
+    told = [lines_in(text, 2), lines_in(text, 4)]
+    return {"text": text, "how": {"IO_WAIT": "2,4"}, "told": told, "kilobytes": [2 * PIECE // 1000, 4 * PIECE // 1000], **more}
 
 
 def served(word, text, noted, **more):
@@ -163,14 +166,25 @@ def slow_cases():
     yield "sizes of a slow file", {
         "word": "fit", "log": "file", "text": QUIET, "status": 0, "how": {"IO_WAIT": "2,13"}, "sizes": [(1, 2)],
         "told": [lines_in(QUIET, 2), 2 * QUIET.count(b"\n") + lines_in(QUIET, 2)],
+        "kilobytes": [2 * PIECE // 1000, (2 * len(QUIET) + 2 * PIECE) // 1000],
         "written": b"peak: 0 bytes at line 0\nheld at most: 0 blocks\nrecords: 3\ntable: 1744 bytes\n"
         b"least pool: 16 bytes\nsafe pool: 16 bytes\nsizes tried: 2, 0 refused\nsure pool: 16 bytes\n"}
     # 201 sizes, with one read each behind two of the first reading: 150 are tried at the read of the next one.
     yield "150 sizes of a slow file", {
         "word": "fit", "options": ["--step", "16"], "log": "file", "text": b"+ 0x10 0xc80\n", "status": 1, "how": {"IO_WAIT": "153"},
-        "sizes": [(150, 201)], "told": [152],
+        "sizes": [(150, 201)], "told": [152], "kilobytes": [152 * len(b"+ 0x10 0xc80\n") // 1000],
         "written": b"peak: 3200 bytes at line 1\nheld at most: 1 blocks\nrecords: 5\ntable: 1776 bytes\n"
         b"least pool: 3200 bytes\nsafe pool: 3200 bytes\nsizes tried: 201, 0 refused\nsure pool: 9584 bytes\n"}
+    # Two sizes are tried first, and one in each range behind: 6 of the 7 in the first six ranges, when the next one is read. The log is
+    # read twice at first, and once for each size, up to the line refused.
+    yield "sizes in range after range", {
+        "word": "fit", "options": ["--step", "16"], "log": "file", "text": b"* 0x10 0x1000 0x10\n", "status": 1, "how": {"IO_WAIT": "9"},
+        "sizes": [(6, 7)], "told": [8], "kilobytes": [0],
+        "written": b"peak: 16 bytes at line 1\nheld at most: 1 blocks\nrecords: 5\ntable: 1776 bytes\n"
+        b"least pool: 4096 bytes\nsafe pool: 4096 bytes\nsizes tried: 9, 8 refused\nsure pool: 8192 bytes\n"}
+    # A line without an end is told by its bytes.
+    yield "a line without an end", slow(
+        b"= Start\n" + bytes(5 * PIECE - 100), word="leaks", log="file", status=1, written=b"line 2: too long\nNo memory leaks.\n")
     yield "a slow log with diagnostics", served("leaks", LOUD, diagnostics(LOUD), log="file")
     yield "a slow log with diagnostics, saved", served("save", LOUD, diagnostics(LOUD), log="fifo")
     for word in ONCE:
@@ -186,7 +200,8 @@ def quiet_cases():
             "word": word, "log": "typed", "text": typed, "status": 1, "written": noted + REPORTS[word], "how": {"IO_WAIT": "2,3"}}
     for log in ("file", "fifo", "pipe", "-"):
         yield f"a quick {log}", {"word": "leaks", "log": log, "text": LOUD, "status": 1, "written": diagnostics(LOUD) + REPORTS["leaks"]}
-    yield "standard error in a file", {**served("leaks", QUIET, b"", log="file", stdout="terminal", stderr="file"), "told": []}
+    yield "standard error in a file", {
+        **served("leaks", QUIET, b"", log="file", stdout="terminal", stderr="file"), "told": [], "kilobytes": []}
     yield "a slow image", {
         "word": "check", "log": "file", "text": QUIET, "status": 1, "written": b"broken: V1\n", "how": {"IO_WAIT": "2,4"}}
 
@@ -195,11 +210,15 @@ def failing_cases():
     """A notice is cleared before the line of a fault."""
     for word in ("leaks", "save"):
         yield f"{word} of a log that breaks off", {
-            **slow(QUIET, word=word, log="file", status=3, on_terminal=b"tlsf: read failed\n"), "how": {"IO_WAIT": "2,4", "IO_FAIL_READ": "5"}}
+            **slow(QUIET, word=word, log="file", status=3, on_terminal=b"tlsf: read failed\ntlsf: file: Input/output error (os error 5)\n"),
+            "how": {"IO_WAIT": "2,4", "IO_FAIL_READ": "5"}}
         yield f"{word} of a log and a full disk", {
-            **slow(b"= Start\n" * 1024 + LOUD, word=word, log="file", status=3, on_terminal=b"tlsf: write failed\n", stdout="/dev/full"),
-            "told": [1024], "how": {"IO_WAIT": "2"}}
-    yield "an image on a full disk", slow(QUIET, word="save", log="file", image="/dev/full", status=3, on_terminal=b"tlsf: write failed\n")
+            **slow(b"= Start\n" * 1024 + LOUD, word=word, log="file", status=3, stdout="/dev/full",
+                   on_terminal=b"tlsf: write failed\ntlsf: standard output: No space left on device (os error 28)\n"),
+            "told": [1024], "kilobytes": [2 * PIECE // 1000], "how": {"IO_WAIT": "2"}}
+    yield "an image on a full disk", slow(
+        QUIET, word="save", log="file", image="/dev/full", status=3,
+        on_terminal=b"tlsf: write failed\ntlsf: /dev/full: No space left on device (os error 28)\n")
 
 
 def failures_of(cases):

@@ -24,7 +24,7 @@ use Rattle.tlsf_tool.specs.declared.asked.Rereading.TheVariants.{Sites, Timeline
 use Rattle.tlsf_tool.specs.declared.asked.Name.{Name}
 use Rattle.tlsf_tool.specs.declared.asked.Name.TheVariants.{Leaks, Peak, Walk}
 use Rattle.tlsf_tool.specs.declared.asked.ToolFault.{ToolFault}
-use Rattle.tlsf_tool.specs.declared.asked.ToolFault.TheVariants.{Help, Usage, CannotOpen, ReadsOnce, ReadsFileOnce, Run}
+use Rattle.tlsf_tool.specs.declared.asked.ToolFault.TheVariants.{Help, Usage, CannotOpen, InputIsOutput, ImageIsOutput, ReadsOnce, ReadsFileOnce, Run}
 use Rattle.tlsf_tool.specs.CommandLine.{IsArgOf, IsCommandOf, given_rule, AskFor, HasNumber, HasSettings, HasBounds, HasNoLog, MatchesAskFor, bare_line, report_line, great_line, timeline_line, fit_line, size_line, save_line, check_line, name_text, texts_of, tlsf_line, wrong_with}
 use Rattle.tlsf_tool.specs.Faults.{ExplainsKind, ExplainsWords, IsUsage}
 use Rattle.tlsf_tool.specs.Asks.{Asks, Picks}
@@ -207,7 +207,9 @@ pub no_memory_explained : (k : ErrorKind) (fault : ToolFault) → k ≡ kind.Out
 no_memory_explained k (Help text) is (inl help) = absurd (let e : kind.OutOfMemory ≡ kind.DisplayHelp = sym is ∙ help in cc)
 no_memory_explained k (Help text) is (inr version) = absurd (let e : kind.OutOfMemory ≡ kind.DisplayVersion = sym is ∙ version in cc)
 no_memory_explained k (Usage text) is explains = explains.2 is
-no_memory_explained k (CannotOpen log) is explains = explains
+no_memory_explained k (CannotOpen file) is explains = explains
+no_memory_explained k (InputIsOutput file) is explains = explains
+no_memory_explained k (ImageIsOutput file) is explains = explains
 no_memory_explained k ReadsOnce is explains = explains
 no_memory_explained k (ReadsFileOnce log) is explains = explains
 no_memory_explained k (Run fault) is explains = explains

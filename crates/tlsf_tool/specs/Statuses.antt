@@ -12,7 +12,7 @@ use Rattle.tlsf_tool.specs.declared.asked.Name.TheVariants.{Leaks, Peak, Walk}
 use Rattle.mtrace_replay.specs.declared.report.Report.{Report}
 use Rattle.mtrace_replay.specs.declared.report.Report.TheVariants as report
 use Rattle.tlsf_tool.specs.declared.asked.ToolFault.{ToolFault}
-use Rattle.tlsf_tool.specs.declared.asked.ToolFault.TheVariants.{Help, Usage, CannotOpen, ReadsOnce, ReadsFileOnce, Run}
+use Rattle.tlsf_tool.specs.declared.asked.ToolFault.TheVariants.{Help, Usage, CannotOpen, InputIsOutput, ImageIsOutput, ReadsOnce, ReadsFileOnce, Run}
 use Rattle.mtrace_replay.specs.declared.status.Status.{Status}
 use Rattle.mtrace_replay.specs.declared.status.Status.TheVariants.{Clean, Found}
 use Rattle.mtrace_replay.specs.declared.status.RunFault.{RunFault}
@@ -64,7 +64,9 @@ Rereads (Fit step) reads writes outcome reader_old reader_new writer_old writer_
 abbrev pub status_of_fault : ToolFault → ℕ
 status_of_fault (Help text) = 0
 status_of_fault (Usage text) = 2
-status_of_fault (CannotOpen log) = 3
+status_of_fault (CannotOpen file) = 3
+status_of_fault (InputIsOutput file) = 3
+status_of_fault (ImageIsOutput file) = 3
 status_of_fault ReadsOnce = 2
 status_of_fault (ReadsFileOnce log) = 2
 status_of_fault (Run fault) = status_of_run_fault fault

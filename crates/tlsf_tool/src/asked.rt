@@ -2,6 +2,7 @@ ghost use Rattle.std.specs.Prelude.{◌≡◌, ◌⊎◌};
 ghost use Rattle.tlsf_tool.specs.Faults.{IsUsage};
 ghost use Rattle.tlsf_tool.specs.Statuses.{status_of_fault};
 
+use crate::shown::Shown;
 use crate::statuses::fault_status;
 use mtrace_replay::{Bounds, RunFault, Settings};
 use std::alloc::Global;
@@ -85,10 +86,16 @@ pub enum ToolFault {
     #[error("{0}")]
     Usage(String),
     /// The file of this name can't be opened or made.
-    #[error("tlsf: cannot open {}", shown(.0))]
+    #[error("tlsf: cannot open {}", Shown(.0.as_str()))]
     CannotOpen(String),
+    /// The file of this name is to be read, and is standard output.
+    #[error("tlsf: {}: input file is output file", Shown(.0.as_str()))]
+    InputIsOutput(String),
+    /// The file of this name is to get an image, and is standard output.
+    #[error("tlsf: {}: image file is output file", Shown(.0.as_str()))]
+    ImageIsOutput(String),
     /// The file of this name has to be read more than once, and can't, as a pipe.
-    #[error("tlsf: {0} can't be read twice")]
+    #[error("tlsf: {} can't be read twice", Shown(.0.as_str()))]
     ReadsFileOnce(String),
     /// A log that has to be read more than once is to come from standard input.
     #[error("tlsf: standard input can't be read twice")]
@@ -96,14 +103,6 @@ pub enum ToolFault {
     /// The run ended early.
     #[error("tlsf: {0}")]
     Run(RunFault),
-}
-
-/// A file's name as it stands, and two quotes for the empty one.
-fn shown(name: &String) -> &str {
-    if name.as_str().is_empty() {
-        return "''";
-    }
-    name.as_str()
 }
 
 impl ToolFault {
@@ -126,7 +125,8 @@ impl ToolFault {
         match self {
             ToolFault::Help(_) => 0,
             ToolFault::Usage(_) | ToolFault::ReadsOnce | ToolFault::ReadsFileOnce(_) => 2,
-            ToolFault::CannotOpen(_) => 3,
+            ToolFault::CannotOpen(_) | ToolFault::InputIsOutput(_) | ToolFault::ImageIsOutput(_) =>
+                3,
             ToolFault::Run(fault) => fault_status(*fault),
         }
     }

@@ -102,7 +102,7 @@ const CHECK: Help = Help {
     about: "Tells whether an image can be loaded, or the first rule that it breaks.",
     examples: "Examples:
   tlsf check a.image                               whether a.image can be loaded
-  tlsf save a.log a.image && tlsf check a.image    whether it was written well",
+  tlsf save a.log a.image; tlsf check a.image      whether it was written well",
 };
 
 /// The option of this id, whose value the parser takes.
@@ -141,7 +141,7 @@ fn log_word<'a>(alloc: Global) -> Arg<'a>
     ensures { IsArgOf (word_rule (codes "LOG")) result }
 {
     Arg::new(alloc, "LOG").required(true).help(
-        "File of the log; leaks, peak, walk and save take - for standard input",
+        "File of the log, - for standard input; sites, timeline and fit take no pipe",
     )
 }
 

@@ -27,6 +27,14 @@ impl FileNumber {
         }
     }
 
+    /// The regular file that a name leads to, where it leads to one.
+    pub fn of_regular(rt: &HostRuntime, name: &str) -> Option<FileNumber> {
+        match fs::metadata(rt, name) {
+            Ok(metadata) if metadata.is_file() => Some(FileNumber::of(&metadata)),
+            _ => None,
+        }
+    }
+
     /// The file that is open, where the system tells it.
     pub fn of_file(file: &File) -> Option<FileNumber> {
         match file.metadata() {
@@ -59,7 +67,7 @@ pub fn are_one(log: Option<FileNumber>, image: Option<FileNumber>) -> bool
 /// # Errors
 ///
 /// That of the clone, or `Other` where that isn't above them either.
-fn above_streams(file: File) -> io::Result<File>
+pub(crate) fn above_streams(file: File) -> io::Result<File>
     ensures { IfOk result IsAboveStreams }
 {
     if file.as_raw_fd() > LAST_STREAM {

@@ -5,28 +5,35 @@ ghost use Rattle.std.specs.Prelude.{◌≡◌, IfOk};
 ghost use Rattle.std.specs.Vec.Iter.{into_iter_items};
 
 mod asked;
+mod causes;
 mod check;
 mod command_line;
 mod files;
+mod image_file;
 mod plan;
 mod progress;
+mod run;
 mod service;
+mod setting_faults;
+mod shown;
 mod statuses;
 #[cfg(test)]
 mod tests;
+mod word_faults;
 mod words;
 
 use crate::asked::{Command, Name, Rereading, ToolFault};
+use crate::causes::Causes;
 use crate::check::check_image;
-use crate::files::{FileNumber, are_one, make_file, open_file};
-use crate::plan::{Plan, Terminals, is_standard, planned};
-use crate::progress::{Cleared, Counted, Notice};
+use crate::files::{FileNumber, are_one, make_file};
+use crate::plan::{Streams, is_standard, planned};
+use crate::run::Run;
 use crate::service::{serve, serve_again, serve_help, serve_save, serve_size};
-use mtrace_log::{FromRead, ToWrite};
+use crate::setting_faults::{BAD_SETTINGS, tell_bad_bounds, tell_bad_heap, tell_bad_reading};
 use mtrace_replay::{Bounds, RunFault, Settings};
 use std::alloc::Global;
 use std::fs::File;
-use std::io::{BufWriter, IsTerminal, Read, Seek, Stdout};
+use std::io::{IsTerminal, Read, Seek, Stdin};
 use std::process::ExitCode;
 use std::{env, io};
 
@@ -60,182 +67,215 @@ fn asked_words(rt: &HostRuntime) -> Result<Vec<String>, ToolFault> {
     }
 }
 
-/// Standard output, buffered, where a notice is cleared first.
-fn output<'a>(
-    rt: &HostRuntime,
-    notice: &'a Notice<'a>,
-) -> Result<ToWrite<BufWriter<Cleared<'a, Stdout>>>, ToolFault> {
-    match BufWriter::new(rt.alloc(), Cleared::new(notice, rt.stdout())) {
-        Ok(writer) => Ok(ToWrite::new(writer)),
-        Err(_) => Err(ToolFault::Run(RunFault::OutOfMemory)),
-    }
+/// A log that is open, or an image, with the name it has for its reader.
+#[derive(Drop)]
+struct Input<R> {
+    file: R,
+    number: Option<FileNumber>,
+    name: String,
 }
 
-/// Opens the file of a log.
-fn open_log(rt: &HostRuntime, name: String) -> Result<File, ToolFault> {
-    match open_file(rt, name.as_str()) {
-        Ok(file) => Ok(file),
-        Err(_) => Err(ToolFault::CannotOpen(name)),
+/// The file, unless standard output is that file, too.
+fn apart<R: Drop>(run: &Run<'_>, input: Input<R>) -> Result<Input<R>, ToolFault> {
+    if run.is_output(input.number) {
+        return Err(ToolFault::InputIsOutput(input.name));
     }
+    Ok(input)
+}
+
+/// Opens a file to read it, which this path leads to.
+fn open_path(run: &Run<'_>, name: String, is_standard: bool) -> Result<Input<File>, ToolFault> {
+    let path = if is_standard {
+        STANDARD_INPUT
+    } else {
+        name.as_str()
+    };
+    let Ok(file) = run.open(path) else {
+        return Err(ToolFault::CannotOpen(name));
+    };
+    let number = FileNumber::of_file(&file);
+    apart(run, Input { file, number, name })
+}
+
+/// Standard input, which is open.
+fn standard_input(run: &Run<'_>, name: String) -> Result<Input<Stdin>, ToolFault> {
+    let file = run.rt.stdin();
+    let number = FileNumber::of_name(run.rt, STANDARD_INPUT);
+    apart(run, Input { file, number, name })
 }
 
 /// Makes a report of a log that is open.
 fn report<R: Read + Drop>(
-    rt: &HostRuntime,
-    is_told: bool,
+    run: &Run<'_>,
     name: Name,
     settings: Settings,
-    log: R,
+    log: Input<R>,
 ) -> Result<u8, ToolFault> {
-    let notice = Notice::new(rt, is_told);
-    let mut reader = FromRead::new(Counted::new(&notice, log));
-    let mut errors = ToWrite::new(Cleared::new(&notice, rt.stderr()));
-    let mut writer = output(rt, &notice)?;
-    Ok(serve(
-        rt.alloc(),
+    let mut reader = run.reader(log.file);
+    let mut errors = run.errors();
+    let mut writer = run.output()?;
+    let status = serve(
+        run.rt.alloc(),
         name,
         settings,
         &mut reader,
         &mut writer,
         &mut errors,
-    ))
+    );
+    tell_bad_heap(run.rt, status, settings);
+    Ok(run.end(status, log.name.as_str(), ""))
 }
 
 /// Opens the file of a log, and reads it more than once.
-fn reread(rt: &HostRuntime, is_told: bool, what: Rereading, name: String) -> Result<u8, ToolFault> {
-    let Ok(mut log) = open_file(rt, name.as_str()) else {
-        return Err(ToolFault::CannotOpen(name));
-    };
-    if log.rewind().is_err() {
-        return Err(ToolFault::ReadsFileOnce(name));
+fn reread(run: &Run<'_>, what: Rereading, log: String) -> Result<u8, ToolFault> {
+    let is_standard = is_standard(&log);
+    let mut log = open_path(run, log, is_standard)?;
+    if log.file.rewind().is_err() {
+        return Err(ToolFault::ReadsFileOnce(log.name));
     }
-    let notice = Notice::new(rt, is_told);
-    let mut reader = FromRead::new(Counted::new(&notice, log));
-    let mut errors = ToWrite::new(Cleared::new(&notice, rt.stderr()));
-    let mut writer = output(rt, &notice)?;
-    Ok(serve_again(
-        rt.alloc(),
+    let mut reader = run.reader(log.file);
+    let mut errors = run.errors();
+    let mut writer = run.output()?;
+    let status = serve_again(
+        run.rt.alloc(),
         what,
         &mut reader,
         &mut writer,
         &mut errors,
-        &notice,
-    ))
+        &run.notice,
+    );
+    tell_bad_reading(run.rt, status, what);
+    Ok(run.end_again(status, log.name.as_str()))
 }
 
-/// Makes the file of an image, unless it is the log's, and saves to it the heap at the end of a log that is open.
+/// The fault of an image of this name that can't be made.
+fn image_fault(error: &io::Error, image: String) -> ToolFault {
+    if error.kind() == io::ErrorKind::OutOfMemory {
+        return ToolFault::Run(RunFault::OutOfMemory);
+    }
+    ToolFault::CannotOpen(image)
+}
+
+/// Makes the file of an image, unless it is the log's or standard output, and saves to it the heap at the end of a log that
+/// is open. Bad settings leave an empty image.
 fn save<R: Read + Drop>(
-    rt: &HostRuntime,
-    is_told: bool,
+    run: &Run<'_>,
     settings: Settings,
-    log: R,
-    log_file: Option<FileNumber>,
+    log: Input<R>,
     image: String,
 ) -> Result<u8, ToolFault> {
-    if are_one(log_file, FileNumber::of_name(rt, image.as_str())) {
+    let number = FileNumber::of_name(run.rt, image.as_str());
+    if are_one(log.number, number) {
+        run.refuse_image();
         return Err(ToolFault::CannotOpen(image));
     }
-    let Ok(file) = make_file(rt, image.as_str()) else {
-        return Err(ToolFault::CannotOpen(image));
+    if run.is_output(number) {
+        return Err(ToolFault::ImageIsOutput(image));
+    }
+    let mut writer = run.output()?;
+    let mut file = match run.make_image(image.as_str()) {
+        Ok(file) => file,
+        Err(error) => return Err(image_fault(&error, image)),
     };
-    let notice = Notice::new(rt, is_told);
-    let mut reader = FromRead::new(Counted::new(&notice, log));
-    let mut errors = ToWrite::new(Cleared::new(&notice, rt.stderr()));
-    let mut writer = output(rt, &notice)?;
-    let mut image = ToWrite::new(file);
-    Ok(serve_save(
-        rt.alloc(),
+    let mut reader = run.reader(log.file);
+    let mut errors = run.errors();
+    let mut sink = run.image(&mut file);
+    let status = serve_save(
+        run.rt.alloc(),
         settings,
         &mut reader,
         &mut writer,
-        &mut image,
+        &mut sink,
         &mut errors,
-    ))
+    );
+    drop(sink);
+    file.leave();
+    tell_bad_heap(run.rt, status, settings);
+    if status == BAD_SETTINGS {
+        let _ = make_file(run.rt, image.as_str());
+    }
+    Ok(run.end(status, log.name.as_str(), image.as_str()))
 }
 
 /// Opens the file of an image, and checks it.
-fn check_file(rt: &HostRuntime, image: String) -> Result<u8, ToolFault> {
-    let mut reader = FromRead::new(open_log(rt, image)?);
-    let mut writer = ToWrite::new(rt.stdout());
-    let mut errors = ToWrite::new(rt.stderr());
-    Ok(check_image(rt.alloc(), &mut reader, &mut writer, &mut errors))
+fn check_file(run: &Run<'_>, image: String) -> Result<u8, ToolFault> {
+    let image = open_path(run, image, false)?;
+    let mut reader = run.reader(image.file);
+    let mut writer = run.unbuffered();
+    let mut errors = run.errors();
+    let status = check_image(run.rt.alloc(), &mut reader, &mut writer, &mut errors);
+    Ok(run.end(status, image.name.as_str(), ""))
 }
 
 /// Tells how large a pool is always enough.
-fn size(rt: &HostRuntime, bounds: Bounds) -> u8 {
-    let mut writer = ToWrite::new(rt.stdout());
-    let mut errors = ToWrite::new(rt.stderr());
-    serve_size(bounds, &mut writer, &mut errors)
+fn size(run: &Run<'_>, bounds: Bounds) -> u8 {
+    let mut writer = run.unbuffered();
+    let mut errors = run.errors();
+    let status = serve_size(bounds, &mut writer, &mut errors);
+    tell_bad_bounds(run.rt, status, bounds);
+    run.end(status, "", "")
 }
 
 /// Makes a report of a log, which is opened first where it is a file.
-fn report_log(
-    rt: &HostRuntime,
-    is_told: bool,
-    name: Name,
-    settings: Settings,
-    log: String,
-) -> Result<u8, ToolFault> {
+fn report_log(run: &Run<'_>, name: Name, settings: Settings, log: String) -> Result<u8, ToolFault> {
     if is_standard(&log) {
-        return report(rt, is_told, name, settings, rt.stdin());
+        return report(run, name, settings, standard_input(run, log)?);
     }
-    report(rt, is_told, name, settings, open_log(rt, log)?)
+    report(run, name, settings, open_path(run, log, false)?)
 }
 
 /// Saves the heap at the end of a log, which is opened first where it is a file.
 fn save_log(
-    rt: &HostRuntime,
-    is_told: bool,
+    run: &Run<'_>,
     settings: Settings,
     log: String,
     image: String,
 ) -> Result<u8, ToolFault> {
     if is_standard(&log) {
-        let number = FileNumber::of_name(rt, STANDARD_INPUT);
-        return save(rt, is_told, settings, rt.stdin(), number, image);
+        return save(run, settings, standard_input(run, log)?, image);
     }
-    let log = open_log(rt, log)?;
-    let number = FileNumber::of_file(&log);
-    save(rt, is_told, settings, log, number, image)
+    save(run, settings, open_path(run, log, false)?, image)
 }
 
 /// Does what is planned.
-fn act(rt: &HostRuntime, plan: Plan) -> Result<u8, ToolFault> {
-    let notice = plan.notice;
-    match plan.command {
+fn act(run: &Run<'_>, command: Command) -> Result<u8, ToolFault> {
+    match command {
         Command::Report {
             name,
             settings,
             log,
-        } => report_log(rt, notice, name, settings, log),
-        Command::Reread { what, log } => reread(rt, notice, what, log),
+        } => report_log(run, name, settings, log),
+        Command::Reread { what, log } => reread(run, what, log),
         Command::Save {
             settings,
             log,
             image,
-        } => save_log(rt, notice, settings, log, image),
-        Command::Size { bounds } => Ok(size(rt, bounds)),
-        Command::Check { image } => check_file(rt, image),
+        } => save_log(run, settings, log, image),
+        Command::Size { bounds } => Ok(size(run, bounds)),
+        Command::Check { image } => check_file(run, image),
     }
 }
 
 /// Does what the words ask for.
-fn run(rt: &HostRuntime) -> Result<u8, ToolFault> {
+fn run_words(rt: &HostRuntime, causes: &Causes) -> Result<u8, ToolFault> {
     let words = asked_words(rt)?;
-    let terminals = Terminals {
-        input: rt.stdin().is_terminal(),
-        errors: rt.stderr().is_terminal(),
+    let streams = Streams {
+        typed: rt.stdin().is_terminal(),
+        again: FileNumber::of_regular(rt, STANDARD_INPUT).is_some(),
+        shown: rt.stderr().is_terminal(),
     };
-    act(rt, planned(rt.alloc(), words.as_slice(), terminals)?)
+    let plan = planned(rt.alloc(), words.as_slice(), streams)?;
+    act(&Run::new(rt, plan.notice, causes), plan.command)
 }
 
-/// Tells a fault: help on standard output, any other on standard error. Answers the status that the program ends with.
-fn tell(rt: &HostRuntime, fault: &ToolFault) -> u8 {
+/// Tells a fault: help on standard output, any other on standard error, and why a file can't be opened. Answers the status that
+/// the program ends with.
+fn tell(rt: &HostRuntime, causes: &Causes, fault: &ToolFault) -> u8 {
+    let run = Run::new(rt, false, causes);
     match fault {
         ToolFault::Help(text) => {
-            let mut writer = ToWrite::new(rt.stdout());
-            let mut errors = ToWrite::new(rt.stderr());
-            return serve_help(text.as_str(), &mut writer, &mut errors);
+            let status = serve_help(text.as_str(), &mut run.unbuffered(), &mut run.errors());
+            return run.end(status, "", "");
         }
         ToolFault::Usage(text) => {
             let _ = eprint!(rt; "{text}");
@@ -244,13 +284,17 @@ fn tell(rt: &HostRuntime, fault: &ToolFault) -> u8 {
             let _ = eprintln!(rt; "{fault}");
         }
     }
+    if let ToolFault::CannotOpen(name) = fault {
+        let _ = causes.tell(rt, name.as_str(), name.as_str());
+    }
     fault.status()
 }
 
 fn main(rt: HostRuntime) -> ExitCode {
-    let status = match run(&rt) {
+    let causes = Causes::new();
+    let status = match run_words(&rt, &causes) {
         Ok(status) => status,
-        Err(fault) => tell(&rt, &fault),
+        Err(fault) => tell(&rt, &causes, &fault),
     };
     ExitCode::from(status)
 }

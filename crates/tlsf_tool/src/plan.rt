@@ -7,13 +7,15 @@ use crate::asked::{Command, ToolFault};
 use crate::words::command;
 use std::alloc::Global;
 
-/// Which of the standard streams are terminals.
+/// What the standard streams are.
 #[derive(Clone, Copy, Debug, PartialEq, Eq)]
-pub struct Terminals {
-    /// Whether standard input is one.
-    pub input: bool,
-    /// Whether standard error is one.
-    pub errors: bool,
+pub struct Streams {
+    /// Whether standard input is a terminal.
+    pub typed: bool,
+    /// Whether standard input is a file, which can be read more than once.
+    pub again: bool,
+    /// Whether standard error is a terminal.
+    pub shown: bool,
 }
 
 /// What the program does.
@@ -34,30 +36,30 @@ pub fn is_standard(log: &String) -> bool
 
 /// Whether it is told how far a run of this command is. It is where a log is read and standard error is a terminal, but
 /// not of a log that is typed, as the terminal shows what is typed.
-fn is_told(terminals: Terminals, command: &Command) -> bool
-    ensures { result ≡ is_told terminals command.now }
+fn is_told(streams: Streams, command: &Command) -> bool
+    ensures { result ≡ is_told streams command.now }
 {
     match command {
         Command::Report { log, .. } | Command::Save { log, .. } => {
-            terminals.errors && !(terminals.input && is_standard(log))
+            streams.shown && !(streams.typed && is_standard(log))
         }
-        Command::Reread { .. } => terminals.errors,
+        Command::Reread { .. } => streams.shown,
         Command::Size { .. } | Command::Check { .. } => false,
     }
 }
 
-/// What the program does for these words, of which the first is its name, among these terminals.
+/// What the program does for these words, of which the first is its name, with these streams.
 ///
 /// # Errors
 ///
-/// Those of `command`; `ReadsOnce` exactly where the words ask to read standard input more than once.
-pub fn planned(alloc: Global, words: &[String], terminals: Terminals) -> Result<Plan, ToolFault>
-    ensures { PlansFor words.now terminals result }
+/// Those of `command`; `ReadsOnce` exactly where the words ask to read standard input more than once, and it is no file.
+pub fn planned(alloc: Global, words: &[String], streams: Streams) -> Result<Plan, ToolFault>
+    ensures { PlansFor words.now streams result }
 {
     let command = command(alloc, words)?;
-    if matches!(&command, Command::Reread { log, .. } if is_standard(log)) {
+    if matches!(&command, Command::Reread { log, .. } if is_standard(log) && !streams.again) {
         return Err(ToolFault::ReadsOnce);
     }
-    let notice = is_told(terminals, &command);
+    let notice = is_told(streams, &command);
     Ok(Plan { command, notice })
 }

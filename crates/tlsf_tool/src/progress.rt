@@ -15,6 +15,8 @@ use std::time::Instant;
 pub struct Progress {
     /// How many lines are read; what is read again is counted again.
     pub lines: usize,
+    /// How many bytes are read, counted likewise.
+    pub bytes: usize,
     /// How many sizes are tried.
     pub sizes: usize,
 }
@@ -23,6 +25,7 @@ pub struct Progress {
 #[derive(Clone, Copy, Debug, PartialEq, Eq)]
 pub struct Counts {
     lines: usize,
+    bytes: usize,
     begun: usize,
     told: u64,
 }
@@ -31,11 +34,12 @@ impl Counts {
     /// Nothing is counted, and nothing was told.
     pub const NONE: Counts = Counts {
         lines: 0,
+        bytes: 0,
         begun: 0,
         told: 0,
     };
 
-    /// Counts the lines that end in a piece, which came in this second of the run. Answers what is to be told: once in
+    /// Counts the bytes of a piece, which came in this second of the run, and the lines that end in it. Answers what is to be told: once in
     /// each second, and nothing in the first. A log that is begun again tries a size, and one that is begun once more has
     /// tried it.
     pub fn count(&mut self, bytes: &[u8], second: u64) -> Option<Progress>
@@ -43,12 +47,14 @@ impl Counts {
     {
         let ends = bytes.iter().filter(|byte| **byte == b'\n').count();
         self.lines = self.lines.saturating_add(ends);
+        self.bytes = self.bytes.saturating_add(bytes.len());
         if self.told >= second {
             return None;
         }
         self.told = second;
         Some(Progress {
             lines: self.lines,
+            bytes: self.bytes,
             sizes: self.begun.saturating_sub(1),
         })
     }
@@ -56,6 +62,7 @@ impl Counts {
     /// Counts that the log was begun again.
     pub fn begin(&mut self)
         ensures lines { self.new.lines ≡ self.old.lines }
+        ensures bytes { self.new.bytes ≡ self.old.bytes }
         ensures begun { self.new.begun ≡ min (self.old.begun + 1) (2 ^ 64 - 1) }
         ensures told { self.new.told ≡ self.old.told }
     {
@@ -63,7 +70,7 @@ impl Counts {
     }
 }
 
-/// A line on the terminal that says how many lines of the log are read. It is rewritten once a second, from the second
+/// A line on the terminal that says how much of the log is read. It is rewritten once a second, from the second
 /// second on, and cleared before anything else is written there.
 #[derive(Drop)]
 pub(crate) struct Notice<'a> {
@@ -96,11 +103,16 @@ impl<'a> Notice<'a> {
         }
     }
 
-    /// Writes the notice, over the one that stands: how many lines are read, and how many sizes are tried and of how many, where
-    /// some are.
+    /// Writes the notice, over the one that stands: how many lines and bytes are read, and how many sizes are tried and of how
+    /// many, where some are. A line without an end is told by its bytes alone.
     fn tell(&self, progress: Progress) {
-        let Progress { lines, sizes } = progress;
-        let _ = eprint!(self.rt; "\r\x1b[Ktlsf: {lines} lines read");
+        let Progress {
+            lines,
+            bytes,
+            sizes,
+        } = progress;
+        let thousands = bytes / 1000;
+        let _ = eprint!(self.rt; "\r\x1b[Ktlsf: {lines} lines, {thousands} kB read");
         if sizes > 0 {
             let all = self.sizes.get();
             let _ = eprint!(self.rt; ", {sizes} of {all} sizes tried");

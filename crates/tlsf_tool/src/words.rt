@@ -1,6 +1,6 @@
 //! The words of the command line.
 
-ghost use Rattle.std.specs.Prelude.{◌≡◌, ◌⊎◌, codes, string_bytes, Some, None, IfSome};
+ghost use Rattle.std.specs.Prelude.{◌≡◌, ◌⊎◌, codes, string_bytes, Some, None};
 ghost use Rattle.clap.specs.Words.{first_of, found_of, kind_of, rows_of, subcommand_rows_of};
 ghost use Rattle.tlsf_tool.specs.CommandLine.{HasNumber, HasSettings, HasBounds, HasNoLog, name_text};
 ghost use Rattle.tlsf_tool.specs.Faults.{ExplainsKind, IsUsage};
@@ -8,6 +8,7 @@ ghost use Rattle.tlsf_tool.specs.Asks.{Picks, Asks, MatchesGive, WordsGive};
 
 use crate::asked::{Command, Name, Rereading, ToolFault};
 use crate::command_line::tlsf_command;
+use crate::word_faults::told_text;
 use clap::error::ErrorKind;
 use clap::{ArgMatches, Error};
 use mtrace_replay::{Bounds, RunFault, Settings};
@@ -185,52 +186,15 @@ fn asked(alloc: Global, matches: &ArgMatches<'_>) -> Result<Command, ToolFault>
     }
 }
 
-/// Whether the word is an option that takes a number.
-fn takes_number(word: &str) -> bool {
-    matches!(
-        word,
-        "--pool"
-            | "--pools"
-            | "--records"
-            | "--points"
-            | "--step"
-            | "--blocks"
-            | "--largest"
-            | "--bytes"
-            | "--align"
-    )
-}
-
-/// Whether the word is a number behind a minus sign.
-fn is_signed(word: &str) -> bool {
-    match word.strip_prefix('-') {
-        Some(digits) => !digits.is_empty() && digits.bytes().all(|byte| byte.is_ascii_digit()),
-        None => false,
-    }
-}
-
-/// The fault of a value with a sign, where words in front of `--` have one: clap would tell it as a word of its own.
-fn signed_fault(alloc: Global, words: &[String]) -> Option<ToolFault>
-    ensures { IfSome result (λ fault. IsUsage fault ⊎ (fault ≡ ToolFault.Run RunFault.OutOfMemory)) }
+/// The fault of words that are wrong, of which clap says this.
+fn usage_of(alloc: Global, words: &[String], text: String) -> ToolFault
+    ensures { IsUsage result ⊎ (result ≡ ToolFault.Run RunFault.OutOfMemory) }
 {
-    let mut option = "";
-    for word in words {
-        let word = word.as_str();
-        if word == "--" {
-            return None;
-        }
-        if takes_number(option) && is_signed(word) {
-            let text = format!(in alloc;
-                "error: invalid value '{word}' for '{option}': it takes a number without a sign\n\nFor more information, try '--help'.\n"
-            );
-            return match text {
-                Ok(text) => Some(ToolFault::Usage(text)),
-                Err(_) => Some(NO_MEMORY),
-            };
-        }
-        option = word;
+    match told_text(alloc, words, text.as_str()) {
+        Ok(Some(told)) => ToolFault::Usage(told),
+        Ok(None) => ToolFault::Usage(text),
+        Err(_) => NO_MEMORY,
     }
-    None
 }
 
 /// The fault of clap's error for these words, with its text.
@@ -240,13 +204,8 @@ fn fault_of(alloc: Global, words: &[String], error: &Error) -> ToolFault
     if error.kind() == ErrorKind::OutOfMemory {
         return NO_MEMORY;
     }
-    if error.kind() == ErrorKind::UnknownArgument {
-        if let Some(fault) = signed_fault(alloc, words) {
-            return fault;
-        }
-    }
     match error.to_string(alloc) {
-        Ok(text) if error.use_stderr() => ToolFault::Usage(text),
+        Ok(text) if error.use_stderr() => usage_of(alloc, words, text),
         Ok(text) => ToolFault::Help(text),
         Err(_) => NO_MEMORY,
     }

@@ -2,30 +2,34 @@
 
 use super::program::strings;
 use crate::asked::{Command, Name, Rereading, ToolFault};
-use crate::plan::{Plan, Terminals, is_standard, planned};
+use crate::plan::{Plan, Streams, is_standard, planned};
 use crate::tests::expect_eq_at;
 use mtrace_replay::Settings;
 use std::alloc::Global;
 use std::test::Fail;
 
-const TYPED: Terminals = Terminals {
-    input: true,
-    errors: true,
+const TYPED: Streams = Streams {
+    typed: true,
+    again: false,
+    shown: true,
 };
 
-const PIPED: Terminals = Terminals {
-    input: false,
-    errors: true,
+const PIPED: Streams = Streams {
+    typed: false,
+    again: false,
+    shown: true,
 };
 
-const QUIET: Terminals = Terminals {
-    input: true,
-    errors: false,
+const QUIET: Streams = Streams {
+    typed: true,
+    again: false,
+    shown: false,
 };
 
-const BARE: Terminals = Terminals {
-    input: false,
-    errors: false,
+const BARE: Streams = Streams {
+    typed: false,
+    again: false,
+    shown: false,
 };
 
 /// Words of `peak` and of `save`, with the name of their log, whether it is standard input, and whether it is told how far
@@ -49,7 +53,7 @@ fn reports_and_images(rt: HostRuntime) -> Result<(), Fail> {
             is_standard(&String::from_str(alloc, log)?),
             standard,
         );
-        for (terminals, notice) in [(TYPED, typed), (PIPED, true), (QUIET, false), (BARE, false)] {
+        for (streams, notice) in [(TYPED, typed), (PIPED, true), (QUIET, false), (BARE, false)] {
             let mut report = strings(alloc, &["tlsf", "peak"])?;
             let mut save = strings(alloc, &["tlsf", "save", "--records", "12345"])?;
             for word in words {
@@ -65,7 +69,7 @@ fn reports_and_images(rt: HostRuntime) -> Result<(), Fail> {
             expect_eq_at(
                 &rt,
                 words,
-                planned(alloc, report.as_slice(), terminals)?,
+                planned(alloc, report.as_slice(), streams)?,
                 Plan { command, notice },
             );
             let command = Command::Save {
@@ -79,7 +83,7 @@ fn reports_and_images(rt: HostRuntime) -> Result<(), Fail> {
             expect_eq_at(
                 &rt,
                 words,
-                planned(alloc, save.as_slice(), terminals)?,
+                planned(alloc, save.as_slice(), streams)?,
                 Plan { command, notice },
             );
         }
@@ -133,28 +137,42 @@ const AGAIN: [(&[&str], Rereading); 6] = [
 fn logs_that_are_read_again(rt: HostRuntime) -> Result<(), Fail> {
     let alloc = rt.alloc();
     for (words, what) in AGAIN {
-        for terminals in [TYPED, PIPED, QUIET, BARE] {
+        for streams in [TYPED, PIPED, QUIET, BARE] {
             let mut named = strings(alloc, words)?;
             named.push(String::from_str(alloc, "/dev/stdin")?)?;
             let command = Command::Reread {
                 what,
                 log: String::from_str(alloc, "/dev/stdin")?,
             };
-            let notice = terminals.errors;
+            let notice = streams.shown;
             expect_eq_at(
                 &rt,
                 words,
-                planned(alloc, named.as_slice(), terminals)?,
+                planned(alloc, named.as_slice(), streams)?,
                 Plan { command, notice },
             );
             let mut standard = strings(alloc, words)?;
             standard.push(String::from_str(alloc, "-")?)?;
-            let answer = planned(alloc, standard.as_slice(), terminals);
+            let answer = planned(alloc, standard.as_slice(), streams);
             expect_eq_at(
                 &rt,
                 words,
                 matches!(&answer, Err(ToolFault::ReadsOnce)),
                 true,
+            );
+            let command = Command::Reread {
+                what,
+                log: String::from_str(alloc, "-")?,
+            };
+            let again = Streams {
+                again: true,
+                ..streams
+            };
+            expect_eq_at(
+                &rt,
+                words,
+                planned(alloc, standard.as_slice(), again)?,
+                Plan { command, notice },
             );
         }
     }

@@ -2,7 +2,7 @@
 
 use super::program::strings;
 use crate::asked::{Command, ToolFault};
-use crate::plan::{Plan, Terminals, planned};
+use crate::plan::{Plan, Streams, planned};
 use crate::service::serve_size;
 use crate::tests::expect_eq_at;
 use mtrace_log::memory::{Full, MemorySink};
@@ -251,9 +251,10 @@ const WORDS: [(&[&str], Bounds); 4] = [
 #[test]
 fn words_of_size(rt: HostRuntime) -> Result<(), Fail> {
     let alloc = rt.alloc();
-    let terminals = Terminals {
-        input: true,
-        errors: true,
+    let streams = Streams {
+        typed: true,
+        again: false,
+        shown: true,
     };
     for (words, bounds) in WORDS {
         let wanted = Plan {
@@ -263,7 +264,7 @@ fn words_of_size(rt: HostRuntime) -> Result<(), Fail> {
         expect_eq_at(
             &rt,
             words,
-            planned(alloc, strings(alloc, words)?.as_slice(), terminals)?,
+            planned(alloc, strings(alloc, words)?.as_slice(), streams)?,
             wanted,
         );
     }
@@ -293,12 +294,13 @@ const WRONG: [&[&str]; 8] = [
 #[test]
 fn words_that_tell_no_bounds(rt: HostRuntime) -> Result<(), Fail> {
     let alloc = rt.alloc();
-    let terminals = Terminals {
-        input: true,
-        errors: true,
+    let streams = Streams {
+        typed: true,
+        again: false,
+        shown: true,
     };
     for words in WRONG {
-        let answer = planned(alloc, strings(alloc, words)?.as_slice(), terminals);
+        let answer = planned(alloc, strings(alloc, words)?.as_slice(), streams);
         expect_eq_at(
             &rt,
             words,
