@@ -1,5 +1,7 @@
 -- The command line's description, and what a parse by it gives.
-use Rattle.std.proofs.Common.{◌≡◌, ◌∙◌, ◌⊎◌, ◌<◌, ◌^◌, ◌||◌, ℕ, List, [], Option, Some, None, Result, Ok, Err, inl, inr, refl, sym, ap, subst, true, codes}
+use Rattle.std.proofs.Common.{◌≡◌, ◌∙◌, ◌⊎◌, ◌<◌, ◌^◌, ◌||◌, ℕ, List, [], Option, Some, None, Result, Ok, Err, Bool, inl, inr, refl, sym, ap, subst, true, false, codes}
+use Rattle.std.proofs.lemmas.Bool.{false≢true}
+use Rattle.std.proofs.lemmas.Slice.Eq.{bytes_eq-Decides}
 use Rattle.std.specs.Prelude.{MatchBool, String, bytes_eq, string_bytes}
 use Rattle.std.specs.Result.{IsErrAnd}
 use Rattle.std.specs.declared.alloc.Global.{Global}
@@ -16,16 +18,18 @@ use Rattle.clap.specs.declared.error.kind.ErrorKind.TheVariants as kind
 use Rattle.clap.proofs.OnLiterals.{clap_on_literals}
 use Rattle.clap.proofs.WalkLemmas.{one_text-rows}
 use Rattle.mtrace_replay.specs.declared.settings.Settings.{Settings}
+use Rattle.mtrace_replay.specs.declared.no_heap.report.LedgerReport.{LedgerReport}
+use Rattle.mtrace_replay.specs.declared.no_heap.report.LedgerReport.TheVariants.{Held, Sums}
 use Rattle.mtrace_replay.specs.declared.size.Bounds.{Bounds}
 use Rattle.mtrace_replay.specs.declared.status.RunFault.TheVariants.{OutOfMemory}
 use Rattle.tlsf_tool.specs.declared.asked.Command.{Command}
-use Rattle.tlsf_tool.specs.declared.asked.Command.TheVariants.{Report, Reread, Size, Save, Check}
+use Rattle.tlsf_tool.specs.declared.asked.Command.TheVariants.{Report, Follow, Reread, Size, Save, Check}
 use Rattle.tlsf_tool.specs.declared.asked.Rereading.TheVariants.{Sites, Timeline, Fit}
 use Rattle.tlsf_tool.specs.declared.asked.Name.{Name}
 use Rattle.tlsf_tool.specs.declared.asked.Name.TheVariants.{Leaks, Peak, Walk}
 use Rattle.tlsf_tool.specs.declared.asked.ToolFault.{ToolFault}
 use Rattle.tlsf_tool.specs.declared.asked.ToolFault.TheVariants.{Help, Usage, CannotOpen, InputIsOutput, ImageIsOutput, ReadsOnce, ReadsFileOnce, Run}
-use Rattle.tlsf_tool.specs.CommandLine.{IsArgOf, IsCommandOf, given_rule, AskFor, HasNumber, HasSettings, HasBounds, HasNoLog, MatchesAskFor, bare_line, report_line, great_line, timeline_line, fit_line, size_line, save_line, check_line, name_text, texts_of, tlsf_line, wrong_with}
+use Rattle.tlsf_tool.specs.CommandLine.{IsArgOf, IsCommandOf, given_rule, AskFor, HasNumber, HasSettings, HasBounds, HasNoLog, MatchesAskFor, bare_line, report_line, ledger_line, HasNoHeap, default_settings, follow_name, great_line, timeline_line, fit_line, size_line, save_line, check_line, name_text, texts_of, tlsf_line, wrong_with}
 use Rattle.tlsf_tool.specs.Faults.{ExplainsKind, ExplainsWords, IsUsage}
 use Rattle.tlsf_tool.specs.Asks.{Asks, Picks}
 
@@ -54,13 +58,13 @@ put : (more a b next : App) → a ≡ b → next ≡ with_subcommand a more.top 
 put more a b next is next_is = next_is ∙ ap (λ (x : App). with_subcommand x more.top) is
 
 -- the lines of the subcommands, put to the bare one one after the other
-pub line_of : (bare leaks peak walk sites timeline fit size save last : App) → bare ≡ bare_line → leaks ≡ with_subcommand bare (report_line (codes "leaks")).top
-    → peak ≡ with_subcommand leaks (report_line (codes "peak")).top → walk ≡ with_subcommand peak (report_line (codes "walk")).top
+pub line_of : (bare leaks peak walk sites timeline fit size save last : App) → bare ≡ bare_line → leaks ≡ with_subcommand bare (ledger_line (codes "leaks")).top
+    → peak ≡ with_subcommand leaks (ledger_line (codes "peak")).top → walk ≡ with_subcommand peak (report_line (codes "walk")).top
     → sites ≡ with_subcommand walk (great_line (codes "sites")).top → timeline ≡ with_subcommand sites timeline_line.top → fit ≡ with_subcommand timeline fit_line.top
     → size ≡ with_subcommand fit size_line.top → save ≡ with_subcommand size save_line.top → last ≡ with_subcommand save check_line.top → last ≡ tlsf_line
 line_of bare leaks peak walk sites timeline fit size save last bare_is leaks_is peak_is walk_is sites_is timeline_is fit_is size_is save_is last_is =
-    put check_line _ _ last (put save_line _ _ save (put size_line _ _ size (put fit_line _ _ fit (put timeline_line _ _ timeline (put (great_line (codes "sites")) _ _ sites (put (report_line (codes "walk")) _ _ walk (put (report_line (codes "peak")) _ _ peak
-    (put (report_line (codes "leaks")) _ _ leaks bare_is leaks_is) peak_is) walk_is) sites_is) timeline_is) fit_is) size_is) save_is) last_is
+    put check_line _ _ last (put save_line _ _ save (put size_line _ _ size (put fit_line _ _ fit (put timeline_line _ _ timeline (put (great_line (codes "sites")) _ _ sites (put (report_line (codes "walk")) _ _ walk (put (ledger_line (codes "peak")) _ _ peak
+    (put (ledger_line (codes "leaks")) _ _ leaks bare_is leaks_is) peak_is) walk_is) sites_is) timeline_is) fit_is) size_is) save_is) last_is
 
 -- ---- numbers
 
@@ -106,6 +110,7 @@ no_such one text none some = let e : None ≡ Some text = sym none ∙ some in c
 -- the subcommand of a command
 abbrev subcommand_text : Command → Text
 subcommand_text (Report name settings log) = name_text name
+subcommand_text (Follow report log) = name_text (follow_name report)
 subcommand_text (Reread (Sites settings) log) = codes "sites"
 subcommand_text (Reread (Timeline settings parts) log) = codes "timeline"
 subcommand_text (Reread (Fit step) log) = codes "fit"
@@ -115,6 +120,7 @@ subcommand_text (Check image) = codes "check"
 
 asked_under : (found : Text × List Row) (command : Command) → MatchesAskFor (Some found) command → found.0 ≡ subcommand_text command
 asked_under found (Report name settings log) asks = asks.0
+asked_under found (Follow report log) asks = asks.0
 asked_under found (Reread (Sites settings) log) asks = asks.0
 asked_under found (Reread (Timeline settings parts) log) asks = asks.0
 asked_under found (Reread (Fit step) log) asks = asks.0
@@ -128,22 +134,35 @@ module _ (rows : List Row) where
   abbrev HasNoParts : Type 0
   HasNoParts = (parts : ℕ) → HasNumber rows (codes "points") 32 parts → ⊥
 
-  -- what the subcommand of this text needs is missing: its settings, its log, its bounds or its image
+  -- no heap is asked for, and there is a setting of one beside that
+  abbrev HasTooMuch : Type 0
+  HasTooMuch = HasNoHeap rows × (HasSettings rows default_settings → ⊥)
+
+  -- what the subcommand of this text needs is missing: its settings, its log, its bounds or its image; or it has too much
   abbrev IsMissing : Text → Type 0
   IsMissing text = MatchBool (bytes_eq text (codes "check")) (first_of (codes "IMAGE") rows ≡ None)
       (MatchBool (bytes_eq text (codes "size")) ((bounds : Bounds) → HasBounds rows bounds → ⊥)
       (MatchBool (bytes_eq text (codes "fit")) (first_of (codes "LOG") rows ≡ None)
       (MatchBool (bytes_eq text (codes "timeline")) (HasNoParts ⊎ HasNoLog rows)
-      (MatchBool (bytes_eq text (codes "save")) (HasNoLog rows ⊎ (first_of (codes "IMAGE") rows ≡ None)) (HasNoLog rows)))))
+      (MatchBool (bytes_eq text (codes "save")) (HasNoLog rows ⊎ (first_of (codes "IMAGE") rows ≡ None))
+      (MatchBool (bytes_eq text (codes "sites")) (HasNoLog rows)
+      (MatchBool (bytes_eq text (codes "walk")) (HasNoLog rows ⊎ HasNoHeap rows) (HasNoLog rows ⊎ HasTooMuch)))))))
 
   no_log : (settings : Settings) (log : String Global) → HasNoLog rows → HasSettings rows settings → first_of (codes "LOG") rows ≡ Some (string_bytes log) → ⊥
   no_log settings log (inl never) has is = never settings has
   no_log settings log (inr none) has is = no_such (first_of (codes "LOG") rows) (string_bytes log) none is
 
   has_all : (text : Text) (command : Command) → MatchesAskFor (Some (text, rows)) command → IsMissing (subcommand_text command) → ⊥
-  has_all text (Report Leaks settings log) asks missing = no_log settings log missing asks.1 asks.2
-  has_all text (Report Peak settings log) asks missing = no_log settings log missing asks.1 asks.2
-  has_all text (Report Walk settings log) asks missing = no_log settings log missing asks.1 asks.2
+  has_all text (Report Leaks settings log) asks (inl missing) = no_log settings log missing asks.2 asks.3
+  has_all text (Report Leaks settings log) asks (inr much) = asks.1 much.0
+  has_all text (Report Peak settings log) asks (inl missing) = no_log settings log missing asks.2 asks.3
+  has_all text (Report Peak settings log) asks (inr much) = asks.1 much.0
+  has_all text (Report Walk settings log) asks (inl missing) = no_log settings log missing asks.2 asks.3
+  has_all text (Report Walk settings log) asks (inr without) = asks.1 without
+  has_all text (Follow Held log) asks (inl missing) = no_log default_settings log missing asks.2 asks.3
+  has_all text (Follow Held log) asks (inr much) = much.1 asks.2
+  has_all text (Follow Sums log) asks (inl missing) = no_log default_settings log missing asks.2 asks.3
+  has_all text (Follow Sums log) asks (inr much) = much.1 asks.2
   has_all text (Reread (Sites settings) log) asks missing = no_log settings log missing asks.1 asks.2
   has_all text (Reread (Timeline settings parts) log) asks (inl never) = never parts asks.2
   has_all text (Reread (Timeline settings parts) log) asks (inr missing) = no_log settings log missing asks.1 asks.3
@@ -157,9 +176,43 @@ module _ (rows : List Row) where
   text_asks_nothing text missing command asks = has_all text command asks (subst IsMissing (asked_under (text, rows) command asks) missing)
 
   pub report_asks_nothing : (name : Name) → HasNoLog rows → AsksNothing (Some (name_text name, rows))
-  report_asks_nothing Leaks missing = text_asks_nothing (codes "leaks") missing
-  report_asks_nothing Peak missing = text_asks_nothing (codes "peak") missing
-  report_asks_nothing Walk missing = text_asks_nothing (codes "walk") missing
+  report_asks_nothing Leaks missing = text_asks_nothing (codes "leaks") (inl missing)
+  report_asks_nothing Peak missing = text_asks_nothing (codes "peak") (inl missing)
+  report_asks_nothing Walk missing = text_asks_nothing (codes "walk") (inl missing)
+
+  -- two numbers of one id are one
+  one_number : (id : Text) (bits n m : ℕ) → HasNumber rows id bits n → HasNumber rows id bits m → n ≡ m
+  one_number id bits n m has other =
+      let same : Some has.0 ≡ Some other.0 = sym has.1 ∙ other.1 in
+      let text : has.0 ≡ other.0 = cc in
+      sym has.3 ∙ ap (λ (t : Text). digits_value 10 (without_leading_plus t)) text ∙ other.3
+
+  one_heap : (settings other : Settings) → HasSettings rows settings → HasSettings rows other → settings ≡ other
+  one_heap settings other has too =
+      let pool = one_number (codes "pool") 64 settings.pool other.pool has.0 too.0 in
+      let pools = one_number (codes "pools") 32 settings.pools other.pools has.1 too.1 in
+      let records = one_number (codes "records") 32 settings.records other.records has.2 too.2 in
+      let S : ℕ → ℕ → ℕ → Settings = λ pool pools records. record { pool = pool; pools = pools; records = records } in
+      ap (λ (n : ℕ). S n settings.pools settings.records) pool ∙ ap (λ (n : ℕ). S other.pool n settings.records) pools ∙ ap (λ (n : ℕ). S other.pool other.pools n) records
+
+  pub follow_asks_nothing : (report : LedgerReport) (settings : Settings) → HasNoHeap rows → HasSettings rows settings → (settings ≡ default_settings → ⊥)
+      → AsksNothing (Some (name_text (follow_name report), rows))
+  follow_asks_nothing Held settings without has other = text_asks_nothing (codes "leaks") (inr (without, λ default. other (one_heap settings default_settings has default)))
+  follow_asks_nothing Sums settings without has other = text_asks_nothing (codes "peak") (inr (without, λ default. other (one_heap settings default_settings has default)))
+
+  pub no_heap_read : (text : Text) (result : Bool) → first_of (codes "no-heap") rows ≡ Some text → result ≡ bytes_eq text (codes "true")
+      → MatchBool result (HasNoHeap rows) (HasNoHeap rows → ⊥)
+  no_heap_read text true is eq = is ∙ ap (λ (t : Text). Some t) ((bytes_eq-Decides text (codes "true")).0 (sym eq))
+  no_heap_read text false is eq = λ has.
+      let same : Some text ≡ Some (codes "true") = sym is ∙ has in
+      let text_is : text ≡ codes "true" = cc in
+      false≢true (eq ∙ (bytes_eq-Decides text (codes "true")).1 text_is)
+
+  pub no_heap_missing : first_of (codes "no-heap") rows ≡ None → HasNoHeap rows → ⊥
+  no_heap_missing none has = no_such (first_of (codes "no-heap") rows) (codes "true") none has
+
+  pub walk_asks_nothing : HasNoHeap rows → AsksNothing (Some (codes "walk", rows))
+  walk_asks_nothing without = text_asks_nothing (codes "walk") (inr without)
 
   pub sites_asks_nothing : HasNoLog rows → AsksNothing (Some (codes "sites", rows))
   sites_asks_nothing missing = text_asks_nothing (codes "sites") missing

@@ -4,6 +4,7 @@ use Rattle.std.specs.declared.alloc.Global.{Global}
 use Rattle.std.specs.Str.Parse.{IsNumeral, digits_value, without_leading_plus}
 use Rattle.clap.specs.Words.{App, Kinds, Row, Rule, Text, app_of, fault_of, first_of, new_app, new_rule, one_of, rule_of, subcommand_of, with_rule, with_subcommand}
 use Rattle.clap.specs.declared.builder.arg.Arg.{Arg}
+use Rattle.clap.specs.declared.builder.action.ArgAction.TheVariants.{SetTrue}
 use Rattle.clap.specs.declared.builder.command.Command.{Command as Clap}
 use Rattle.clap.specs.declared.builder.command.Command.TheViews.{out-Command}
 use Rattle.clap.specs.Simple.{on_top}
@@ -11,9 +12,11 @@ use Rattle.clap.specs.declared.builder.value_parser.ValueParser.{ValueParser}
 use Rattle.clap.specs.declared.builder.value_parser.ValueParser.TheVariants as parser
 use Rattle.tlsf_class.specs.Classes.{unit, greatest_size}
 use Rattle.mtrace_replay.specs.declared.settings.Settings.{Settings}
+use Rattle.mtrace_replay.specs.declared.no_heap.report.LedgerReport.{LedgerReport}
+use Rattle.mtrace_replay.specs.declared.no_heap.report.LedgerReport.TheVariants.{Held, Sums}
 use Rattle.mtrace_replay.specs.declared.size.Bounds.{Bounds}
 use Rattle.tlsf_tool.specs.declared.asked.Command.{Command}
-use Rattle.tlsf_tool.specs.declared.asked.Command.TheVariants.{Report, Reread, Size, Save, Check}
+use Rattle.tlsf_tool.specs.declared.asked.Command.TheVariants.{Report, Follow, Reread, Size, Save, Check}
 use Rattle.tlsf_tool.specs.declared.asked.Rereading.TheVariants.{Sites, Timeline, Fit}
 use Rattle.tlsf_tool.specs.declared.asked.Name.{Name}
 use Rattle.tlsf_tool.specs.declared.asked.Name.TheVariants.{Leaks, Peak, Walk}
@@ -36,6 +39,13 @@ option_rule id default takes = record (given_rule id takes) { defaults = default
 abbrev pub needed_rule : Text → ValueParser → Rule
 needed_rule id takes = record (given_rule id takes) { required = true }
 
+-- `--ID` with no value
+abbrev pub flag_rule : Text → Rule
+flag_rule id = record (new_rule id) {
+  long = Some id;
+  action = Some SetTrue;
+}
+
 -- one word that must be there
 abbrev pub word_rule : Text → Rule
 word_rule id = record (new_rule id) { required = true }
@@ -56,6 +66,10 @@ report_line = heap_line (codes "16777216") (codes "8192")
 -- the default heap of these is the greatest
 abbrev pub great_line : Text → App
 great_line = heap_line (codes "1073741808") (codes "65535")
+
+-- a report's subcommand that needs no heap
+abbrev pub ledger_line : Text → App
+ledger_line name = with_rule (report_line name) (flag_rule (codes "no-heap"))
 
 abbrev pub timeline_line : App
 timeline_line = with_rule (great_line (codes "timeline")) (option_rule (codes "points") (codes "100") (parser.Signed (pos 1) (pos 10000)))
@@ -82,8 +96,8 @@ abbrev pub bare_line : App
 bare_line = on_top (λ s. record s { has_version = true; subcommand_required = true }) (new_app (codes "tlsf"))
 
 abbrev pub tlsf_line : App
-tlsf_line = with_subcommand (with_subcommand (with_subcommand (with_subcommand (with_subcommand (with_subcommand (with_subcommand (with_subcommand (with_subcommand bare_line (report_line (codes "leaks")).top)
-    (report_line (codes "peak")).top) (report_line (codes "walk")).top) (great_line (codes "sites")).top) timeline_line.top) fit_line.top) size_line.top) save_line.top) check_line.top
+tlsf_line = with_subcommand (with_subcommand (with_subcommand (with_subcommand (with_subcommand (with_subcommand (with_subcommand (with_subcommand (with_subcommand bare_line (ledger_line (codes "leaks")).top)
+    (ledger_line (codes "peak")).top) (report_line (codes "walk")).top) (great_line (codes "sites")).top) timeline_line.top) fit_line.top) size_line.top) save_line.top) check_line.top
 
 -- an option or a word by this rule, which the subcommand has for itself
 pub record IsArgOf (rule : Rule) (arg : Arg) : Type 0 where
@@ -111,6 +125,19 @@ abbrev pub HasSettings : List Row → Settings → Type 0
 HasSettings rows settings = HasNumber rows (codes "pool") 64 settings.pool
     × HasNumber rows (codes "pools") 32 settings.pools × HasNumber rows (codes "records") 32 settings.records
 
+-- the option is there that asks for no heap
+abbrev pub HasNoHeap : List Row → Type 0
+HasNoHeap rows = first_of (codes "no-heap") rows ≡ Some (codes "true")
+
+-- the settings of a report where none is given
+abbrev pub default_settings : Settings
+default_settings = record { pool = 16777216; pools = 1; records = 8192 }
+
+-- the name of a report without a heap
+abbrev pub follow_name : LedgerReport → Name
+follow_name Held = Leaks
+follow_name Sums = Peak
+
 -- the value of this id, where there is a number of it
 abbrev pub HasGiven : List Row → Text → Option ℕ → Type 0
 HasGiven rows id (Some n) = HasNumber rows id 64 n
@@ -128,8 +155,10 @@ HasNoLog rows = ((settings : Settings) → HasSettings rows settings → ⊥) �
 -- the subcommand and its matches ask for the command
 abbrev pub MatchesAskFor : Option (Text × List Row) → Command → Type 0
 MatchesAskFor None command = ⊥
-MatchesAskFor (Some found) (Report name settings log) = (found.0 ≡ name_text name)
+MatchesAskFor (Some found) (Report name settings log) = (found.0 ≡ name_text name) × (HasNoHeap found.1 → ⊥)
     × HasSettings found.1 settings × (first_of (codes "LOG") found.1 ≡ Some (string_bytes log))
+MatchesAskFor (Some found) (Follow report log) = (found.0 ≡ name_text (follow_name report)) × HasNoHeap found.1
+    × HasSettings found.1 default_settings × (first_of (codes "LOG") found.1 ≡ Some (string_bytes log))
 MatchesAskFor (Some found) (Reread (Sites settings) log) = (found.0 ≡ codes "sites")
     × HasSettings found.1 settings × (first_of (codes "LOG") found.1 ≡ Some (string_bytes log))
 MatchesAskFor (Some found) (Reread (Timeline settings parts) log) = (found.0 ≡ codes "timeline")

@@ -4,7 +4,7 @@ ghost use Rattle.tlsf_tool.specs.Statuses.{status_of_fault};
 
 use crate::shown::Shown;
 use crate::statuses::fault_status;
-use mtrace_replay::{Bounds, RunFault, Settings};
+use mtrace_replay::{Bounds, LedgerReport, RunFault, Settings};
 use std::alloc::Global;
 use thiserror::Error;
 
@@ -45,6 +45,13 @@ pub enum Command {
         name: Name,
         /// The heap that the log is replayed on.
         settings: Settings,
+        /// The log's name, `-` for standard input.
+        log: String,
+    },
+    /// A report of a log that no heap is asked for.
+    Follow {
+        /// Which report.
+        report: LedgerReport,
         /// The log's name, `-` for standard input.
         log: String,
     },

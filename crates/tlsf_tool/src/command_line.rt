@@ -3,10 +3,10 @@
 ghost use Rattle.std.specs.Prelude.{◌≡◌, IfOk, codes, pos};
 ghost use Rattle.clap.specs.declared.builder.value_parser.ValueParser.TheVariants.{Signed, Unsigned};
 ghost use Rattle.clap.specs.Words.{App, app_of, new_app, with_subcommand};
-ghost use Rattle.tlsf_tool.specs.CommandLine.{IsArgOf, IsCommandOf, given_rule, word_rule, heap_line, report_line, great_line, timeline_line, fit_line, size_line, save_line, check_line, bare_line, tlsf_line};
+ghost use Rattle.tlsf_tool.specs.CommandLine.{IsArgOf, IsCommandOf, given_rule, flag_rule, word_rule, heap_line, report_line, ledger_line, great_line, timeline_line, fit_line, size_line, save_line, check_line, bare_line, tlsf_line};
 
 use clap::builder::ValueParser;
-use clap::{Arg, Command, value_parser};
+use clap::{Arg, ArgAction, Command, value_parser};
 use std::alloc::{AllocError, Global};
 use tlsf_class::{GREATEST_SIZE, UNIT};
 
@@ -25,6 +25,7 @@ const EXAMPLES: &str = "Examples:
   tlsf sites a.log                          who holds the memory of a.log, at its peak and at its end
   tlsf timeline a.log                       what a.log holds over its lines
   tlsf leaks a.log                          what is not freed at the end of a.log
+  tlsf leaks --no-heap a.log                the same, where a.log holds more than a heap does
   tlsf peak --pool 1048576 --pools 2 a.log  the peak of a.log on two pools of 1 MiB
   tlsf walk --records 65535 -               the heap at the end of the log on standard input
   tlsf fit a.log                            how large a pool a.log needs, and how many records
@@ -46,14 +47,16 @@ const LEAKS: Help = Help {
     about: "Reports the memory that is not freed at the end of the log: each block's address, size, line and place.",
     examples: "Examples:
   tlsf leaks a.log                                   what is not freed at the end of a.log
-  tlsf leaks --records 65535 --pool 1073741808 a.log the same, where it holds more than 8192 blocks",
+  tlsf leaks --records 65535 --pool 1073741808 a.log the same, where it holds more than 8192 blocks
+  tlsf leaks --no-heap a.log                         the same, where it holds more than 65535",
 };
 
 const PEAK: Help = Help {
     about: "Reports the most bytes that the log holds at once, and how much of the heap they need.",
     examples: "Examples:
   tlsf peak a.log                           the peak of a.log on one pool of 16 MiB
-  tlsf peak --pool 1048576 --pools 2 a.log  the same on two pools of 1 MiB",
+  tlsf peak --pool 1048576 --pools 2 a.log  the same on two pools of 1 MiB
+  tlsf peak --no-heap a.log                 the most bytes that a.log holds at once, and the line",
 };
 
 const WALK: Help = Help {
@@ -119,6 +122,16 @@ fn option<'a>(
         .long(id)
         .value_name(value)
         .value_parser(parser)
+        .help(help)
+}
+
+/// The option of this id, which takes no value.
+fn flag<'a>(alloc: Global, id: &'a str, help: &'a str) -> Arg<'a>
+    ensures { IsArgOf (flag_rule id.entry.now) result }
+{
+    Arg::new(alloc, id)
+        .long(id)
+        .action(ArgAction::SetTrue)
         .help(help)
 }
 
@@ -195,6 +208,15 @@ fn report_command<'a>(alloc: Global, name: &'a str, help: Help) -> Result<Comman
     ensures { IfOk result (IsCommandOf (report_line name.entry.now)) }
 {
     heap_command(alloc, name, help, "16777216", "8192")
+}
+
+/// The subcommand of a report that needs no heap.
+fn ledger_command<'a>(alloc: Global, name: &'a str, help: Help) -> Result<Command<'a>, AllocError>
+    ensures { IfOk result (IsCommandOf (ledger_line name.entry.now)) }
+{
+    let no_heap =
+        "Give each block that is asked for, of any size and any number of them; with no other option";
+    report_command(alloc, name, help)?.arg(flag(alloc, "no-heap", no_heap))
 }
 
 /// A subcommand whose default heap is the greatest.
@@ -292,8 +314,8 @@ pub fn tlsf_command<'a>(alloc: Global) -> Result<Command<'a>, AllocError>
     ensures { IfOk result (λ command. app_of command ≡ tlsf_line) }
 {
     let bare = bare_command(alloc)?;
-    let leaks = with(bare, report_command(alloc, "leaks", LEAKS))?;
-    let peak = with(leaks, report_command(alloc, "peak", PEAK))?;
+    let leaks = with(bare, ledger_command(alloc, "leaks", LEAKS))?;
+    let peak = with(leaks, ledger_command(alloc, "peak", PEAK))?;
     let walk = with(peak, report_command(alloc, "walk", WALK))?;
     let sites = with(walk, great_command(alloc, "sites", SITES))?;
     let timeline = with(sites, timeline_command(alloc))?;

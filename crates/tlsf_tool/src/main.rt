@@ -28,9 +28,9 @@ use crate::check::check_image;
 use crate::files::{FileNumber, are_one, make_file};
 use crate::plan::{Streams, is_standard, planned};
 use crate::run::Run;
-use crate::service::{serve, serve_again, serve_help, serve_save, serve_size};
+use crate::service::{serve, serve_again, serve_help, serve_ledger, serve_save, serve_size};
 use crate::setting_faults::{BAD_SETTINGS, tell_bad_bounds, tell_bad_heap, tell_bad_reading};
-use mtrace_replay::{Bounds, RunFault, Settings};
+use mtrace_replay::{Bounds, LedgerReport, RunFault, Settings};
 use std::alloc::Global;
 use std::fs::File;
 use std::io::{IsTerminal, Read, Seek, Stdin};
@@ -123,6 +123,25 @@ fn report<R: Read + Drop>(
         &mut errors,
     );
     tell_bad_heap(run.rt, status, settings);
+    Ok(run.end(status, log.name.as_str(), ""))
+}
+
+/// Makes a report of a log that is open, without a heap.
+fn follow<R: Read + Drop>(
+    run: &Run<'_>,
+    report: LedgerReport,
+    log: Input<R>,
+) -> Result<u8, ToolFault> {
+    let mut reader = run.reader(log.file);
+    let mut errors = run.errors();
+    let mut writer = run.output()?;
+    let status = serve_ledger(
+        run.rt.alloc(),
+        report,
+        &mut reader,
+        &mut writer,
+        &mut errors,
+    );
     Ok(run.end(status, log.name.as_str(), ""))
 }
 
@@ -224,6 +243,14 @@ fn report_log(run: &Run<'_>, name: Name, settings: Settings, log: String) -> Res
     report(run, name, settings, open_path(run, log, false)?)
 }
 
+/// Makes a report of a log without a heap. The log is opened first where it is a file.
+fn follow_log(run: &Run<'_>, report: LedgerReport, log: String) -> Result<u8, ToolFault> {
+    if is_standard(&log) {
+        return follow(run, report, standard_input(run, log)?);
+    }
+    follow(run, report, open_path(run, log, false)?)
+}
+
 /// Saves the heap at the end of a log, which is opened first where it is a file.
 fn save_log(
     run: &Run<'_>,
@@ -245,6 +272,7 @@ fn act(run: &Run<'_>, command: Command) -> Result<u8, ToolFault> {
             settings,
             log,
         } => report_log(run, name, settings, log),
+        Command::Follow { report, log } => follow_log(run, report, log),
         Command::Reread { what, log } => reread(run, what, log),
         Command::Save {
             settings,

@@ -40,7 +40,7 @@ fn is_told(streams: Streams, command: &Command) -> bool
     ensures { result ≡ is_told streams command.now }
 {
     match command {
-        Command::Report { log, .. } | Command::Save { log, .. } => {
+        Command::Report { log, .. } | Command::Follow { log, .. } | Command::Save { log, .. } => {
             streams.shown && !(streams.typed && is_standard(log))
         }
         Command::Reread { .. } => streams.shown,

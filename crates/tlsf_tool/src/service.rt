@@ -2,6 +2,7 @@
 
 ghost use Rattle.std.specs.Prelude.{◌≡◌};
 ghost use Rattle.mtrace_replay.specs.Run.{Runs};
+ghost use Rattle.mtrace_replay.specs.RunServed.{RunsServed};
 ghost use Rattle.mtrace_replay.specs.Size.{RunsSize};
 ghost use Rattle.mtrace_replay.specs.Saving.{RunsAndSaves, PutsAndFlushes};
 ghost use Rattle.tlsf_tool.specs.Statuses.{report_of, EndsAs, Rereads, PutsHelp};
@@ -11,8 +12,8 @@ use crate::statuses::{end_status, fault_status};
 use arrayvec::ArrayString;
 use mtrace_log::{Again, Failed, Sink, Source, put_all};
 use mtrace_replay::{
-    Bounds, RunFault, Settings, Status, Watch, run_fit, run_leaks, run_peak, run_save, run_sites,
-    run_size, run_timeline, run_walk,
+    Bounds, LedgerReport, RunFault, Settings, Status, Watch, run_fit, run_leaks, run_ledger,
+    run_peak, run_save, run_sites, run_size, run_timeline, run_walk,
 };
 use std::alloc::Global;
 use std::fmt::Write;
@@ -94,6 +95,22 @@ pub fn serve<R: Source, W: Sink, E: Sink>(
         result errors.old errors.new }
 {
     end_run(errors, run_named(alloc, name, settings, reader, writer))
+}
+
+/// Makes a report of what the reader has left, without a heap. Puts the line of a fault to `errors`, whose own fault
+/// doesn't matter. Answers the status that the program ends with. It is 0 where nothing was found, and 1 where something
+/// was. It is 3 where the reader or the writer failed, and 4 where memory was refused.
+pub fn serve_ledger<R: Source, W: Sink, E: Sink>(
+    alloc: Global,
+    report: LedgerReport,
+    reader: &mut R,
+    writer: &mut W,
+    errors: &mut E,
+) -> u8
+    ensures { EndsAs (λ outcome. RunsServed report outcome (R.shown reader.old) (R.shown reader.new) (W.shown writer.old) (W.shown writer.new))
+        result errors.old errors.new }
+{
+    end_run(errors, run_ledger(alloc, reader, writer, report))
 }
 
 /// Makes what reads its log more than once, of the log that the reader has left.

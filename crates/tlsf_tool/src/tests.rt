@@ -10,6 +10,7 @@ mod heap;
 mod hostile;
 mod images;
 mod log;
+mod no_heap;
 mod plan;
 mod program;
 mod progress;

@@ -77,7 +77,10 @@ static OPTIONS: [NumberOption; 9] = [
     },
 ];
 
-/// The option of this name.
+/// The option that takes no number.
+const NO_HEAP: &str = "--no-heap";
+
+/// The option of this name that takes a number.
 fn option_of(name: &str) -> Option<&'static NumberOption> {
     OPTIONS.iter().find(|option| option.name == name)
 }
@@ -173,6 +176,20 @@ fn number_text(alloc: Global, text: &str) -> Result<Option<String>, AllocError> 
     Ok(None)
 }
 
+/// The commands that have an option of this name, which this command doesn't have, where clap doesn't tell that.
+fn commands_of(name: &str, command: &str) -> Option<&'static str> {
+    let (commands, is_later) = if name == NO_HEAP {
+        ("leaks and peak", true)
+    } else {
+        let option = option_of(name)?;
+        (option.commands, option.takes.is_some())
+    };
+    if is_told_here(command) || (is_later && is_told_by_clap(command)) {
+        return Some(commands);
+    }
+    None
+}
+
 /// Which commands have an option, where clap's text says that the command of these words has none of this name.
 fn option_text(alloc: Global, words: &[String], text: &str) -> Result<Option<String>, AllocError> {
     let Some(rest) = text.strip_prefix("error: unexpected argument '") else {
@@ -181,13 +198,10 @@ fn option_text(alloc: Global, words: &[String], text: &str) -> Result<Option<Str
     let (Some((name, _)), Some(command)) = (rest.split_once("' found"), words.get(1)) else {
         return Ok(None);
     };
-    let (Some(option), command) = (option_of(name), command.as_str()) else {
+    let command = command.as_str();
+    let Some(commands) = commands_of(name, command) else {
         return Ok(None);
     };
-    if !is_told_here(command) && !(is_told_by_clap(command) && option.takes.is_some()) {
-        return Ok(None);
-    }
-    let commands = option.commands;
     Ok(Some(format!(in alloc;
         "error: {command} has no option {name}; it is an option of {commands}\n\nFor more information, try '--help'.\n"
     )?))

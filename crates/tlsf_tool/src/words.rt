@@ -1,8 +1,8 @@
 //! The words of the command line.
 
-ghost use Rattle.std.specs.Prelude.{◌≡◌, ◌⊎◌, codes, string_bytes, Some, None};
+ghost use Rattle.std.specs.Prelude.{◌≡◌, ◌⊎◌, MatchBool, codes, string_bytes, Some, None};
 ghost use Rattle.clap.specs.Words.{first_of, found_of, kind_of, rows_of, subcommand_rows_of};
-ghost use Rattle.tlsf_tool.specs.CommandLine.{HasNumber, HasSettings, HasBounds, HasNoLog, name_text};
+ghost use Rattle.tlsf_tool.specs.CommandLine.{HasNumber, HasSettings, HasBounds, HasNoHeap, HasNoLog, default_settings, follow_name, name_text};
 ghost use Rattle.tlsf_tool.specs.Faults.{ExplainsKind, IsUsage};
 ghost use Rattle.tlsf_tool.specs.Asks.{Picks, Asks, MatchesGive, WordsGive};
 
@@ -11,7 +11,7 @@ use crate::command_line::tlsf_command;
 use crate::word_faults::told_text;
 use clap::error::ErrorKind;
 use clap::{ArgMatches, Error};
-use mtrace_replay::{Bounds, RunFault, Settings};
+use mtrace_replay::{Bounds, LedgerReport, RunFault, Settings};
 use std::alloc::Global;
 
 /// Memory was refused.
@@ -19,6 +19,10 @@ const NO_MEMORY: ToolFault = ToolFault::Run(RunFault::OutOfMemory);
 
 /// The text where clap takes words that ask for nothing.
 const NO_COMMAND: &str = "tlsf: no command; for more, try 'tlsf --help'\n";
+
+/// The text where a setting of a heap stands beside the option that asks for none.
+const NO_SETTINGS: &str =
+    "error: --no-heap takes no option beside it: --pool, --pools and --records are of a heap\n\nFor more information, try '--help'.\n";
 
 /// The size of this id, in bytes, that a subcommand's matches have.
 fn size_of(found: &ArgMatches<'_>, id: &str) -> Option<u64>
@@ -153,8 +157,35 @@ fn asked_check(alloc: Global, found: &ArgMatches<'_>) -> Result<Command, ToolFau
     Ok(Command::Check { image })
 }
 
-/// What the matches of a report's subcommand ask for.
-fn asked_report(alloc: Global, name: Name, found: &ArgMatches<'_>) -> Result<Command, ToolFault>
+/// Whether the option is there that asks for no heap.
+fn has_no_heap(found: &ArgMatches<'_>) -> bool
+    ensures { MatchBool result (HasNoHeap (rows_of (found_of found.now))) (HasNoHeap (rows_of (found_of found.now)) → ⊥) }
+{
+    match found.get_str("no-heap") {
+        Some(word) => word == "true",
+        None => false,
+    }
+}
+
+/// What the matches of the subcommand ask for of a report without a heap.
+fn asked_ledger(
+    alloc: Global,
+    report: LedgerReport,
+    found: &ArgMatches<'_>,
+) -> Result<Command, ToolFault>
+    requires none { HasNoHeap (rows_of (found_of found.now)) }
+    ensures { MatchesGive (Some (name_text (follow_name report), rows_of (found_of found.now))) result }
+{
+    let (settings, log) = log_of(alloc, found)?;
+    if settings != Settings::DEFAULT {
+        return Err(ToolFault::usage(alloc, NO_SETTINGS));
+    }
+    Ok(Command::Follow { report, log })
+}
+
+/// What the matches of the subcommand ask for of a report on a heap.
+fn asked_on_heap(alloc: Global, name: Name, found: &ArgMatches<'_>) -> Result<Command, ToolFault>
+    requires none { HasNoHeap (rows_of (found_of found.now)) → ⊥ }
     ensures { MatchesGive (Some (name_text name, rows_of (found_of found.now))) result }
 {
     let (settings, log) = log_of(alloc, found)?;
@@ -163,6 +194,20 @@ fn asked_report(alloc: Global, name: Name, found: &ArgMatches<'_>) -> Result<Com
         settings,
         log,
     })
+}
+
+/// What the matches of a report's subcommand ask for.
+fn asked_report(alloc: Global, name: Name, found: &ArgMatches<'_>) -> Result<Command, ToolFault>
+    ensures { MatchesGive (Some (name_text name, rows_of (found_of found.now))) result }
+{
+    if !has_no_heap(found) {
+        return asked_on_heap(alloc, name, found);
+    }
+    match name {
+        Name::Leaks => asked_ledger(alloc, LedgerReport::Held, found),
+        Name::Peak => asked_ledger(alloc, LedgerReport::Sums, found),
+        Name::Walk => Err(ToolFault::usage(alloc, NO_COMMAND)),
+    }
 }
 
 /// What the matches ask for.

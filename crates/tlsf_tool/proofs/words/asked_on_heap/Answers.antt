@@ -1,6 +1,6 @@
 use Rattle.clap.specs.Words.{found_of, rows_of}
 use Rattle.tlsf_tool.proofs.CommandLineLemmas.{asks_exit, report_asks_nothing}
-use Rattle.tlsf_tool.proofs.words.asked_report.Goals as goal
+use Rattle.tlsf_tool.proofs.words.asked_on_heap.Goals as goal
 
 pub returns-in_err-settings : goal.returns-in_err-settings
 returns-in_err-settings c =

@@ -1,0 +1,8 @@
+use Rattle.clap.specs.Words.{found_of, rows_of}
+use Rattle.tlsf_tool.specs.CommandLine.{follow_name}
+use Rattle.tlsf_tool.proofs.CommandLineLemmas.{asks_exit, report_asks_nothing}
+use Rattle.tlsf_tool.proofs.words.asked_ledger.Goals as goal
+
+pub returns-in_err-settings : goal.returns-in_err-settings
+returns-in_err-settings c =
+    asks_exit c.from_residual.result _ c.from_residual.ensures.1 (report_asks_nothing (rows_of (found_of c.args.found.now)) (follow_name c.args.report)) c.in_err-settings.ensures.faults
