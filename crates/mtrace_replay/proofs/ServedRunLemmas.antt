@@ -1,8 +1,7 @@
 -- A run without a heap under way, and how it goes on and ends.
-use Rattle.std.proofs.Common.{◌≡◌, ℕ, Bool, false, ◌||◌, List, [], ◌∷◌, ◌++◌, length, map, refl, sym, ap, ◌∙◌, subst, Some, reverse, ◌⊎◌, inl, inr, append_assoc, if◌then◌else◌}
-use Rattle.std.specs.Prelude.{Result}
+use Rattle.std.proofs.Common.{◌≡◌, ℕ, Bool, false, ◌||◌, List, [], ◌∷◌, ◌++◌, length, map, refl, sym, ap, ◌∙◌, subst, reverse, inl, inr, append_assoc, if◌then◌else◌}
 use Rattle.std.proofs.lemmas.List.{length-reverse, length-map}
-use Rattle.mtrace_log.specs.Progress.{Progress, Reading, Faulted, to_come, GivesLine, FindsEnd, GivesFault, CallsFor}
+use Rattle.mtrace_log.specs.Progress.{Progress, Faulted, to_come, GivesLine, FindsEnd, GivesFault, CallsFor}
 use Rattle.mtrace_log.specs.Shown.{Bytes, ReaderState, WriterState}
 use Rattle.mtrace_log.specs.HasRead.{HasReadAll}
 use Rattle.mtrace_log.specs.Output.{Wrote, Begins}
@@ -10,19 +9,16 @@ use Rattle.mtrace_log.specs.declared.line.Line.{Line}
 use Rattle.mtrace_log.specs.declared.line.ReadFault.{ReadFault}
 use Rattle.mtrace_log.specs.declared.line.ReadFault.TheVariants.{ReaderFailed}
 use Rattle.mtrace_log.proofs.Writing.{Wrote-nothing, Wrote-append, Begins-after, Begins-longer}
-use Rattle.mtrace_replay.specs.declared.diagnostic.Diagnostic.{Diagnostic}
 use Rattle.mtrace_replay.specs.declared.status.Status.{Status}
 use Rattle.mtrace_replay.specs.declared.status.Status.TheVariants.{Clean, Found}
 use Rattle.mtrace_replay.specs.declared.no_heap.replay.LedgerTotals.{LedgerTotals}
 use Rattle.mtrace_replay.specs.declared.no_heap.report.LedgerReport.{LedgerReport}
-use Rattle.mtrace_replay.specs.Entry.{Entry}
 use Rattle.mtrace_replay.specs.Moment.{ReadLine, Given, Moment, half}
 use Rattle.mtrace_replay.specs.History.{held, notes, pending, entries_of}
-use Rattle.mtrace_replay.specs.Totals.{Measures, bytes_in, blocks_in}
 use Rattle.mtrace_replay.specs.Texts.{diagnostics_text, ledger_report_text, clean_or_found, total_size}
-use Rattle.mtrace_replay.specs.Run.{with_unused, has_some}
+use Rattle.mtrace_replay.specs.Run.{has_some}
 use Rattle.mtrace_replay.specs.Replaying.{IsFollowed}
-use Rattle.mtrace_replay.specs.Served.{unplaced, served_moment, served_moments, served_history, served_diagnostics, added_served, Standing, IsServed, totals_of}
+use Rattle.mtrace_replay.specs.Served.{unplaced, served_moment, served_moments, served_history, added_served, Standing, IsServed, totals_of}
 use Rattle.mtrace_replay.specs.RunServed.{served_notes, whole_served, AreServedTotals, ReportsServed, StopsServedAtRead, StopsServedAtWrite, StopsForMemory, served_end, LineServed, LineServedInPart, HasServed}
 use Rattle.mtrace_replay.proofs.ReplayingLemmas.{prepend_nothing, no_line, followed_start, followed_line, followed_end, followed_fault, line_read, reverse-more}
 use Rattle.mtrace_replay.proofs.RunLemmas.{diagnostics_text-append, some_diagnostic-append, status-is}

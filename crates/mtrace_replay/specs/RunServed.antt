@@ -8,7 +8,7 @@ use Rattle.mtrace_replay.specs.declared.diagnostic.Diagnostic.{Diagnostic}
 use Rattle.mtrace_replay.specs.declared.status.Status.{Status}
 use Rattle.mtrace_replay.specs.declared.status.Status.TheVariants.{Clean, Found}
 use Rattle.mtrace_replay.specs.declared.status.RunFault.{RunFault}
-use Rattle.mtrace_replay.specs.declared.status.RunFault.TheVariants.{Read, Write, OutOfMemory, BadSettings, Image}
+use Rattle.mtrace_replay.specs.declared.status.RunFault.TheVariants.{Read, Write, OutOfMemory}
 use Rattle.mtrace_replay.specs.declared.no_heap.replay.LedgerTotals.{LedgerTotals}
 use Rattle.mtrace_replay.specs.declared.no_heap.report.LedgerReport.{LedgerReport}
 use Rattle.mtrace_replay.specs.declared.no_heap.run.Stop.{Stop}
@@ -18,7 +18,7 @@ use Rattle.mtrace_replay.specs.History.{notes, AreHeld, entries_of}
 use Rattle.mtrace_replay.specs.Totals.{is_served, Measures, IsPeak, bytes_in, blocks_in}
 use Rattle.mtrace_replay.specs.Texts.{diagnostics_text, ledger_report_text, clean_or_found}
 use Rattle.mtrace_replay.specs.Served.{served_history, served_diagnostics, added_served, Standing, IsServed, totals_of}
-use Rattle.mtrace_replay.specs.Run.{with_unused, FailedInPiece, IsPastLastNumber, NothingDone, has_some}
+use Rattle.mtrace_replay.specs.Run.{with_unused, FailedInPiece, IsPastLastNumber, has_some}
 
 -- the text of the diagnostics of lines, the first line first
 abbrev pub served_notes : List ReadLine → List ℕ

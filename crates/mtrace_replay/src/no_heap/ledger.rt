@@ -163,7 +163,7 @@ impl Ledger {
         Ok(())
     }
 
-    /// Holds an address in location of an old one, which may be the same.
+    /// Holds an address in place of an old one, which may be the same.
     ///
     /// # Errors
     ///

@@ -4,8 +4,7 @@ use Rattle.mtrace_log.specs.Address.{address_text}
 use Rattle.mtrace_log.specs.Bytes.{newline}
 use Rattle.mtrace_log.specs.Output.{PutsAll, PutsPart}
 use Rattle.mtrace_log.proofs.Writing.{puts_on, puts_then, fails_on, fails_early, puts_exit}
-use Rattle.mtrace_replay.specs.Texts.{at_text, entry_text}
-use Rattle.mtrace_replay.specs.Entry.{Entry}
+use Rattle.mtrace_replay.specs.Texts.{at_text}
 use Rattle.mtrace_replay.proofs.no_heap.report.put_entry.Goals as goal
 
 -- the line up to the location
