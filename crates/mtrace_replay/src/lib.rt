@@ -44,7 +44,6 @@ pub use crate::diagnostic::{Diagnostic, Kind, Note};
 pub use crate::entry::Entry;
 pub use crate::fit::run_fit;
 pub use crate::index::Entries;
-pub use crate::no_heap::replay::{LedgerReplay, LedgerTotals};
 pub use crate::no_heap::report::LedgerReport;
 pub use crate::no_heap::run::run_ledger;
 pub use crate::replay::{Replay, ReplayFault};
