@@ -7,11 +7,17 @@ use crate::files::{above_streams, make_file};
 use std::alloc::AllocError;
 use std::fs::{File, Metadata, OpenOptions};
 use std::io::Write;
-use std::os::unix::fs::{MetadataExt, fchown};
+use std::os::unix::fs::{MetadataExt, OpenOptionsExt, fchown};
 use std::{fs, io};
 
 /// How many names are tried for a file beside an image.
 const MOST_NAMES: u32 = 1000;
+
+/// The rights of a new file, without those that the caller's umask takes.
+const NEW_FILE: u32 = 0o666;
+
+/// The rights of a file until it gets those of an older image.
+const MINE_ALONE: u32 = 0o600;
 
 /// The file that an image is written to.
 #[derive(Drop)]
@@ -38,13 +44,14 @@ fn open_to_write(rt: &HostRuntime, name: &str) -> io::Result<File>
     above_streams(file)
 }
 
-/// Makes a file that there isn't yet. Nothing is left of it where it can't be used.
-fn make_new(rt: &HostRuntime, name: &str) -> io::Result<File>
+/// Makes a file that there isn't yet, with these rights. Nothing is left of it where it can't be used.
+fn make_new(rt: &HostRuntime, name: &str, rights: u32) -> io::Result<File>
     ensures { IfOk result IsAboveStreams }
 {
     let file = OpenOptions::new()
         .write(true)
         .create_new(true)
+        .mode(rights)
         .open(rt, name)?;
     let above = above_streams(file);
     if above.is_err() {
@@ -61,15 +68,15 @@ fn name_beside(rt: &HostRuntime, image: &str, number: u32) -> Result<String, All
     }
 }
 
-/// Makes a file beside the image, where that can be.
+/// Makes a file with these rights beside the image, where that can be.
 ///
 /// # Errors
 ///
 /// `OutOfMemory` where memory is refused for its name.
-fn make_beside(rt: &HostRuntime, image: String) -> io::Result<Option<(File, Beside)>> {
+fn make_beside(rt: &HostRuntime, image: String, rights: u32) -> io::Result<Option<(File, Beside)>> {
     for number in 0..MOST_NAMES {
         let name = name_beside(rt, image.as_str(), number)?;
-        match make_new(rt, name.as_str()) {
+        match make_new(rt, name.as_str(), rights) {
             Ok(file) => return Ok(Some((file, Beside { file: name, image }))),
             Err(error) if error.kind() == io::ErrorKind::AlreadyExists => {}
             Err(_) => return Ok(None),
@@ -109,7 +116,7 @@ impl<'a> ImageFile<'a> {
 
     /// A file beside an image that there isn't yet.
     fn anew(rt: &'a HostRuntime, image: &str) -> io::Result<ImageFile<'a>> {
-        match make_beside(rt, String::from_str(rt.alloc(), image)?)? {
+        match make_beside(rt, String::from_str(rt.alloc(), image)?, NEW_FILE)? {
             Some((file, beside)) => Ok(ImageFile::of(rt, file, beside)),
             None => ImageFile::itself(rt, image),
         }
@@ -124,7 +131,7 @@ impl<'a> ImageFile<'a> {
             Err(error) if error.kind() == io::ErrorKind::OutOfMemory => return Err(error),
             Err(_) => return ImageFile::itself(rt, image),
         };
-        let Some((file, beside)) = make_beside(rt, path.into_string())? else {
+        let Some((file, beside)) = make_beside(rt, path.into_string(), MINE_ALONE)? else {
             return ImageFile::itself(rt, image);
         };
         let _ = fchown(&file, Some(standing.uid()), Some(standing.gid()));
