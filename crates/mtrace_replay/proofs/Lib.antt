@@ -48,6 +48,7 @@ mod ToldLines
 mod TotalsLemmas
 mod TotalsStep
 mod TriedLemmas
+mod UnrefusedLemmas
 mod VerdictLemmas
 mod EntryOrder
 mod LedgerLemmas

@@ -2,7 +2,7 @@
 use Rattle.std.proofs.Common.{◌≡◌, ℕ, zero, suc, ◌-◌, ◌*◌, ◌<◌, ◌≤◌, Bool, true, false, List, [], ◌∷◌, length, drop, ◌⊎◌, inl, inr, refl, sym, ap, ◌∙◌, subst, arith, Ok, Err}
 use Rattle.std.specs.Prelude.{◌&&◌, max, nat_le, nat_lt, if◌then◌else◌}
 use Rattle.std.specs.List.{Contains, list_all}
-use Rattle.std.proofs.lemmas.Bool.{cases_Bool, leb-true, leb-false, ltb-true, ltb-false}
+use Rattle.std.proofs.lemmas.Bool.{cases_Bool, leb-true, leb-false, ltb-true, ltb-false, cases_lt}
 use Rattle.std.proofs.lemmas.List.Elements.{Contains-append_cases, Contains-append_left, Contains-append_right}
 use Rattle.tlsf_heap.specs.declared.refusal.Refusal.{Refusal}
 use Rattle.tlsf_heap.specs.declared.refusal.Refusal.TheVariants.{BadPool, PoolsFull, TableFull}
@@ -180,3 +180,13 @@ with_pools_free settings (suc i) content free = with_pools_free settings i (left
 pub started_free : (settings : Settings) (block : Block (Unit {0})) → Contains (blocks_of (started settings).pools) block → is_free block ≡ true
 unfolding started
 started_free settings = with_pools_free settings settings.pools (created settings.records) (λ block has. none_stands block has)
+
+-- a greatest number is one, and its line
+pub one_greatest : (Holds : List Moment → ℕ → Type 0) (past : List Moment) (n m line other : ℕ) → IsGreatestOf Holds past n line → IsGreatestOf Holds past m other → n ≡ m
+one_greatest Holds past n m line other first second = omega (arith, second.greatest line n first.reached, first.greatest other m second.reached)
+
+pub not_later : (Holds : List Moment → ℕ → Type 0) (past : List Moment) (n m line other : ℕ) → IsGreatestOf Holds past n line → IsGreatestOf Holds past m other → line ≤ other
+not_later Holds past n m line other first second = elim (cases_lt other line) [
+  | inl less ↦ absurd (omega (arith, first.first other m less second.reached, one_greatest Holds past n m line other first second))
+  | inr more ↦ omega (arith, more)
+]

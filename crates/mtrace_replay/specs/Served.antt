@@ -9,6 +9,7 @@ use Rattle.mtrace_replay.specs.Moment.{ReadLine, Given, Moment, Plan, Act, idle,
 use Rattle.mtrace_replay.specs.History.{held, held_after, pending, notes, AreHeld}
 use Rattle.mtrace_replay.specs.Totals.{is_served, IsPeak}
 use Rattle.mtrace_replay.specs.declared.no_heap.replay.LedgerTotals.{LedgerTotals}
+use Rattle.mtrace_replay.specs.declared.totals.Totals.{Totals}
 use Rattle.mtrace_replay.specs.Texts.{total_size}
 use Rattle.mtrace_replay.specs.Ledger.{held_at}
 
@@ -97,4 +98,15 @@ totals_of replay = record {
   live_blocks = length replay.all;
   peak_bytes = replay.peak_bytes;
   peak_line = replay.peak_line;
+}
+
+-- the sums of a replay on a heap that are told without one
+abbrev pub without_places : Totals → LedgerTotals
+without_places totals = record {
+  lines = totals.lines;
+  served = totals.served;
+  live_bytes = totals.live_bytes;
+  live_blocks = totals.live_blocks;
+  peak_bytes = totals.peak_bytes;
+  peak_line = totals.peak_line;
 }

@@ -6,7 +6,7 @@ ghost use Rattle.tlsf_heap.specs.declared.refusal.Refusal.TheVariants.{NoFit, Ta
 ghost use Rattle.mtrace_replay.specs.declared.settings.Settings.{Settings};
 ghost use Rattle.mtrace_replay.specs.Started.{Bare, started};
 ghost use Rattle.mtrace_replay.specs.Moment.{ReadLine, Given, Moment};
-ghost use Rattle.mtrace_replay.specs.History.{AreHeld, held, moments};
+ghost use Rattle.mtrace_replay.specs.History.{AreHeld, held, moments, history, diagnostics, entries_of};
 ghost use Rattle.mtrace_log.specs.HasRead.{HasReadAll};
 ghost use Rattle.mtrace_log.specs.Shown.{Bytes};
 ghost use Rattle.mtrace_replay.specs.Again.{HasReadFirst};
@@ -20,6 +20,9 @@ ghost use Rattle.mtrace_replay.specs.Entry.{Entry};
 ghost use Rattle.mtrace_replay.specs.Sites.{Site, AreSites};
 ghost use Rattle.mtrace_replay.specs.declared.totals.Totals.{Totals};
 ghost use Rattle.mtrace_replay.specs.Totals.{AreTotals, IsMost};
+ghost use Rattle.mtrace_replay.specs.declared.no_heap.replay.LedgerTotals.{LedgerTotals};
+ghost use Rattle.mtrace_replay.specs.Served.{served_history, served_diagnostics, without_places};
+ghost use Rattle.mtrace_replay.specs.RunServed.{AreServedTotals};
 ghost use Rattle.mtrace_replay.specs.declared.point.Point.{Point};
 ghost use Rattle.mtrace_replay.specs.Timeline.{AreTold, IsPoint};
 
@@ -95,4 +98,14 @@ pub fn one_totals()
 pub fn one_timeline()
     ensures told { (lines peak parts : ℕ) (one other : List ℕ) → AreTold lines peak parts one → AreTold lines peak parts other → one ≡ other }
     ensures points { (start : Bare) (past : List Moment) (one other : Point) → IsPoint start past one → IsPoint start past other → one.line ≡ other.line → one ≡ other }
+{}
+
+/// Where no line of a log is refused, a run without a heap tells what one with a heap does: the same is wrong with the lines,
+/// the same is held, and the sums are the same.
+pub fn unrefused_is_served()
+    ensures diagnostics { (settings : Settings) (lines : List ReadLine) → refusals settings lines ≡ 0 → served_diagnostics lines ≡ diagnostics settings lines }
+    ensures held { (settings : Settings) (lines : List ReadLine) (all other : List Given) → refusals settings lines ≡ 0
+        → AreHeld all (history settings lines) → AreHeld other (served_history lines) → entries_of other ≡ entries_of all }
+    ensures sums { (settings : Settings) (lines : List ReadLine) (totals : Totals) (sums : LedgerTotals) → refusals settings lines ≡ 0
+        → AreTotals (started settings) (history settings lines) totals → AreServedTotals (served_history lines) sums → sums ≡ without_places totals }
 {}

@@ -1,18 +1,7 @@
-use Rattle.std.proofs.Common.{◌≡◌, ℕ, ◌≤◌, List, sym, ◌∙◌, arith, inl, inr}
-use Rattle.std.proofs.lemmas.Bool.{cases_lt}
-use Rattle.mtrace_replay.specs.Moment.{Moment}
-use Rattle.mtrace_replay.specs.Totals.{Measures, IsGreatestOf}
-use Rattle.mtrace_replay.proofs.TotalsLemmas.{measure_is_one}
+use Rattle.std.proofs.Common.{◌≡◌, sym, ◌∙◌, arith}
+use Rattle.mtrace_replay.specs.Totals.{Measures}
+use Rattle.mtrace_replay.proofs.TotalsLemmas.{measure_is_one, one_greatest, not_later}
 use Rattle.mtrace_replay.proofs.laws.one_totals.Goals as goal
-
-one_greatest : (Holds : List Moment → ℕ → Type 0) (past : List Moment) (n m line other : ℕ) → IsGreatestOf Holds past n line → IsGreatestOf Holds past m other → n ≡ m
-one_greatest Holds past n m line other first second = omega (arith, second.greatest line n first.reached, first.greatest other m second.reached)
-
-not_later : (Holds : List Moment → ℕ → Type 0) (past : List Moment) (n m line other : ℕ) → IsGreatestOf Holds past n line → IsGreatestOf Holds past m other → line ≤ other
-not_later Holds past n m line other first second = elim (cases_lt other line) [
-  | inl less ↦ absurd (omega (arith, first.first other m less second.reached, one_greatest Holds past n m line other first second))
-  | inr more ↦ omega (arith, more)
-]
 
 pub returns-clause-most : goal.returns-clause-most
 returns-clause-most c = λ measure past one other first second. one_greatest (Measures measure) past one other first.0 second.0 first.1 second.1
