@@ -2,4 +2,5 @@
 
 pub(crate) mod image_bytes;
 mod reading_images;
+mod runs;
 mod tables;
