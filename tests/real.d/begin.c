@@ -1,6 +1,6 @@
 /* Loaded in front of a program by tests/real. It begins glibc's tracer, where that is asked for, and then takes out of the
- * environment what only one of the two runs has, so that the program asks for the same blocks in both: traced, and under valgrind.
- * It calls no getenv and no unsetenv, since bash has its own. */
+ * environment what only one of the two runs has, so that the program asks for the same blocks in both: traced, and under
+ * valgrind. It calls no getenv and no unsetenv, since bash has its own. */
 #include <mcheck.h>
 #include <stdbool.h>
 #include <string.h>
