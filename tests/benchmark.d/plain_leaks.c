@@ -1,6 +1,7 @@
 /* What a careful C programmer writes in an afternoon: the report of leaks of a log of mtrace(3), by a parser and a hash table.
  * No heap, no diagnostics: a line that is none of the forms is passed over. tests/benchmark measures it beside `tlsf leaks`, and
- * compares the reports. It isn't proved. */
+ * compares the reports. It isn't proved. An entry has its location in it, or where NUMBERED is defined, the number of that: each
+ * location is then kept once, for less memory. */
 #include <stdbool.h>
 #include <stdint.h>
 #include <stdio.h>
@@ -13,8 +14,12 @@ struct entry {
     uint64_t size;
     uint64_t line;
     uint32_t next_free;
+#ifdef NUMBERED
+    uint32_t location;
+#else
     uint16_t length;
     char location[256];
+#endif
 };
 
 /* Places of entries by the hash of their address, 0 for none, with linear probing; and entries from 1 on, those linked that
@@ -55,6 +60,81 @@ static void rehash(size_t count)
             places[find(entries[old[at]].address)] = old[at];
     free(old);
 }
+
+#ifdef NUMBERED
+/* The locations by number, of which 0 is that of no bytes, and places of numbers by the hash of the bytes, 0 for none. */
+static struct location {
+    uint16_t length;
+    char bytes[];
+} **locations;
+static uint32_t *numbers;
+static uint32_t known;
+static size_t numbers_mask;
+
+static size_t hash_of(const char *bytes, size_t length)
+{
+    uint64_t sum = length;
+    for (; length >= 8; bytes += 8, length -= 8) {
+        uint64_t next;
+        memcpy(&next, bytes, 8);
+        sum = (sum ^ next) * 0x9E3779B97F4A7C15u;
+        sum ^= sum >> 32;
+    }
+    for (; length; length--)
+        sum = (sum ^ (unsigned char)*bytes++) * 0x9E3779B97F4A7C15u;
+    return (size_t)(sum >> 20);
+}
+
+/* The place of the number of these bytes, or the empty place that ends its search. */
+static size_t find_number(const char *bytes, size_t length)
+{
+    size_t at = hash_of(bytes, length) & numbers_mask;
+    while (numbers[at] && (locations[numbers[at]]->length != length || memcmp(locations[numbers[at]]->bytes, bytes, length)))
+        at = (at + 1) & numbers_mask;
+    return at;
+}
+
+/* Twice as many places, and room for half as many locations. */
+static void more_numbers(void)
+{
+    numbers_mask = numbers_mask ? 2 * numbers_mask + 1 : 1023;
+    free(numbers);
+    numbers = grown(NULL, (numbers_mask + 1) * sizeof *numbers);
+    memset(numbers, 0, (numbers_mask + 1) * sizeof *numbers);
+    locations = grown(locations, (numbers_mask / 2 + 2) * sizeof *locations);
+    for (uint32_t number = 1; number <= known; number++)
+        numbers[find_number(locations[number]->bytes, locations[number]->length)] = number;
+}
+
+static void keep(struct entry *entry, const char *bytes, size_t length)
+{
+    entry->location = 0;
+    if (!length)
+        return;
+    if (2 * (size_t)known >= numbers_mask)
+        more_numbers();
+    size_t at = find_number(bytes, length);
+    if (!numbers[at]) {
+        numbers[at] = ++known;
+        locations[known] = grown(NULL, sizeof **locations + length);
+        locations[known]->length = (uint16_t)length;
+        memcpy(locations[known]->bytes, bytes, length);
+    }
+    entry->location = numbers[at];
+}
+
+static int length_of(const struct entry *entry) { return entry->location ? locations[entry->location]->length : 0; }
+static const char *location_of(const struct entry *entry) { return entry->location ? locations[entry->location]->bytes : ""; }
+#else
+static void keep(struct entry *entry, const char *bytes, size_t length)
+{
+    entry->length = (uint16_t)length;
+    memcpy(entry->location, bytes, length);
+}
+
+static int length_of(const struct entry *entry) { return entry->length; }
+static const char *location_of(const struct entry *entry) { return entry->location; }
+#endif
 
 static struct entry *hold(uint64_t address)
 {
@@ -141,8 +221,7 @@ static void read_line(const char *at, uint64_t line)
         if (entry) {
             entry->size = size;
             entry->line = line;
-            entry->length = (uint16_t)length;
-            memcpy(entry->location, location, length);
+            keep(entry, location, length);
         }
     }
 }
@@ -165,7 +244,7 @@ static void report(void)
     for (size_t k = 0; k < count; k++) {
         sum += all[k]->size;
         printf("0x%llx %llu line %llu%s%.*s\n", (unsigned long long)all[k]->address, (unsigned long long)all[k]->size,
-               (unsigned long long)all[k]->line, all[k]->length ? " at " : "", (int)all[k]->length, all[k]->location);
+               (unsigned long long)all[k]->line, length_of(all[k]) ? " at " : "", length_of(all[k]), location_of(all[k]));
     }
     if (count)
         printf("Total: %zu blocks, %llu bytes.\n", count, (unsigned long long)sum);
