@@ -17,8 +17,8 @@
 #include <stddef.h>
 #include <stdint.h>
 
-#if UINTPTR_MAX < 0xffffffffffffffff
-#error "tlsf.h is for 64-bit processors: the library behind it is built for no other"
+#if UINTPTR_MAX < 0xffffffff || defined(__i386__)
+#error "tlsf.h is for processors of 32 or 64 bits, and not for 32-bit x86: no library is built for it"
 #endif
 
 #ifdef __cplusplus

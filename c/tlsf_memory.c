@@ -36,7 +36,7 @@ struct rattle_tried rattle_alloc(size_t bytes, size_t align)
 {
     static unsigned char nothing;
     size_t whole = UNIT + (bytes + UNIT - 1u) / UNIT * UNIT;
-    bool fits = align <= UNIT && whole >= bytes && (!handed.is || whole <= handed.left);
+    bool fits = align <= 2u * sizeof(void *) && whole >= bytes && (!handed.is || whole <= handed.left);
     void *at = !fits ? NULL : handed.is ? handed.at : malloc(whole);
     if (at == NULL) {
         return (struct rattle_tried){false, &nothing};
