@@ -111,7 +111,8 @@ static uint64_t mark_of(const struct control *control)
     const tlsf_figures *figures = &control->figures;
     size_t word = 0;
     uint64_t sum = 0;
-    for (size_t at = 0; at < offsetof(struct control, mark); at += WORD) {
+    size_t end = offsetof(struct control, mark);
+    for (size_t at = 0; at < end; at += WORD) {
         (void)__builtin_memcpy(&word, (const unsigned char *)control + at, WORD);
         sum += times(at) * word;
     }

@@ -38,7 +38,7 @@
 #include <stdint.h>
 
 #if UINTPTR_MAX < 0xffffffff || defined(__i386__)
-#error "tlsf_heap.h is for processors of 32 or 64 bits, and not for 32-bit x86: no library is built for it"
+#error "tlsf_heap.h is for 32 and 64 bits, but not for 32-bit x86: there is no library"
 #endif
 
 #ifdef __cplusplus

@@ -1,6 +1,6 @@
-/* The start of a program without a system, for Cortex-M: what the processor reads first, and what C wants
- * before main. What is marked BOARD is of QEMU's machine `mps2-an385`, here, in console.h and in cortex-m.ld.
- * Not proved. */
+/* The start of a program without a system, for Cortex-M: what the processor reads first, and what C
+ * wants before main. What is marked BOARD is of QEMU's machine `mps2-an385`: here, in console.h, and in
+ * cortex-m.ld. Not proved. */
 #include <stdint.h>
 
 #include "console.h"
@@ -16,7 +16,7 @@ static void off(int status)
 {
     register uint32_t call __asm__("r0") = 0x18;
     register uint32_t why __asm__("r1") = status == 0 ? 0x20026 : 0x20023;
-    __asm__ volatile("bkpt 0xab" : : "r"(call), "r"(why)); /* BOARD: nothing takes it: leave it out */
+    __asm__ volatile("bkpt 0xab" : : "r"(call), "r"(why)); /* BOARD: nothing takes it */
     for (;;) {
     }
 }
@@ -34,7 +34,7 @@ void reset(void)
     off(main());
 }
 
-/* Any exception: which it is, and of which instruction, which the processor has put on the stack. */
+/* Any exception: which it is, and of which instruction. The processor has put this on the stack. */
 void caught(const uint32_t *frame)
 {
     trapped(*(volatile uint32_t *)0xe000ed04 & 511u, frame[6]);
