@@ -99,7 +99,7 @@ static size_t taken(uintptr_t own, uint32_t records)
 
 /* The mark is the sum of the control part's words, each times an odd number of its own. So a word
  * that changes shows. The live blocks and their bytes aren't in it: a check counts them again. */
-#define WORD sizeof(uint64_t)
+#define WORD sizeof(size_t)
 #define TIMES(field) times(offsetof(struct control, field))
 static inline uint64_t times(size_t at)
 {
@@ -109,13 +109,14 @@ static inline uint64_t times(size_t at)
 static uint64_t mark_of(const struct control *control)
 {
     const tlsf_figures *figures = &control->figures;
-    uint64_t word = 0;
+    size_t word = 0;
     uint64_t sum = 0;
-    for (size_t at = 0; at < sizeof *control; at += WORD) {
+    size_t end = offsetof(struct control, mark);
+    for (size_t at = 0; at < end; at += WORD) {
         (void)__builtin_memcpy(&word, (const unsigned char *)control + at, WORD);
         sum += times(at) * word;
     }
-    return sum - TIMES(mark) * control->mark - TIMES(figures.bytes_live) * figures->bytes_live
+    return sum - TIMES(figures.bytes_live) * figures->bytes_live
            - TIMES(figures.blocks_live) * figures->blocks_live;
 }
 
@@ -314,7 +315,7 @@ RARE static void *allocate_below(struct control *control, enum tlsf_status first
 {
     tlsf_heap_block block = {0, 0};
     size_t whole = in_units(bytes);
-    size_t less = tlsf_heap_class_low(whole);
+    size_t less = (size_t)tlsf_heap_class_low(whole);
     enum tlsf_status status = first;
     if (first == TLSF_NO_FIT && bytes < TOO_GREAT && less < whole) {
         status = tlsf_heap_malloc(&control->heap, less, &block);
@@ -452,7 +453,7 @@ int tlsf_stats(tlsf_t tlsf, tlsf_figures *out)
     out->records_used = tlsf_heap_records_used(&control->heap);
     if (largest != 0u) {
         out->largest_request = largest - FRONT;
-        out->largest_free = largest - FRONT + tlsf_heap_class_step(largest) - UNIT;
+        out->largest_free = largest - FRONT + (size_t)tlsf_heap_class_step(largest) - UNIT;
     }
     for (uint32_t k = 0; k < POOLS; k++) {
         const struct pool *pool = &control->pools[k];

@@ -17,8 +17,8 @@
 #include <stddef.h>
 #include <stdint.h>
 
-#if UINTPTR_MAX < 0xffffffffffffffff
-#error "tlsf.h is for 64-bit processors: the library behind it is built for no other"
+#if UINTPTR_MAX < 0xffffffff || defined(__i386__)
+#error "tlsf.h is for 32 and 64 bits, but not for 32-bit x86: there is no library"
 #endif
 
 #ifdef __cplusplus

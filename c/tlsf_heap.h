@@ -37,8 +37,8 @@
 #include <stddef.h>
 #include <stdint.h>
 
-#if UINTPTR_MAX < 0xffffffffffffffff
-#error "tlsf_heap.h is for 64-bit processors: the library behind it is built for no other"
+#if UINTPTR_MAX < 0xffffffff || defined(__i386__)
+#error "tlsf_heap.h is for 32 and 64 bits, but not for 32-bit x86: there is no library"
 #endif
 
 #ifdef __cplusplus
@@ -123,9 +123,16 @@ static inline uint32_t tlsf_heap_sure_pool(uint64_t blocks, uint64_t bytes, uint
 /* How many bytes the image of a heap of `records` records has: at most 1,050,080. */
 #define TLSF_HEAP_IMAGE_BYTES(records) (1520u + 16u * (size_t)(records))
 
+/* The proved library's pointers take eight bytes on each processor. */
+#if UINTPTR_MAX < 0xffffffffffffffff
+#define TLSF_HEAP_POINTER __attribute__((aligned(8)))
+#else
+#define TLSF_HEAP_POINTER
+#endif
+
 /* A heap. Start it with zeros (tlsf_heap heap = {0};) and fill it with a call that makes one. */
 typedef struct tlsf_heap {
-    unsigned char *at;
+    unsigned char *at TLSF_HEAP_POINTER;
 } tlsf_heap;
 
 /* A live block: the place where it begins, and its slot, which is the number of its record. A stale

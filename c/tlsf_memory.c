@@ -36,8 +36,8 @@ struct rattle_tried rattle_alloc(size_t bytes, size_t align)
 {
     static unsigned char nothing;
     size_t whole = UNIT + (bytes + UNIT - 1u) / UNIT * UNIT;
-    bool fits = align <= UNIT && whole >= bytes && (!handed.is || whole <= handed.left);
-    void *at = !fits ? NULL : handed.is ? handed.at : malloc(whole);
+    bool fits = align <= 2u * sizeof(void *) && whole >= bytes;
+    void *at = !fits ? NULL : !handed.is ? malloc(whole) : whole <= handed.left ? handed.at : NULL;
     if (at == NULL) {
         return (struct rattle_tried){false, &nothing};
     }

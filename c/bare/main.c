@@ -1,17 +1,14 @@
 /* A heap in a program without a system: over one array, from a first block to an image of the heap.
- * It writes on the console of QEMU's machine `virt`, and its last line is `ok`. Not proved. */
+ * It writes on the board's console, and its last line is `ok`. Not proved. */
 #include <stdbool.h>
 #include <stddef.h>
 #include <stdint.h>
 
+#include "console.h"
 #include "tlsf.h"
 #include "tlsf_heap.h"
 
 enum { RECORDS = 400, BLOCKS = 150, CALLS = 200000, POOL = 1 << 16 };
-
-/* The console: its data, and its flags, of which one says that there is no room. */
-#define CONSOLE ((volatile uint32_t *)0x09000000)
-enum { DATA = 0, FLAGS = 6, FULL = 1 << 5 };
 
 static _Alignas(16) unsigned char array[POOL], table[TLSF_HEAP_TABLE_BYTES(RECORDS)];
 static _Alignas(16) unsigned char second_table[TLSF_HEAP_TABLE_BYTES(RECORDS)], memory[1 << 17];
@@ -22,9 +19,7 @@ static uint32_t state = 1;
 static void say(const char *text)
 {
     for (; *text != 0; text++) {
-        while ((CONSOLE[FLAGS] & FULL) != 0) {
-        }
-        CONSOLE[DATA] = (unsigned char)*text;
+        console_put(*text);
     }
 }
 

@@ -377,7 +377,7 @@ static bool ask_for_block(struct heap *heap)
            align = below(3) == 0 ? (size_t)1 << below(13) : 16;
     bool bad = below(40) == 0;
     if (bad) {
-        align = below(2) == 0 ? 3 * ((size_t)1 << below(20)) : (size_t)1 << (22 + below(42));
+        align = below(2) == 0 ? 3 * ((size_t)1 << below(20)) : (size_t)1 << (22 + below(8 * sizeof(size_t) - 22));
     }
     unsigned char *given = (unsigned char *)(align == 16 && below(2) == 0
                                                  ? tlsf_malloc(heap->tlsf, bytes)
@@ -661,7 +661,7 @@ int main(int argc, char **argv)
     uint64_t runs = argc > 1 ? strtoull(argv[1], NULL, 10) : 1000;
     bool good = true;
     for (int k = 0; k < AREAS; k++) {
-        areas[k] = k % 2 == 0 ? areas_of_program[k / 2] : (unsigned char *)malloc(AREA);
+        areas[k] = k % 2 == 0 ? areas_of_program[k / 2] : (unsigned char *)aligned_alloc(16, AREA);
         good = good && areas[k] != NULL && (uintptr_t)areas[k] % 16 == 0;
     }
     for (uint64_t seed = 1; seed <= runs && good; seed++) {

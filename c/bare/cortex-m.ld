@@ -1,0 +1,17 @@
+/* Where a program for Cortex-M lies. What is marked BOARD is of QEMU's machine `mps2-an385`. */
+MEMORY
+{
+    CODE (rx) : ORIGIN = 0x00000000, LENGTH = 4M  /* BOARD: its flash */
+    RAM (rwx) : ORIGIN = 0x20000000, LENGTH = 4M  /* BOARD: its RAM */
+}
+ENTRY(reset)
+
+SECTIONS
+{
+    .text : { LONG(stack_end) KEEP(*(.vectors)) *(.text .text.*) *(.rodata .rodata.*) . = ALIGN(8); } > CODE
+    .ARM.exidx : { __exidx_start = .; *(.ARM.exidx*) __exidx_end = .; } > CODE
+    .data : ALIGN(8) { data = .; *(.data .data.*) . = ALIGN(8); data_end = .; } > RAM AT > CODE
+    data_from = LOADADDR(.data);
+    .bss (NOLOAD) : ALIGN(16) { zeros = .; *(.bss .bss.*) *(COMMON) . = ALIGN(16); zeros_end = .; end = .; } > RAM
+    stack_end = ORIGIN(RAM) + LENGTH(RAM);
+}
