@@ -1,6 +1,6 @@
 //! What every heap does.
 
-ghost use Rattle.std.specs.Prelude.{◌≡◌, ℕ, ◌<◌, ◌⊎◌, ◌↔◌, List, map, Ok, Err, IfOk, OnOk};
+ghost use Rattle.std.specs.Prelude.{◌≡◌, ℕ, ◌<◌, ◌⊎◌, ◌↔◌, List, map, Ok, Err, IfOk, IfErr, IsOk, OnOk};
 ghost use Rattle.tlsf_store.specs.declared.errors.StoreError.TheVariants.{BadCount};
 ghost use Rattle.tlsf_store.specs.Records.{most_records};
 ghost use Rattle.tlsf_heap.specs.declared.cursor.Cursor.{Cursor};
@@ -18,6 +18,8 @@ ghost use Rattle.tlsf_heap.specs.Counted.{range_of};
 ghost use Rattle.tlsf_heap.specs.Touches.{AtMost};
 ghost use Rattle.tlsf_heap.specs.Heaped.{LooksUnchanged, Reads};
 ghost use Rattle.tlsf_heap.specs.Rows.{rows_from};
+ghost use Rattle.tlsf_heap.specs.Room.{HasRoom, HasRoomAligned};
+ghost use Rattle.tlsf_heap.specs.declared.refusal.Refusal.TheVariants.{BadAlign, BadPointer};
 
 use crate::{Cursor, Ptr, Refusal, Row};
 use arrayvec::ArrayVec;
@@ -90,6 +92,7 @@ pub trait Heaped: Drop {
     fn malloc(&mut self, n: u64) -> Result<Ptr, Refusal>
         ensures ok { IfOk result (λ ptr. IsServed (λ slot. malloc slot n) ptr (content self.old) (content self.new)) }
         ensures refused { RefusesOrLacks result (λ refusal. (slot : ℕ) → malloc slot n (content self.old) ≡ Err refusal) lacks (LooksUnchanged content stands rest self.old self.new) }
+        ensures room { (lacks → ⊥) → HasRoom n (content self.old) → IsOk result }
         ensures bound { AtMost 96 (touches self.old) (touches self.new) };
 
     /// A live block of at least `n` bytes that begins at a multiple of `align`, with a slot that no other live
@@ -104,6 +107,7 @@ pub trait Heaped: Drop {
     fn memalign(&mut self, align: u64, n: u64) -> Result<Ptr, Refusal>
         ensures ok { IfOk result (λ ptr. IsServed (λ slot. memalign slot align n) ptr (content self.old) (content self.new)) }
         ensures refused { RefusesOrLacks result (λ refusal. (slot : ℕ) → memalign slot align n (content self.old) ≡ Err refusal) lacks (LooksUnchanged content stands rest self.old self.new) }
+        ensures room { (lacks → ⊥) → HasRoomAligned align n (content self.old) → IfErr result (λ refusal. refusal ≡ BadAlign) }
         ensures bound { AtMost 160 (touches self.old) (touches self.new) };
 
     /// The live block with the pointer's place and slot becomes free, and is merged with its free
@@ -129,6 +133,7 @@ pub trait Heaped: Drop {
     fn realloc(&mut self, ptr: Option<Ptr>, n: u64) -> Result<Option<Ptr>, Refusal>
         ensures ok { IfOk result (λ given. IsMoved (realloc_ptr ptr n) ptr given (content self.old) (content self.new)) }
         ensures refused { RefusesOrLacks result (λ refusal. (slot : ℕ) → realloc_ptr ptr n slot (content self.old) ≡ Err refusal) lacks (LooksUnchanged content stands rest self.old self.new) }
+        ensures room { (lacks → ⊥) → HasRoom n (content self.old) → IfErr result (λ refusal. refusal ≡ BadPointer) }
         ensures bound { AtMost 256 (touches self.old) (touches self.new) };
 
     /// The size of a live block, in bytes. At most four touches.

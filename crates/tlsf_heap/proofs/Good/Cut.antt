@@ -1,5 +1,5 @@
--- Blocks of one pool that each begin so many times one size from a place on, and the live ones just that size: what calls for that
--- size leave, and how many of them there are.
+-- Blocks of one pool that each begin a whole multiple of one size behind a base, the live ones of just that size: what calls for
+-- that size leave, and how many such blocks there are.
 use Rattle.std.proofs.Common.{◌≡◌, ℕ, suc, ◌+◌, ◌-◌, ◌*◌, ◌<◌, ◌≤◌, Bool, true, false, cond, not, List, [], ◌∷◌, length, map, count_by, Option, Some, None, inl, inr, refl, sym, ap, subst, arith}
 use Rattle.std.specs.Prelude.{◌==◌, ⊤, IsTrue, nat_lt}
 use Rattle.std.specs.List.{AllByRecursion, Contains}
@@ -17,7 +17,7 @@ use Rattle.tlsf_heap.proofs.Good.MallocIsGood.{all-append}
 use Rattle.tlsf_heap.proofs.Good.Room.{product_le, add_product, front_of, back_of}
 
 module _ (size base : ℕ) where
-  -- so many times the size from the base on
+  -- a whole multiple of the size behind the base
   pub record IsAt (place : ℕ) : Type 0 where
     pub count : ℕ
     pub is : place ≡ base + count * size

@@ -84,8 +84,8 @@ module _ (size base : ℕ) (some : 0 < size) where
   bytes_more from (pool ∷ other ∷ pools) one g all larger = absurd (omega (arith, one))
 
 module _ (blocks size base : ℕ) where
-  -- A good content of one pool, whose blocks each begin so many times the size behind its base, and are of the size where they are
-  -- live. The pool has the bytes of `blocks` such blocks. There are as many records as blocks of the size have its bytes, or two
+  -- A good content of one pool, whose blocks each begin a whole multiple of the size behind its base, and are of the size where they
+  -- are live. The pool has the bytes of `blocks` such blocks. There are as many records as blocks of the size have its bytes, or two
   -- for each of the `blocks`.
   pub record IsForSize (content : Content ℕ) : Type 0 where
     pub good : IsGood content
@@ -348,7 +348,7 @@ module _ (blocks size base : ℕ) (lowest : IsLowest size) where
       All-cons IsNotFull answer answers (step_not_full lacks request answer old run.0 is within.0 run.2)
       (run_of_size_fits lacks requests answers run.0 new run.1 after run.5 (step_for lacks request answer old run.0 is within.0 run.2) within.1)
 
--- one pool of so many bytes is for it
+-- one pool with the bytes of `blocks` such blocks is for it
 one_pool_for : (blocks size records base pool : ℕ) (content : Content ℕ) → add_pool base pool (created records) ≡ Ok content → blocks * size ≤ pool → HasRecords blocks size pool records → IsForSize blocks size base content
 one_pool_for blocks size records base pool content added large many =
     let good : IsGood content = add_pool_is_good base pool (created records) content (created_is_good records) added in
