@@ -176,26 +176,6 @@ module _ (locations : List (List ℕ)) where
     kept = All-map-IsPermutation (λ e. e.1) (IsKept locations) (remove_entry test old) new moved (All-map-remove_entry test (λ e. e.1) (IsKept locations) old keeps.kept);
   }
 
-  -- the map with one key more
-  pub more : (old new : List (ℕ × Kept)) (bytes : ℕ) → IsLedger locations old bytes → (key : ℕ) (h : Kept) → IsKept locations h
-      → IsPermutation ((key, h) ∷ old) new → IsDistinct nat_eq (keys_of new) → IsLedger locations new (bytes + h.size)
-  more old new bytes keeps key h kept moved distinct = record {
-    distinct = distinct;
-    bytes_are = let same = sum_by_values_permutation (λ (one : Kept). one.size) ((key, h) ∷ old) new moved in let whole = sizes-cons (key, h) old in omega (arith, same, whole, keeps.bytes_are);
-    kept = All-map-IsPermutation (λ e. e.1) (IsKept locations) ((key, h) ∷ old) new moved (all_more keeps.kept);
-  }
-    where
-      all_more : All (IsKept locations) (values_of old) → All (IsKept locations) (h ∷ values_of old)
-      all_more all zero d within = kept
-      all_more all (suc k) d within = all k d (omega (arith, within))
-
-  -- nothing was held there
-  pub was_none : (old : List (ℕ × Kept)) (now : List Entry) → all_in_order locations old ≡ now → (key address : ℕ) → key ≡ address → held_at now address ≡ None
-      → (o : Option Kept) → o ≡ lookup (nat_eq key) old → (P : Type 0) (Q : Kept → Type 0) → MatchOption o P Q → P
-  was_none old now view key address same free None is P Q matched = matched
-  was_none old now view key address same free (Some h) is P Q matched =
-      absurd (false≢true (sym (tells old now view key address same (Some h) is ∙ ap is_some free)))
-
   -- the sum is small
   sum_small : (held : List (ℕ × Kept)) → All (IsKept locations) (values_of held) → sum_by (λ (one : Kept). one.size) (values_of held) ≤ length held * 2 ^ 64
   sum_small [] all = omega arith
@@ -223,22 +203,6 @@ same_view locations new extends held bytes keeps = ap in_order (same_entries loc
 pub on_err : {T E : Type 0} (result : Result T E) (P : Type 0) → P → OnErr result P
 on_err (Ok value) P p = tt
 on_err (Err fault) P p = p
-
--- what a match says of a value that is there
-pub at_some : {A : Type 0} (P : Type 0) (Q : A → Type 0) (o : Option A) (x : A) → o ≡ Some x → MatchOption o P Q → Q x
-at_some {A} P Q o x is matched = subst (λ (at : Option A). MatchOption at P Q) is matched
-
--- the map with another value at a key
-pub other_value : (locations : List (List ℕ)) (old new : List (ℕ × Kept)) (bytes left : ℕ) → IsLedger locations old bytes → (test : ℕ → Bool) (before after : Kept) → lookup test old ≡ Some before
-    → IsKept locations after → new ≡ set_value test old after → IsDistinct nat_eq (keys_of new) → left + before.size ≡ bytes + after.size → IsLedger locations new left
-other_value locations old new bytes left keeps test before after is kept set distinct moved = record {
-  distinct = distinct;
-  bytes_are =
-      let whole = sum_by-set_value (λ (one : Kept). one.size) test old before after is in
-      let same : sizes new ≡ sizes (set_value test old after) = ap sizes set in
-      omega (arith, whole, same, moved, keeps.bytes_are);
-  kept = subst (λ (held : List (ℕ × Kept)). All (IsKept locations) (values_of held)) (sym set) (All-values-set_value test (IsKept locations) old after keeps.kept kept);
-}
 
 -- the addresses of entries
 abbrev pub addresses_of : List Entry → List ℕ

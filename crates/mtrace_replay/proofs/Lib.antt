@@ -30,8 +30,10 @@ mod RunsAgain
 pub mod SaveLemmas
 mod SearchLemmas
 mod FreeAndRealloc
+mod SharesLemmas
 mod SiteLemmas
 mod SiteRows
+mod SitesBySlot
 mod SitesLemmas
 mod SlotLemmas
 mod SortedLemmas
@@ -52,6 +54,7 @@ mod UnrefusedLemmas
 mod VerdictLemmas
 mod EntryOrder
 mod LedgerLemmas
+mod LedgerPeak
 mod LocationsLemmas
 mod ServedLemmas
 mod ServedRunLemmas

@@ -1,9 +1,11 @@
 -- What a ledger holds, as the list of its entries in order of address.
-use Rattle.std.specs.Prelude.{◌≡◌, ℕ, ◌<◌, ◌^◌, List, [], ◌∷◌, find, Option, nat_lt, nat_eq, if◌then◌else◌, ◌==◌}
+use Rattle.std.specs.Prelude.{◌≡◌, ℕ, suc, ◌+◌, ◌<◌, ◌≤◌, ◌^◌, List, [], ◌∷◌, length, find, Option, None, Some, nat_lt, nat_eq, if◌then◌else◌, ◌==◌}
 use Rattle.std.specs.List.{All, IsDistinct, sum_by}
 use Rattle.std.specs.Map.{keys_of, values_of}
 use Rattle.mtrace_replay.specs.Entry.{Entry}
 use Rattle.mtrace_replay.specs.Locations.{location_of, HasLocation}
+use Rattle.mtrace_replay.specs.Sites.{Site}
+use Rattle.mtrace_replay.specs.Shares.{ByLocation, nothing, amount_less, now_at, marked_at, Changes}
 use Rattle.mtrace_replay.specs.declared.no_heap.ledger.Kept.{Kept}
 
 -- the entry of an address, by what is kept for it
@@ -34,3 +36,41 @@ pub record IsLedger (locations : List (List ℕ)) (held : List (ℕ × Kept)) (b
   pub distinct : IsDistinct nat_eq (keys_of held)
   pub bytes_are : bytes ≡ sum_by (λ one. one.size) (values_of held)
   pub kept : All (IsKept locations) (values_of held)
+
+-- the slot of what is kept, by the number of its location
+abbrev pub slot_of : Option ℕ → ℕ
+slot_of None = 0
+slot_of (Some number) = suc number
+
+-- a measure of what is kept in a slot, in sum
+abbrev pub in_slot : (Kept → ℕ) → ℕ → List Kept → ℕ
+in_slot measure slot all = sum_by (λ kept. if slot_of kept.location == slot then measure kept else 0) all
+
+-- each slot has what is kept there, and had nothing at the mark where no location has it
+pub record AreShared (locations : List (List ℕ)) (shares : ByLocation) (all : List Kept) : Type 0 where
+  pub blocks : (slot : ℕ) → (now_at shares slot).blocks ≡ in_slot (λ kept. 1) slot all
+  pub bytes : (slot : ℕ) → (now_at shares slot).bytes ≡ in_slot (λ kept. kept.size) slot all
+  pub beyond : (slot : ℕ) → length locations < slot → marked_at shares slot ≡ nothing
+
+-- what is kept is counted, in the share of its location and in the sum of bytes
+pub record IsCounted (kept : Kept) (shares : ByLocation) (sum : ℕ) : Type 0 where
+  pub slot : slot_of kept.location < length shares.all
+  pub blocks : 0 < (now_at shares (slot_of kept.location)).blocks
+  pub bytes : kept.size ≤ (now_at shares (slot_of kept.location)).bytes
+  pub size : kept.size ≤ sum
+
+-- what is kept is counted no more
+abbrev pub Forgets : Option Kept → (old new : ByLocation) (sum left : ℕ) → Type 0
+Forgets None old new sum left = (new ≡ old) × (left ≡ sum)
+Forgets (Some kept) old new sum left = Changes (slot_of kept.location) (amount_less (now_at old (slot_of kept.location)) kept.size) old new × (left + kept.size ≡ sum)
+
+-- what is held in order of address, the sites at the mark, and the mark
+pub record LedgerState : Type 0 where
+  pub all : List Entry
+  pub at_peak : List Site
+  pub mark : ℕ
+
+-- the mark is the same, and so are the sites at it
+pub record KeepsPeak (old new : LedgerState) : Type 0 where
+  pub at_peak : new.at_peak ≡ old.at_peak
+  pub mark : new.mark ≡ old.mark

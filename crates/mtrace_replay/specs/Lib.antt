@@ -25,6 +25,7 @@ pub mod RunTimeline
 pub mod Saving
 pub mod Search
 pub mod Settings
+pub mod Shares
 pub mod Sites
 pub mod Size
 pub mod Started

@@ -1,5 +1,5 @@
 -- Who holds it: entries by the location that asked for them.
-use Rattle.std.specs.Prelude.{◌≡◌, ℕ, ◌<◌, List, Option, if◌then◌else◌}
+use Rattle.std.specs.Prelude.{◌≡◌, ℕ, ◌<◌, ◌≤◌, List, Option, if◌then◌else◌}
 use Rattle.std.specs.List.{All, Any, sum_by}
 use Rattle.std.specs.List.Sorted.{IsStrictlySortedBy}
 use Rattle.std.specs.Option.{option_cmp}
@@ -49,3 +49,9 @@ pub record AreSites (entries : List Entry) (sites : List Site) : Type 0 where
   pub order : IsStrictlySortedBy site_cmp sites
   pub exact : All (IsSiteOf entries) sites
   pub covers : All (λ e. Any (λ s. s.at ≡ e.at) sites) entries
+
+-- the sites of a list of entries, in any order: no origin has two, and each origin has the blocks and the bytes of its entries
+pub record AreTallied (entries : List Entry) (sites : List Site) : Type 0 where
+  pub one : (p : Origin) → sum_by (λ s. weigh p s.at 1) sites ≤ 1
+  pub blocks : (p : Origin) → sum_by (λ s. weigh p s.at s.blocks) sites ≡ blocks_at p entries
+  pub bytes : (p : Origin) → sum_by (λ s. weigh p s.at s.bytes) sites ≡ bytes_at p entries

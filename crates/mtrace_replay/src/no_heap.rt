@@ -7,3 +7,4 @@ pub(crate) mod prepared;
 pub(crate) mod replay;
 pub(crate) mod report;
 pub(crate) mod run;
+pub(crate) mod shares;

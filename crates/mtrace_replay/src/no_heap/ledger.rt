@@ -1,15 +1,17 @@
 //! What is held, by address.
 
-ghost use Rattle.std.specs.Prelude.{◌≡◌, ◌≢◌, ℕ, true, [], None, Some, IfOk, OnOk, OnErr, is_some, length, if◌then◌else◌, ◌==◌};
+ghost use Rattle.std.specs.Prelude.{◌≡◌, ◌<◌, ℕ, [], None, Some, IfOk, IfSome, OnOk, OnErr, is_some, length, if◌then◌else◌, ◌==◌};
 ghost use Rattle.std.specs.Prelude.{map};
 ghost use Rattle.std.specs.List.Sorted.{IsStrictlyIncreasing, IsPermutation, IsSorted};
 ghost use Rattle.std.specs.Ordering.{nat_cmp};
 ghost use Rattle.std.specs.HashMap.{keys};
 ghost use Rattle.std.specs.Option.{option_copied, option_map};
 ghost use Rattle.mtrace_replay.specs.Texts.{total_size};
-ghost use Rattle.mtrace_replay.specs.Ledger.{held_at};
+ghost use Rattle.mtrace_replay.specs.Sites.{AreTallied};
+ghost use Rattle.mtrace_replay.specs.Ledger.{held_at, slot_of, IsCounted, Forgets, KeepsPeak};
 
 use super::locations::Locations;
+use super::shares::Shares;
 use mtrace_log::Addr;
 use std::alloc::{AllocError, Global};
 use std::collections::HashMap;
@@ -21,6 +23,16 @@ pub(crate) struct Kept {
     size: u64,
     line: u64,
     location: Option<u32>,
+}
+
+/// The slot of the location of this number: 0 where there is no location.
+fn slot_of(location: Option<u32>) -> usize
+    ensures { result ≡ slot_of location }
+{
+    match location {
+        None => 0,
+        Some(number) => number as usize + 1,
+    }
 }
 
 /// What an address is held under: its size, the number of its line, and the location of that.
@@ -38,20 +50,26 @@ pub struct Seen<'a> {
 #[derive(Drop)]
 pub struct Ledger {
     locations: Locations,
+    shares: Shares,
     held: HashMap<u64, Kept>,
     bytes: u128,
 }
 
 impl Model for Ledger {
-    ghost use Rattle.std.specs.Prelude.{List, map};
-    ghost use Rattle.mtrace_replay.specs.Entry.{Entry};
-    ghost use Rattle.mtrace_replay.specs.Ledger.{in_order, entry_of, IsLedger};
+    ghost use Rattle.std.specs.Prelude.{map};
+    ghost use Rattle.std.specs.Map.{values_of};
+    ghost use Rattle.mtrace_replay.specs.Shares.{marked_at, sites_of};
+    ghost use Rattle.mtrace_replay.specs.Ledger.{LedgerState, in_order, entry_of, IsLedger, AreShared};
 
-    ghost Value = { List Entry };
+    ghost Value = { LedgerState };
 
-    ghost view = { λ l. in_order (map (entry_of l.locations) l.held.entries) };
+    ghost view = { λ l. record {
+      all = in_order (map (entry_of l.locations) l.held.entries);
+      at_peak = sites_of (marked_at l.shares) l.locations;
+      mark = l.shares.mark;
+    } };
 
-    ghost invariant = { λ l. IsLedger l.locations l.held.entries l.bytes };
+    ghost invariant = { λ l. IsLedger l.locations l.held.entries l.bytes × AreShared l.locations l.shares (values_of l.held.entries) };
 }
 
 /// The keys of a map, in order.
@@ -67,13 +85,26 @@ fn sorted_keys(alloc: Global, held: &HashMap<u64, Kept>) -> Result<Vec<u64>, All
     Ok(all)
 }
 
+/// What is kept no more is no more in the share of its location, nor in the sum of bytes.
+fn forget(shares: &mut Shares, bytes: &mut u128, before: Option<Kept>)
+    requires counted { IfSome before (λ kept. IsCounted kept shares.old bytes.old) }
+    ensures { Forgets before shares.old shares.new bytes.old bytes.new }
+{
+    let Some(kept) = before else {
+        return;
+    };
+    shares.take(slot_of(kept.location), kept.size);
+    *bytes -= u128::from(kept.size);
+}
+
 impl Ledger {
     /// Nothing is held.
     pub fn new(alloc: Global) -> Ledger
-        ensures { result ≡ [] }
+        ensures { result ≡ record { all = []; at_peak = []; mark = 0 } }
     {
         Ledger {
             locations: Locations::new(alloc),
+            shares: Shares::new(alloc),
             held: HashMap::new(alloc),
             bytes: 0,
         }
@@ -81,12 +112,12 @@ impl Ledger {
 
     /// Whether the address is held.
     pub fn is_held(&self, address: Addr) -> bool
-        ensures { result ≡ is_some (held_at self.now address) }
+        ensures { result ≡ is_some (held_at self.now.all address) }
     {
         self.held.contains_key(&address.value())
     }
 
-    /// Holds an address, which isn't held, for the line of this number.
+    /// Holds an address for the line of this number, in place of what it was held under.
     ///
     /// # Errors
     ///
@@ -98,69 +129,39 @@ impl Ledger {
         line: u64,
         at: Option<&[u8]>,
     ) -> Result<(), AllocError>
-        requires free { held_at self.old address ≡ None }
-        ensures held { OnOk result ((other : ℕ) → held_at self.new other
-            ≡ (if address == other then Some (record { addr = address; size = size; line = line; at = option_copied at.entry }) else held_at self.old other)) }
+        ensures held { OnOk result ((other : ℕ) → held_at self.new.all other
+            ≡ (if address == other then Some (record { addr = address; size = size; line = line; at = option_copied at.entry }) else held_at self.old.all other)) }
+        ensures peak { OnOk result (KeepsPeak self.old self.new) }
         ensures unchanged { OnErr result (self.new ≡ self.old) }
     {
         let location = self.locations.number_at(at)?;
+        let slot = slot_of(location);
+        self.shares.cover(slot)?;
         let _few = self.held.len();
-        self.held.insert(
-            address.value(),
-            Kept {
-                size,
-                line,
-                location,
-            },
-        )?;
+        let kept = Kept {
+            size,
+            line,
+            location,
+        };
+        let before = self.held.insert(address.value(), kept)?;
+        forget(&mut self.shares, &mut self.bytes, before);
+        self.shares.add(slot, size);
         self.bytes += u128::from(size);
         Ok(())
     }
 
     /// Holds the address no more. Answers whether it was held.
     pub fn release(&mut self, address: Addr) -> bool
-        ensures was { result ≡ is_some (held_at self.old address) }
-        ensures held { (other : ℕ) → held_at self.new other ≡ (if address == other then None else held_at self.old other) }
+        ensures was { result ≡ is_some (held_at self.old.all address) }
+        ensures held { (other : ℕ) → held_at self.new.all other ≡ (if address == other then None else held_at self.old.all other) }
+        ensures peak { KeepsPeak self.old self.new }
     {
         let Some(held) = self.held.remove(&address.value()) else {
             return false;
         };
+        self.shares.take(slot_of(held.location), held.size);
         self.bytes -= u128::from(held.size);
         true
-    }
-
-    /// Holds an address, which is held, for another line.
-    ///
-    /// # Errors
-    ///
-    /// `AllocError` where memory is refused: then what is held stays.
-    pub fn hold_again(
-        &mut self,
-        address: Addr,
-        size: u64,
-        line: u64,
-        at: Option<&[u8]>,
-    ) -> Result<(), AllocError>
-        requires held { is_some (held_at self.old address) ≡ true }
-        ensures held { OnOk result ((other : ℕ) → held_at self.new other
-            ≡ (if address == other then Some (record { addr = address; size = size; line = line; at = option_copied at.entry }) else held_at self.old other)) }
-        ensures unchanged { OnErr result (self.new ≡ self.old) }
-    {
-        let location = self.locations.number_at(at)?;
-        let _few = self.held.len();
-        let Some(before) = self.held.insert(
-            address.value(),
-            Kept {
-                size,
-                line,
-                location,
-            },
-        )?
-        else {
-            unreachable!()
-        };
-        self.bytes = self.bytes - u128::from(before.size) + u128::from(size);
-        Ok(())
     }
 
     /// Holds an address in place of an old one, which may be the same.
@@ -176,38 +177,47 @@ impl Ledger {
         line: u64,
         at: Option<&[u8]>,
     ) -> Result<(), AllocError>
-        requires held { is_some (held_at self.old old) ≡ true }
-        requires free { old ≢ address → held_at self.old address ≡ None }
-        ensures held { OnOk result ((other : ℕ) → held_at self.new other
+        ensures held { OnOk result ((other : ℕ) → held_at self.new.all other
             ≡ (if address == other then Some (record { addr = address; size = size; line = line; at = option_copied at.entry })
-            else (if old == other then None else held_at self.old other))) }
+            else (if old == other then None else held_at self.old.all other))) }
+        ensures peak { OnOk result (KeepsPeak self.old self.new) }
         ensures unchanged { OnErr result (self.new ≡ self.old) }
     {
-        if old == address {
-            return self.hold_again(address, size, line, at);
-        }
         self.hold(address, size, line, at)?;
-        self.release(old);
+        if old != address {
+            self.release(old);
+        }
         Ok(())
+    }
+
+    /// Keeps, from the line of this number on, what each location holds now.
+    pub fn set_mark(&mut self, line: u64)
+        requires later { self.old.mark < line }
+        ensures all { self.new.all ≡ self.old.all }
+        ensures at_peak { AreTallied self.old.all self.new.at_peak }
+        ensures mark { self.new.mark ≡ line }
+    {
+        self.locations.keep_apart();
+        self.shares.set_mark(line);
     }
 
     /// Says what each ledger keeps, and does nothing: the addresses rise.
     pub fn keeps_order(&self)
-        ensures { IsStrictlyIncreasing (map (λ entry. entry.addr) self.now) }
+        ensures { IsStrictlyIncreasing (map (λ entry. entry.addr) self.now.all) }
     {
         let _ = &self.held;
     }
 
     /// How many addresses are held.
     pub fn len(&self) -> usize
-        ensures { result ≡ length self.now }
+        ensures { result ≡ length self.now.all }
     {
         self.held.len()
     }
 
     /// The sum of the sizes held, in bytes.
     pub fn bytes(&self) -> u128
-        ensures { result ≡ total_size self.now }
+        ensures { result ≡ total_size self.now.all }
     {
         self.bytes
     }
@@ -218,7 +228,7 @@ impl Ledger {
     ///
     /// `AllocError` where memory is refused for them.
     pub fn addresses(&self, alloc: Global) -> Result<Vec<u64>, AllocError>
-        ensures { IfOk result (λ addresses. addresses.items ≡ map (λ entry. entry.addr) self.now) }
+        ensures { IfOk result (λ addresses. addresses.items ≡ map (λ entry. entry.addr) self.now.all) }
     {
         let all = sorted_keys(alloc, &self.held)?;
         Ok(all)
@@ -226,7 +236,7 @@ impl Ledger {
 
     /// What is held under an address.
     pub fn entry(&self, address: u64) -> Option<Seen<'_>>
-        ensures { option_map (λ seen. record { addr = address; size = seen.size; line = seen.line; at = option_copied seen.at }) result ≡ held_at self.now address }
+        ensures { option_map (λ seen. record { addr = address; size = seen.size; line = seen.line; at = option_copied seen.at }) result ≡ held_at self.now.all address }
     {
         let Some(held) = self.held.get(&address) else {
             return None;

@@ -1,6 +1,8 @@
 //! The locations of a log, each kept once.
 
-ghost use Rattle.std.specs.Prelude.{◌≡◌, [], Some, slice_get, IfOk, IfSome};
+ghost use Rattle.std.specs.Prelude.{◌≡◌, [], Some, slice_get, IfOk, IfSome, nat_eq};
+ghost use Rattle.std.specs.List.{IsDistinct};
+ghost use Rattle.std.specs.Cmp.Lexicographic.{pointwise};
 ghost use Rattle.std.specs.Option.{option_copied};
 ghost use Rattle.mtrace_replay.specs.Locations.{Extends, location_of, HasLocation};
 
@@ -73,6 +75,13 @@ impl Locations {
         };
         let number = self.number_of(bytes)?;
         Ok(Some(number))
+    }
+
+    /// Says what they keep, and does nothing: no location stands there twice.
+    pub fn keep_apart(&self)
+        ensures { IsDistinct (pointwise nat_eq) self.now }
+    {
+        let _count = self.seen.len();
     }
 
     /// The location of this number.

@@ -1,51 +1,144 @@
--- The map gains the address, and so do the entries.
-use Rattle.std.proofs.Common.{◌+◌, ◌∙◌, sym, ap, subst, Some, cond, arith}
+-- The map gains the address, and so do the entries and the share of its location.
+use Rattle.std.proofs.Common.{◌+◌, ◌∙◌, refl, sym, ap, subst, Some, cond, arith, nat_eq}
 use Rattle.std.specs.Prelude.{◌==◌}
+use Rattle.std.specs.Map.{values_of}
 use Rattle.mtrace_replay.specs.declared.no_heap.ledger.Kept.{Kept}
-use Rattle.mtrace_replay.specs.Ledger.{IsLedger, held_at}
-use Rattle.mtrace_replay.proofs.LedgerLemmas.{all_in_order, changes_at, more, was_none, is_small, still_keeps, same_view, on_err}
+use Rattle.mtrace_replay.specs.Shares.{amount_more, now_at, Changes}
+use Rattle.mtrace_replay.specs.Ledger.{LedgerState, IsLedger, AreShared, held_at}
+use Rattle.mtrace_replay.proofs.LedgerLemmas.{changes_at, still_keeps, same_view, on_err}
+use Rattle.mtrace_replay.proofs.LedgerPeak.{state_of, same_state, keeps_now, shared_now, peak_stays, rest_of, counted_there, counted, few_blocks, few_bytes}
+use Rattle.mtrace_replay.proofs.SharesLemmas.{shared-longer}
 use Rattle.mtrace_replay.proofs.no_heap.ledger.Ledger.hold.Goals as goal
 
 pub invariant_of-self : goal.invariant_of-self
-invariant_of-self c = still_keeps c.self.inside.locations c.number_at.new.self c.number_at.ensures.others c.self.inside.held.entries c.self.inside.bytes c.self.invariant
+invariant_of-self c =
+    let new = c.number_at.new.self in
+    (still_keeps c.self.inside.locations new c.number_at.ensures.others c.self.inside.held.entries c.self.inside.bytes c.self.invariant.0,
+    shared-longer c.self.inside.locations new c.number_at.ensures.others (values_of c.self.inside.held.entries) c.self.inside.shares c.self.invariant.1)
 
 pub returns-in_err-location-clause-unchanged : goal.returns-in_err-location-clause-unchanged
 returns-in_err-location-clause-unchanged c =
     on_err c.from_residual.result _
-    (same_view c.self.inside.locations c.number_at.new.self c.number_at.ensures.others c.self.inside.held.entries c.self.inside.bytes c.self.invariant ∙ c.self.view_is)
+    (same_state c.self.inside.locations c.number_at.new.self c.number_at.ensures.others c.self.inside.shares c.self.inside.shares c.self.inside.held.entries c.self.inside.bytes c.self.invariant.0 c.self.invariant.1
+    (record { now = λ slot. refl; marked = λ slot. refl; mark = refl }) ∙ c.self.view_is)
 
-pub invariant_of-self-in_err-insert : goal.invariant_of-self-in_err-insert
-invariant_of-self-in_err-insert c =
-    subst (λ held. IsLedger c.number_at.new.self held c.self.inside.bytes) (sym c.in_err-insert.ensures.err)
-    (still_keeps c.self.inside.locations c.number_at.new.self c.number_at.ensures.others c.self.inside.held.entries c.self.inside.bytes c.self.invariant)
+pub invariant_of-self-in_err-cover : goal.invariant_of-self-in_err-cover
+invariant_of-self-in_err-cover c =
+    (keeps_now c.self.inside.locations c.number_at.new.self c.number_at.ensures.others c.self.inside.held.entries c.self.inside.bytes c.self.inside.shares c.cover.new.self c.cover.ensures.kept c.self.invariant,
+    shared_now c.self.inside.locations c.number_at.new.self c.number_at.ensures.others c.self.inside.held.entries c.self.inside.bytes c.self.inside.shares c.cover.new.self c.cover.ensures.kept c.self.invariant)
 
-pub returns-in_err-insert-clause-unchanged : goal.returns-in_err-insert-clause-unchanged
-returns-in_err-insert-clause-unchanged c =
-    on_err c.from_residual-in_err-insert.result _
-    (ap (all_in_order c.number_at.new.self) c.in_err-insert.ensures.err
-    ∙ same_view c.self.inside.locations c.number_at.new.self c.number_at.ensures.others c.self.inside.held.entries c.self.inside.bytes c.self.invariant ∙ c.self.view_is)
+pub returns-in_err-cover-clause-unchanged : goal.returns-in_err-cover-clause-unchanged
+returns-in_err-cover-clause-unchanged c =
+    on_err c.from_residual-in_err-cover.result _
+    (same_state c.self.inside.locations c.number_at.new.self c.number_at.ensures.others c.self.inside.shares c.cover.new.self c.self.inside.held.entries c.self.inside.bytes c.self.invariant.0 c.self.invariant.1 c.cover.ensures.kept
+    ∙ c.self.view_is)
+
+pub invariant_of-self-in_err-before : goal.invariant_of-self-in_err-before
+invariant_of-self-in_err-before c =
+    let new = c.number_at.new.self in
+    subst (λ held. IsLedger new held c.self.inside.bytes × AreShared new c.cover.new.self (values_of held)) (sym c.in_err-before.ensures.err)
+    (keeps_now c.self.inside.locations c.number_at.new.self c.number_at.ensures.others c.self.inside.held.entries c.self.inside.bytes c.self.inside.shares c.cover.new.self c.cover.ensures.kept c.self.invariant,
+    shared_now c.self.inside.locations c.number_at.new.self c.number_at.ensures.others c.self.inside.held.entries c.self.inside.bytes c.self.inside.shares c.cover.new.self c.cover.ensures.kept c.self.invariant)
+
+pub returns-in_err-before-clause-unchanged : goal.returns-in_err-before-clause-unchanged
+returns-in_err-before-clause-unchanged c =
+    on_err c.from_residual-in_err-before.result _
+    (ap (state_of c.number_at.new.self c.cover.new.self) c.in_err-before.ensures.err
+    ∙ same_state c.self.inside.locations c.number_at.new.self c.number_at.ensures.others c.self.inside.shares c.cover.new.self c.self.inside.held.entries c.self.inside.bytes c.self.invariant.0 c.self.invariant.1 c.cover.ensures.kept
+    ∙ c.self.view_is)
+
+pub forget-requires : goal.forget-requires
+forget-requires c =
+    let keeps = keeps_now c.self.inside.locations c.number_at.new.self c.number_at.ensures.others c.self.inside.held.entries c.self.inside.bytes c.self.inside.shares c.cover.new.self c.cover.ensures.kept c.self.invariant in
+    let shared = shared_now c.self.inside.locations c.number_at.new.self c.number_at.ensures.others c.self.inside.held.entries c.self.inside.bytes c.self.inside.shares c.cover.new.self c.cover.ensures.kept c.self.invariant in
+    let kept : Kept = record { size = c.args.size; line = c.args.line; location = c.in_ok-location.location } in
+    record {
+      counted = counted_there c.number_at.new.self c.self.inside.held.entries c.insert.new.self.entries c.self.inside.bytes keeps c.cover.new.self shared c.value.result kept
+          (record { size = c.ranges.size.fits; location = c.in_ok-location.ensures.there }) c.in_ok-before.before c.in_ok-before.ensures.old;
+    }
+
+pub add-requires-clause-slot : goal.add-requires-clause-slot
+add-requires-clause-slot c =
+    let new = c.number_at.new.self in
+    let old = c.self.inside.held.entries in
+    let kept : Kept = record { size = c.args.size; line = c.args.line; location = c.in_ok-location.location } in
+    let keeps = keeps_now c.self.inside.locations c.number_at.new.self c.number_at.ensures.others c.self.inside.held.entries c.self.inside.bytes c.self.inside.shares c.cover.new.self c.cover.ensures.kept c.self.invariant in
+    let shared = shared_now c.self.inside.locations c.number_at.new.self c.number_at.ensures.others c.self.inside.held.entries c.self.inside.bytes c.self.inside.shares c.cover.new.self c.cover.ensures.kept c.self.invariant in
+    let rest = rest_of new old c.insert.new.self.entries c.self.inside.bytes keeps c.cover.new.self shared c.value.result kept (record { size = c.ranges.size.fits; location = c.in_ok-location.ensures.there })
+    c.in_ok-before.before c.in_ok-before.ensures.old c.in_ok-before.ensures.entries c.forget.new.shares c.forget.new.bytes c.forget.ensures in
+    omega (arith, c.in_ok-cover.ensures.slots, rest.slots)
+
+pub add-requires-clause-blocks : goal.add-requires-clause-blocks
+add-requires-clause-blocks c =
+    let new = c.number_at.new.self in
+    let old = c.self.inside.held.entries in
+    let kept : Kept = record { size = c.args.size; line = c.args.line; location = c.in_ok-location.location } in
+    let keeps = keeps_now c.self.inside.locations c.number_at.new.self c.number_at.ensures.others c.self.inside.held.entries c.self.inside.bytes c.self.inside.shares c.cover.new.self c.cover.ensures.kept c.self.invariant in
+    let shared = shared_now c.self.inside.locations c.number_at.new.self c.number_at.ensures.others c.self.inside.held.entries c.self.inside.bytes c.self.inside.shares c.cover.new.self c.cover.ensures.kept c.self.invariant in
+    let rest = rest_of new old c.insert.new.self.entries c.self.inside.bytes keeps c.cover.new.self shared c.value.result kept (record { size = c.ranges.size.fits; location = c.in_ok-location.ensures.there })
+    c.in_ok-before.before c.in_ok-before.ensures.old c.in_ok-before.ensures.entries c.forget.new.shares c.forget.new.bytes c.forget.ensures in
+    let few = few_blocks new old c.insert.new.self.entries kept c.cover.new.self c.forget.new.shares c.forget.new.bytes rest (omega (arith, c.len-few.ensures.small, c.len-few.ensures.len)) in
+    let same = ap (λ slot. (now_at c.forget.new.shares slot).blocks) c.slot_of-slot.ensures in
+    omega (arith, few, same)
+
+pub add-requires-clause-bytes : goal.add-requires-clause-bytes
+add-requires-clause-bytes c =
+    let new = c.number_at.new.self in
+    let old = c.self.inside.held.entries in
+    let kept : Kept = record { size = c.args.size; line = c.args.line; location = c.in_ok-location.location } in
+    let keeps = keeps_now c.self.inside.locations c.number_at.new.self c.number_at.ensures.others c.self.inside.held.entries c.self.inside.bytes c.self.inside.shares c.cover.new.self c.cover.ensures.kept c.self.invariant in
+    let shared = shared_now c.self.inside.locations c.number_at.new.self c.number_at.ensures.others c.self.inside.held.entries c.self.inside.bytes c.self.inside.shares c.cover.new.self c.cover.ensures.kept c.self.invariant in
+    let rest = rest_of new old c.insert.new.self.entries c.self.inside.bytes keeps c.cover.new.self shared c.value.result kept (record { size = c.ranges.size.fits; location = c.in_ok-location.ensures.there })
+    c.in_ok-before.before c.in_ok-before.ensures.old c.in_ok-before.ensures.entries c.forget.new.shares c.forget.new.bytes c.forget.ensures in
+    let few = few_bytes new old c.insert.new.self.entries kept c.cover.new.self c.forget.new.shares c.forget.new.bytes rest c.self.inside.bytes keeps (omega (arith, c.len-few.ensures.small, c.len-few.ensures.len)) in
+    let same = ap (λ slot. (now_at c.forget.new.shares slot).bytes) c.slot_of-slot.ensures in
+    omega (arith, few.1, same, c.ranges.size.fits)
 
 pub overflow_add-self : goal.overflow_add-self
 overflow_add-self c =
-    let small = is_small c.self.inside.locations c.self.inside.held.entries c.self.inside.bytes c.self.invariant (omega (arith, c.len-few.ensures.small, c.len-few.ensures.len)) in
-    omega (arith, small, c.from.ensures, c.ranges.size.fits)
+    let new = c.number_at.new.self in
+    let old = c.self.inside.held.entries in
+    let kept : Kept = record { size = c.args.size; line = c.args.line; location = c.in_ok-location.location } in
+    let keeps = keeps_now c.self.inside.locations c.number_at.new.self c.number_at.ensures.others c.self.inside.held.entries c.self.inside.bytes c.self.inside.shares c.cover.new.self c.cover.ensures.kept c.self.invariant in
+    let shared = shared_now c.self.inside.locations c.number_at.new.self c.number_at.ensures.others c.self.inside.held.entries c.self.inside.bytes c.self.inside.shares c.cover.new.self c.cover.ensures.kept c.self.invariant in
+    let rest = rest_of new old c.insert.new.self.entries c.self.inside.bytes keeps c.cover.new.self shared c.value.result kept (record { size = c.ranges.size.fits; location = c.in_ok-location.ensures.there })
+    c.in_ok-before.before c.in_ok-before.ensures.old c.in_ok-before.ensures.entries c.forget.new.shares c.forget.new.bytes c.forget.ensures in
+    let few = few_bytes new old c.insert.new.self.entries kept c.cover.new.self c.forget.new.shares c.forget.new.bytes rest c.self.inside.bytes keeps (omega (arith, c.len-few.ensures.small, c.len-few.ensures.len)) in
+    omega (arith, few.0, c.from.ensures, c.ranges.size.fits)
 
 pub invariant_of-self-2 : goal.invariant_of-self-2
 invariant_of-self-2 c =
-    let held : Kept = record { size = c.args.size; line = c.args.line; location = c.in_ok-location.location } in
-    let view = same_view c.self.inside.locations c.number_at.new.self c.number_at.ensures.others c.self.inside.held.entries c.self.inside.bytes c.self.invariant ∙ c.self.view_is in
-    subst (λ size. IsLedger c.number_at.new.self c.insert.new.self.entries (c.self.inside.bytes + size)) (sym c.from.ensures)
-    (more c.number_at.new.self c.self.inside.held.entries c.insert.new.self.entries c.self.inside.bytes
-    (still_keeps c.self.inside.locations c.number_at.new.self c.number_at.ensures.others c.self.inside.held.entries c.self.inside.bytes c.self.invariant)
-    c.value.result held (record { size = c.ranges.size.fits; location = c.in_ok-location.ensures.there })
-    (was_none c.number_at.new.self c.self.inside.held.entries c.args.self.now view c.value.result c.args.address c.value.ensures.value c.requires.free
-    c.in_ok-insert.field-0 c.in_ok-insert.ensures.old _ _ c.in_ok-insert.ensures.entries)
-    c.insert.ensures.unique)
+    let new = c.number_at.new.self in
+    let old = c.self.inside.held.entries in
+    let kept : Kept = record { size = c.args.size; line = c.args.line; location = c.in_ok-location.location } in
+    let keeps = keeps_now c.self.inside.locations c.number_at.new.self c.number_at.ensures.others c.self.inside.held.entries c.self.inside.bytes c.self.inside.shares c.cover.new.self c.cover.ensures.kept c.self.invariant in
+    let shared = shared_now c.self.inside.locations c.number_at.new.self c.number_at.ensures.others c.self.inside.held.entries c.self.inside.bytes c.self.inside.shares c.cover.new.self c.cover.ensures.kept c.self.invariant in
+    let rest = rest_of new old c.insert.new.self.entries c.self.inside.bytes keeps c.cover.new.self shared c.value.result kept (record { size = c.ranges.size.fits; location = c.in_ok-location.ensures.there })
+    c.in_ok-before.before c.in_ok-before.ensures.old c.in_ok-before.ensures.entries c.forget.new.shares c.forget.new.bytes c.forget.ensures in
+    subst (λ size. IsLedger new c.insert.new.self.entries (c.forget.new.bytes + size) × AreShared new c.add.new.self (values_of c.insert.new.self.entries)) (sym c.from.ensures)
+    (counted new old c.insert.new.self.entries kept c.cover.new.self c.forget.new.shares c.forget.new.bytes rest c.insert.ensures.unique c.add.new.self
+    (subst (λ slot. Changes slot (amount_more (now_at c.forget.new.shares slot) c.args.size) c.forget.new.shares c.add.new.self) c.slot_of-slot.ensures c.add.ensures))
 
 pub returns-clause-held : goal.returns-clause-held
 returns-clause-held c = λ other.
-    let held : Kept = record { size = c.args.size; line = c.args.line; location = c.in_ok-location.location } in
-    let view = same_view c.self.inside.locations c.number_at.new.self c.number_at.ensures.others c.self.inside.held.entries c.self.inside.bytes c.self.invariant ∙ c.self.view_is in
-    changes_at c.number_at.new.self c.self.inside.held.entries c.insert.new.self.entries c.args.self.now view c.value.result c.args.address c.value.ensures.value (Some held)
-    c.in_ok-insert.ensures.updates.0 other
-    ∙ ap (λ at. cond (c.args.address == other) (Some (record { addr = c.args.address; size = c.args.size; line = c.args.line; at = at })) (held_at c.args.self.now other)) c.in_ok-location.ensures.found
+    let kept : Kept = record { size = c.args.size; line = c.args.line; location = c.in_ok-location.location } in
+    let view = same_view c.self.inside.locations c.number_at.new.self c.number_at.ensures.others c.self.inside.held.entries c.self.inside.bytes c.self.invariant.0 ∙ ap (λ (state : LedgerState). state.all) c.self.view_is in
+    changes_at c.number_at.new.self c.self.inside.held.entries c.insert.new.self.entries c.args.self.now.all view c.value.result c.args.address c.value.ensures.value (Some kept)
+    c.in_ok-before.ensures.updates.0 other
+    ∙ ap (λ at. cond (c.args.address == other) (Some (record { addr = c.args.address; size = c.args.size; line = c.args.line; at = at })) (held_at c.args.self.now.all other)) c.in_ok-location.ensures.found
+
+pub returns-clause-peak : goal.returns-clause-peak
+returns-clause-peak c =
+    let new = c.number_at.new.self in
+    let old = c.self.inside.held.entries in
+    let kept : Kept = record { size = c.args.size; line = c.args.line; location = c.in_ok-location.location } in
+    let keeps = keeps_now c.self.inside.locations c.number_at.new.self c.number_at.ensures.others c.self.inside.held.entries c.self.inside.bytes c.self.inside.shares c.cover.new.self c.cover.ensures.kept c.self.invariant in
+    let shared = shared_now c.self.inside.locations c.number_at.new.self c.number_at.ensures.others c.self.inside.held.entries c.self.inside.bytes c.self.inside.shares c.cover.new.self c.cover.ensures.kept c.self.invariant in
+    let rest = rest_of new old c.insert.new.self.entries c.self.inside.bytes keeps c.cover.new.self shared c.value.result kept (record { size = c.ranges.size.fits; location = c.in_ok-location.ensures.there })
+    c.in_ok-before.before c.in_ok-before.ensures.old c.in_ok-before.ensures.entries c.forget.new.shares c.forget.new.bytes c.forget.ensures in
+    record {
+      at_peak = peak_stays c.self.inside.locations new c.number_at.ensures.others c.self.inside.shares c.add.new.self c.self.invariant.1.beyond
+          (λ slot. c.add.ensures.marked slot ∙ rest.marked slot ∙ c.cover.ensures.kept.marked slot)
+          ∙ ap (λ (state : LedgerState). state.at_peak) c.self.view_is;
+      mark = c.add.ensures.mark ∙ rest.mark ∙ c.cover.ensures.kept.mark ∙ ap (λ (state : LedgerState). state.mark) c.self.view_is;
+    }
