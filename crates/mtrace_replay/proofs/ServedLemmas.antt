@@ -1,20 +1,24 @@
 -- A replay without a heap stands for one line more.
 use Rattle.std.proofs.Math.Path.{fun_ext}
-use Rattle.std.proofs.Common.{cond, Bool, true, false, Some, None, ◌≡◌, ℕ, suc, ◌+◌, List, [], ◌∷◌, length, map, refl, sym, ap, ◌∙◌, subst, arith}
+use Rattle.std.proofs.Common.{cond, Bool, true, false, Some, None, ◌≡◌, ℕ, suc, ◌+◌, List, [], ◌∷◌, length, map, inl, inr, refl, sym, ap, ◌∙◌, subst, arith}
 use Rattle.std.specs.Prelude.{◌==◌, ◌++◌, is_some, count_by, nat_lt, if◌then◌else◌, option_map}
 use Rattle.std.specs.List.Sorted.{IsStrictlyIncreasing}
 use Rattle.mtrace_replay.specs.Entry.{Entry}
 use Rattle.mtrace_replay.specs.declared.diagnostic.Diagnostic.{Diagnostic}
-use Rattle.mtrace_replay.specs.Moment.{ReadLine, Given, Plan, plan, half, is_new}
+use Rattle.mtrace_replay.specs.Moment.{ReadLine, Given, Moment, Plan, plan, half, is_new}
 use Rattle.mtrace_replay.specs.History.{held, held_after, pending, old_address, AreHeld, entries_of}
 use Rattle.mtrace_replay.specs.Step.{found}
-use Rattle.mtrace_replay.specs.Totals.{is_served, Measures, IsPeak, bytes_in}
+use Rattle.mtrace_replay.specs.Totals.{is_served, first_moments, Measures, IsPeak, bytes_in, blocks_in}
 use Rattle.mtrace_replay.specs.Texts.{total_size}
 use Rattle.mtrace_replay.specs.Ledger.{held_at}
-use Rattle.mtrace_replay.specs.Served.{unplaced, all_served, served_moment, served_moments, found_in, Standing, IsServed, added_served}
+use Rattle.mtrace_replay.specs.Served.{unplaced, all_served, served_moment, served_moments, found_in, Standing, IsServed, IsAtPeak, RaisesPeak, added_served}
 use Rattle.tlsf_heap.proofs.Counts.{count-cons}
 use Rattle.mtrace_replay.proofs.FoundLemmas.{found_is_held, held_as_found, none_held}
-use Rattle.mtrace_replay.proofs.TotalsLemmas.{most_none, peak_goes_on}
+use Rattle.std.proofs.lemmas.List.{length-map}
+use Rattle.std.proofs.lemmas.Bool.{cases_Bool}
+use Rattle.mtrace_replay.specs.Sites.{Site, AreTallied}
+use Rattle.mtrace_replay.proofs.SortedLemmas.{one_list}
+use Rattle.mtrace_replay.proofs.TotalsLemmas.{most_none, peak_goes_on, first_moments_all, first_moments_before}
 
 found_unplaced : (all : List Entry) (address : ℕ) → found (map unplaced all) address ≡ found_in all address
 found_unplaced [] address = refl
@@ -37,9 +41,25 @@ unfolding served_moments
 length-served [] = refl
 length-served (line ∷ past) = ap suc (length-served past)
 
-pub none_served : IsServed (record { all = []; lines = 0; served = 0; peak_bytes = 0; peak_line = 0; pending = None }) []
+-- nothing is held, nor was
+abbrev pub none_yet : Standing
+none_yet = record { all = []; lines = 0; served = 0; peak_bytes = 0; peak_line = 0; peak_blocks = 0; at_peak = []; pending = None }
+
+pub none_served : IsServed none_yet []
 unfolding served_moments
-none_served = record { lines_are = refl; served_are = refl; pending_is = refl; held = none_held; peak = most_none bytes_in refl }
+none_served = record {
+  lines_are = refl;
+  served_are = refl;
+  pending_is = refl;
+  held = none_held;
+  peak = most_none bytes_in refl;
+  at_peak = record {
+    blocks = record { all = []; held = none_held; measured = refl };
+    sites = λ all held.
+        subst (λ (all : List Given). AreTallied (entries_of all) []) (one_list [] [] all none_held held)
+        (record { one = λ p. omega arith; blocks = λ p. refl; bytes = λ p. refl });
+  };
+}
 
 module _ (old new : Standing) (past : List ReadLine) (line : ReadLine) (stands : IsServed old past)
     (serves : (address : ℕ) → found_in new.all address ≡ held_after (all_served (plan (old.lines + 1) line old.pending (found_in old.all))) (found_in old.all) address)
@@ -68,7 +88,7 @@ module _ (old new : Standing) (past : List ReadLine) (line : ReadLine) (stands :
       ∙ ap (λ p. plan (suc (length past)) line p (found_in old.all)) stands.pending_is
       ∙ ap (λ look. plan (suc (length past)) line (pending past) look) look_is
 
-  served_on : count_by is_served (served_moments past) + (if is_some (all_served (plan (old.lines + 1) line old.pending (found_in old.all))).given then 1 else 0) ≡ count_by is_served (served_moments (line ∷ past))
+  pub served_on : count_by is_served (served_moments past) + (if is_some (all_served (plan (old.lines + 1) line old.pending (found_in old.all))).given then 1 else 0) ≡ count_by is_served (served_moments (line ∷ past))
   unfolding served_moments
   served_on =
       ap (λ (planned : Plan). count_by is_served (served_moments past) + (if is_some (all_served planned).given then 1 else 0)) plan_is
@@ -83,27 +103,70 @@ module _ (old new : Standing) (past : List ReadLine) (line : ReadLine) (stands :
       ∙ ap (λ p. (if is_new line then [] else half (length past) p) ++ (all_served (plan (old.lines + 1) line old.pending (found_in old.all))).diagnostics) stands.pending_is
       ∙ ap (λ (planned : Plan). (if is_new line then [] else half (length past) (pending past)) ++ (all_served planned).diagnostics) plan_is
 
-  measured_on : (bytes : ℕ) → bytes ≡ total_size new.all → Measures bytes_in (served_moments (line ∷ past)) bytes
-  measured_on bytes is = record { all = map unplaced new.all; held = held_on; measured = is ∙ ap total_size (sym (entries_unplaced new.all)) }
+-- The replay stands for one line more, behind which this is held, and then the peak was raised.
+module _ (old middle new : Standing) (past : List ReadLine) (line : ReadLine) (stands : IsServed old past) (held : AreHeld (map unplaced middle.all) (served_moments (line ∷ past)))
+    (lines : middle.lines ≡ suc (length past)) (bytes : middle.peak_bytes ≡ old.peak_bytes) (peak_line : middle.peak_line ≡ old.peak_line)
+    (blocks : middle.peak_blocks ≡ old.peak_blocks) (at_peak : middle.at_peak ≡ old.at_peak) (raises : RaisesPeak middle new) where
+  abbrev now : List Moment
+  now = served_moments (line ∷ past)
 
-  peak_on : (bytes : ℕ) → bytes ≡ total_size new.all → IsPeak (served_moments (line ∷ past)) (if nat_lt old.peak_bytes bytes then bytes else old.peak_bytes)
-      (if nat_lt old.peak_bytes bytes then suc (length (served_moments past)) else old.peak_line)
+  abbrev total : ℕ
+  total = total_size middle.all
+
+  sum_now : Measures bytes_in now total
+  sum_now = record { all = map unplaced middle.all; held = held; measured = ap total_size (sym (entries_unplaced middle.all)) }
+
+  all_lines : suc (length (served_moments past)) ≡ middle.lines
+  all_lines = omega (arith, length-served past, lines)
+
+  its_peak : IsPeak now new.peak_bytes new.peak_line
   unfolding served_moments
-  peak_on bytes is = peak_goes_on bytes_in _ (served_moments past) old.peak_bytes bytes (measured_on bytes is) old.peak_line stands.peak (nat_lt old.peak_bytes bytes) refl
+  its_peak =
+      let goes_on = peak_goes_on bytes_in _ (served_moments past) old.peak_bytes total sum_now old.peak_line stands.peak (nat_lt old.peak_bytes total) refl in
+      let bytes_are : new.peak_bytes ≡ (if nat_lt old.peak_bytes total then total else old.peak_bytes) = raises.bytes ∙ ap (λ n. if nat_lt n total then total else n) bytes in
+      let line_is : new.peak_line ≡ (if nat_lt old.peak_bytes total then suc (length (served_moments past)) else old.peak_line) =
+      raises.line ∙ ap (λ n. if nat_lt n total then middle.lines else middle.peak_line) bytes
+      ∙ ap (λ n. if nat_lt old.peak_bytes total then n else middle.peak_line) (sym all_lines)
+      ∙ ap (λ n. if nat_lt old.peak_bytes total then suc (length (served_moments past)) else n) peak_line in
+      subst (λ n. IsPeak now n new.peak_line) (sym bytes_are)
+      (subst (λ n. IsPeak now (if nat_lt old.peak_bytes total then total else old.peak_bytes) n) (sym line_is) goes_on)
 
-  pub stands_on : (bytes : ℕ) → bytes ≡ total_size new.all → new.lines ≡ old.lines + 1
-      → new.served ≡ old.served + (if is_some (all_served (plan (old.lines + 1) line old.pending (found_in old.all))).given then 1 else 0) → new.pending ≡ old_address line
-      → new.peak_bytes ≡ (if nat_lt old.peak_bytes bytes then bytes else old.peak_bytes) → new.peak_line ≡ (if nat_lt old.peak_bytes bytes then old.lines + 1 else old.peak_line)
-      → IsServed new (line ∷ past)
-  stands_on bytes is lines_are served_is pending_is peak_is line_is = record {
-    lines_are = lines_are ∙ omega (arith, stands.lines_are);
-    served_are = served_is ∙ ap (λ n. n + (if is_some (all_served (plan (old.lines + 1) line old.pending (found_in old.all))).given then 1 else 0)) stands.served_are ∙ served_on;
-    pending_is = pending_is;
-    held = held_on;
-    peak =
-        let number : old.lines + 1 ≡ suc (length (served_moments past)) = omega (arith, stands.lines_are, length-served past) in
-        let at : new.peak_line ≡ (if nat_lt old.peak_bytes bytes then suc (length (served_moments past)) else old.peak_line) =
-        line_is ∙ ap (λ n. if nat_lt old.peak_bytes bytes then n else old.peak_line) number in
-        subst (λ most. IsPeak (served_moments (line ∷ past)) most new.peak_line) (sym peak_is)
-        (subst (λ n. IsPeak (served_moments (line ∷ past)) (if nat_lt old.peak_bytes bytes then bytes else old.peak_bytes) n) (sym at) (peak_on bytes is));
+  -- there is more than ever was
+  at_new : nat_lt middle.peak_bytes total ≡ true → IsAtPeak new (first_moments new.peak_line now)
+  unfolding served_moments
+  at_new more =
+      let line_is : new.peak_line ≡ length now = raises.line ∙ ap (λ b. if b then middle.lines else middle.peak_line) more ∙ sym all_lines in
+      let blocks_are : new.peak_blocks ≡ length middle.all = raises.blocks ∙ ap (λ b. if b then length middle.all else middle.peak_blocks) more in
+      subst (λ first. IsAtPeak new first) (sym (ap (λ n. first_moments n now) line_is ∙ first_moments_all now)) (record {
+        blocks = record { all = map unplaced middle.all; held = held; measured = blocks_are ∙ sym (length-map middle.all unplaced) };
+        sites = λ all as_well.
+            subst (λ (all : List Given). AreTallied (entries_of all) new.at_peak) (one_list now (map unplaced middle.all) all held as_well)
+            (subst (λ (entries : List Entry). AreTallied entries new.at_peak) (sym (entries_unplaced middle.all)) (raises.raised more));
+      })
+
+  -- there is not
+  at_old : nat_lt middle.peak_bytes total ≡ false → IsAtPeak new (first_moments new.peak_line now)
+  unfolding served_moments
+  at_old less =
+      let line_is : new.peak_line ≡ old.peak_line = raises.line ∙ ap (λ b. if b then middle.lines else middle.peak_line) less ∙ peak_line in
+      let blocks_are : new.peak_blocks ≡ old.peak_blocks = raises.blocks ∙ ap (λ b. if b then length middle.all else middle.peak_blocks) less ∙ blocks in
+      let sites_are : new.at_peak ≡ old.at_peak = raises.kept less ∙ at_peak in
+      let first : first_moments new.peak_line now ≡ first_moments old.peak_line (served_moments past) =
+      ap (λ n. first_moments n now) line_is ∙ first_moments_before old.peak_line _ (served_moments past) stands.peak.within in
+      subst (λ moments. IsAtPeak new moments) (sym first) (record {
+        blocks = subst (λ n. Measures blocks_in (first_moments old.peak_line (served_moments past)) n) (sym blocks_are) stands.at_peak.blocks;
+        sites = λ all held. subst (λ (sites : List Site). AreTallied (entries_of all) sites) (sym sites_are) (stands.at_peak.sites all held);
+      })
+
+  pub raised : middle.served ≡ count_by is_served (served_moments (line ∷ past)) → middle.pending ≡ old_address line → IsServed new (line ∷ past)
+  raised served pending_is = record {
+    lines_are = raises.lines ∙ lines;
+    served_are = raises.served ∙ served;
+    pending_is = raises.pending ∙ pending_is;
+    held = subst (λ (all : List Entry). AreHeld (map unplaced all) now) (sym raises.all) held;
+    peak = its_peak;
+    at_peak = elim (cases_Bool (nat_lt middle.peak_bytes total)) [
+      | inl more ↦ at_new more
+      | inr less ↦ at_old less
+    ];
   }

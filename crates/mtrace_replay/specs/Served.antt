@@ -1,17 +1,18 @@
 -- What the lines of a log do where no heap is asked: each block that is asked for is given.
-use Rattle.std.specs.Prelude.{◌≡◌, ℕ, suc, Bool, List, [], ◌∷◌, ◌++◌, length, map, reverse, count_by, is_some, Option, Some, None, Result, IfOk, OnOk, OnErr, if◌then◌else◌}
+use Rattle.std.specs.Prelude.{◌≡◌, ℕ, suc, Bool, true, false, nat_lt, List, [], ◌∷◌, ◌++◌, length, map, reverse, count_by, is_some, Option, Some, None, Result, IfOk, OnOk, OnErr, if◌then◌else◌}
 use Rattle.std.specs.Option.{option_map}
 use Rattle.tlsf_heap.specs.Pools.{created}
 use Rattle.mtrace_replay.specs.Entry.{Entry}
 use Rattle.mtrace_replay.specs.declared.diagnostic.Diagnostic.{Diagnostic}
 use Rattle.mtrace_replay.specs.Started.{Bare}
 use Rattle.mtrace_replay.specs.Moment.{ReadLine, Given, Moment, Plan, Act, idle, give, take, move, plan, half, is_new, unserved, after_diagnostics}
-use Rattle.mtrace_replay.specs.History.{held, held_after, pending, notes, AreHeld}
-use Rattle.mtrace_replay.specs.Totals.{is_served, IsPeak}
+use Rattle.mtrace_replay.specs.History.{held, held_after, pending, notes, AreHeld, entries_of}
+use Rattle.mtrace_replay.specs.Totals.{is_served, first_moments, Measures, IsPeak, blocks_in}
 use Rattle.mtrace_replay.specs.declared.no_heap.replay.LedgerTotals.{LedgerTotals}
 use Rattle.mtrace_replay.specs.declared.totals.Totals.{Totals}
 use Rattle.mtrace_replay.specs.Texts.{total_size}
-use Rattle.mtrace_replay.specs.Ledger.{held_at}
+use Rattle.mtrace_replay.specs.Sites.{Site, AreTallied}
+use Rattle.mtrace_replay.specs.Ledger.{held_at, LedgerState, KeepsPeak}
 
 -- what stands in each moment in the place of a heap
 abbrev pub no_heap : Bare
@@ -54,21 +55,29 @@ abbrev pub found_in : List Entry → ℕ → Option Given
 found_in all address = option_map unplaced (held_at all address)
 
 -- What a line does, or a part of it, as its plan says, and whether a block is given. Where memory is refused what is held stays.
-pub record Serves {E : Type 0} (planned : Plan) (diagnostics : List Diagnostic) (result : Result Bool E) (old new : List Entry) : Type 0 where
-  pub held : OnOk result ((address : ℕ) → found_in new address ≡ held_after (all_served planned) (found_in old) address)
+pub record Serves {E : Type 0} (planned : Plan) (diagnostics : List Diagnostic) (result : Result Bool E) (old new : LedgerState) : Type 0 where
+  pub held : OnOk result ((address : ℕ) → found_in new.all address ≡ held_after (all_served planned) (found_in old.all) address)
+  pub peak : OnOk result (KeepsPeak old new)
   pub diagnostics_are : OnOk result (diagnostics ≡ (all_served planned).diagnostics)
   pub given : IfOk result (λ given. given ≡ is_some (all_served planned).given)
   pub unchanged : OnErr result (new ≡ old)
 
 -- a replay without a heap: what is held in order of address, how many lines there were and how many were served, the greatest
--- sum of bytes with its line, and the address of the last line where that is `<`
+-- sum of bytes with its line, its number of blocks and its sites, and the address of the last line where that is `<`
 pub record Standing : Type 0 where
   pub all : List Entry
   pub lines : ℕ
   pub served : ℕ
   pub peak_bytes : ℕ
   pub peak_line : ℕ
+  pub peak_blocks : ℕ
+  pub at_peak : List Site
   pub pending : Option ℕ
+
+-- what was held after these moments, those up to the peak
+pub record IsAtPeak (replay : Standing) (past : List Moment) : Type 0 where
+  pub blocks : Measures blocks_in past replay.peak_blocks
+  pub sites : (all : List Given) → AreHeld all past → AreTallied (entries_of all) replay.at_peak
 
 -- the replay stands for the lines, of which the latest comes first
 pub record IsServed (replay : Standing) (past : List ReadLine) : Type 0 where
@@ -77,6 +86,7 @@ pub record IsServed (replay : Standing) (past : List ReadLine) : Type 0 where
   pub pending_is : replay.pending ≡ pending past
   pub held : AreHeld (map unplaced replay.all) (served_moments past)
   pub peak : IsPeak (served_moments past) replay.peak_bytes replay.peak_line
+  pub at_peak : IsAtPeak replay (first_moments replay.peak_line (served_moments past))
 
 -- the diagnostics that one more line adds
 abbrev pub added_served : ReadLine → List ReadLine → List Diagnostic
@@ -110,3 +120,15 @@ without_places totals = record {
   peak_bytes = totals.peak_bytes;
   peak_line = totals.peak_line;
 }
+
+-- what is held now is the peak, where it is more than was ever held; all else stays
+pub record RaisesPeak (old new : Standing) : Type 0 where
+  pub all : new.all ≡ old.all
+  pub lines : new.lines ≡ old.lines
+  pub served : new.served ≡ old.served
+  pub pending : new.pending ≡ old.pending
+  pub bytes : new.peak_bytes ≡ (if nat_lt old.peak_bytes (total_size old.all) then total_size old.all else old.peak_bytes)
+  pub line : new.peak_line ≡ (if nat_lt old.peak_bytes (total_size old.all) then old.lines else old.peak_line)
+  pub blocks : new.peak_blocks ≡ (if nat_lt old.peak_bytes (total_size old.all) then length old.all else old.peak_blocks)
+  pub raised : nat_lt old.peak_bytes (total_size old.all) ≡ true → AreTallied old.all new.at_peak
+  pub kept : nat_lt old.peak_bytes (total_size old.all) ≡ false → new.at_peak ≡ old.at_peak

@@ -1,8 +1,8 @@
 //! What one line does to a ledger.
 
-ghost use Rattle.std.specs.Prelude.{◌≡◌, ◌≢◌, ◌&&◌, not, is_some, true, ℕ, [], None, Some, OnOk, OnErr, if◌then◌else◌, ◌==◌};
+ghost use Rattle.std.specs.Prelude.{◌≡◌, ◌&&◌, not, is_some, ℕ, [], None, Some, OnOk, OnErr, if◌then◌else◌, ◌==◌};
 ghost use Rattle.mtrace_replay.specs.Moment.{allocation, release, renewal, plan};
-ghost use Rattle.mtrace_replay.specs.Ledger.{held_at};
+ghost use Rattle.mtrace_replay.specs.Ledger.{held_at, KeepsPeak};
 ghost use Rattle.mtrace_replay.specs.Served.{Serves, found_in};
 
 use super::ledger::Ledger;
@@ -13,10 +13,10 @@ use crate::step::entry_of;
 use mtrace_log::{Addr, Event, LentLocation, LineFault};
 use std::alloc::AllocError;
 
-/// Holds the address of an entry, which isn't held.
+/// Holds the address of an entry.
 fn hold(ledger: &mut Ledger, entry: &Entry<LentLocation<'_>>) -> Result<(), AllocError>
-    requires free { held_at ledger.old entry.now.addr ≡ None }
-    ensures held { OnOk result ((other : ℕ) → held_at ledger.new other ≡ (if entry.now.addr == other then Some entry.now else held_at ledger.old other)) }
+    ensures held { OnOk result ((other : ℕ) → held_at ledger.new.all other ≡ (if entry.now.addr == other then Some entry.now else held_at ledger.old.all other)) }
+    ensures peak { OnOk result (KeepsPeak ledger.old ledger.new) }
     ensures unchanged { OnErr result (ledger.new ≡ ledger.old) }
 {
     let Some(lent) = &entry.at else {
@@ -34,7 +34,7 @@ fn allocate(
     findings: &mut Findings,
 ) -> Result<bool, AllocError>
     requires none { findings.old ≡ [] }
-    ensures { Serves (allocation entry.now None (found_in ledger.old entry.now.addr)) findings.new result ledger.old ledger.new }
+    ensures { Serves (allocation entry.now None (found_in ledger.old.all entry.now.addr)) findings.new result ledger.old ledger.new }
 {
     if ledger.is_held(entry.addr) {
         findings.set_one(entry.line, Kind::AlreadyHeld(entry.addr));
@@ -53,7 +53,7 @@ fn release(
     findings: &mut Findings,
 ) -> Result<bool, AllocError>
     requires none { findings.old ≡ [] }
-    ensures { Serves (release number address (found_in ledger.old address)) findings.new result ledger.old ledger.new }
+    ensures { Serves (release number address (found_in ledger.old.all address)) findings.new result ledger.old ledger.new }
 {
     if !ledger.release(address) {
         findings.set_one(number, Kind::NotHeld(address));
@@ -67,10 +67,9 @@ fn replace(
     old: Addr,
     entry: &Entry<LentLocation<'_>>,
 ) -> Result<(), AllocError>
-    requires held { is_some (held_at ledger.old old) ≡ true }
-    requires free { old ≢ entry.now.addr → held_at ledger.old entry.now.addr ≡ None }
-    ensures held { OnOk result ((other : ℕ) → held_at ledger.new other
-        ≡ (if entry.now.addr == other then Some entry.now else (if old == other then None else held_at ledger.old other))) }
+    ensures held { OnOk result ((other : ℕ) → held_at ledger.new.all other
+        ≡ (if entry.now.addr == other then Some entry.now else (if old == other then None else held_at ledger.old.all other))) }
+    ensures peak { OnOk result (KeepsPeak ledger.old ledger.new) }
     ensures unchanged { OnErr result (ledger.new ≡ ledger.old) }
 {
     let Some(lent) = &entry.at else {
@@ -82,7 +81,7 @@ fn replace(
 
 /// Whether the address is another one than the old one, and held.
 fn is_held_too(ledger: &Ledger, address: Addr, old: Addr) -> bool
-    ensures { result ≡ (not (address == old) && is_some (held_at ledger.now address)) }
+    ensures { result ≡ (not (address == old) && is_some (held_at ledger.now.all address)) }
 {
     address != old && ledger.is_held(address)
 }
@@ -96,7 +95,7 @@ fn renew(
     findings: &mut Findings,
 ) -> Result<bool, AllocError>
     requires none { findings.old ≡ [] }
-    ensures { Serves (renewal entry.now pending (found_in ledger.old)) findings.new result ledger.old ledger.new }
+    ensures { Serves (renewal entry.now pending (found_in ledger.old.all)) findings.new result ledger.old ledger.new }
 {
     let number = entry.line;
     let Some(old) = pending else {
@@ -130,7 +129,7 @@ pub(crate) fn outcome(
     findings: &mut Findings,
 ) -> Result<bool, AllocError>
     requires none { findings.old ≡ [] }
-    ensures { Serves (plan number event.entry pending (found_in ledger.old)) findings.new result ledger.old ledger.new }
+    ensures { Serves (plan number event.entry pending (found_in ledger.old.all)) findings.new result ledger.old ledger.new }
 {
     match event {
         Err(LineFault::TooLong) => {

@@ -1,8 +1,8 @@
 //! The replay of a log without a heap.
 
-ghost use Rattle.std.specs.Prelude.{◌≡◌, ◌+◌, [], if◌then◌else◌, nat_lt};
+ghost use Rattle.std.specs.Prelude.{◌≡◌, ◌+◌, ◌<◌, []};
 ghost use Rattle.mtrace_replay.specs.Moment.{half};
-ghost use Rattle.mtrace_replay.specs.Served.{IsServed, FeedsLedger, totals_of};
+ghost use Rattle.mtrace_replay.specs.Served.{IsServed, FeedsLedger, RaisesPeak, totals_of};
 
 use super::ledger::Ledger;
 use super::line::outcome;
@@ -38,32 +38,28 @@ pub struct LedgerReplay {
     served: u64,
     peak_bytes: u128,
     peak_line: u64,
+    peak_blocks: u64,
     pending: Option<Addr>,
 }
 
 impl Model for LedgerReplay {
-    ghost use Rattle.std.specs.Prelude.{◌≤◌};
+    ghost use Rattle.std.specs.Prelude.{◌≡◌, ◌≤◌};
     ghost use Rattle.mtrace_replay.specs.Served.{Standing};
 
     ghost Value = { Standing };
 
-    ghost view = { λ r. record { all = r.ledger; lines = r.lines; served = r.served; peak_bytes = r.peak_bytes; peak_line = r.peak_line; pending = r.pending } };
+    ghost view = { λ r. record {
+      all = r.ledger.all;
+      lines = r.lines;
+      served = r.served;
+      peak_bytes = r.peak_bytes;
+      peak_line = r.peak_line;
+      peak_blocks = r.peak_blocks;
+      at_peak = r.ledger.at_peak;
+      pending = r.pending;
+    } };
 
-    ghost invariant = { λ r. r.served ≤ r.lines };
-}
-
-/// The greater of the most bytes so far and those now.
-fn most_bytes(most: u128, bytes: u128) -> u128
-    ensures { result ≡ (if nat_lt most bytes then bytes else most) }
-{
-    if bytes > most { bytes } else { most }
-}
-
-/// The line of the greater of the two: that of the most bytes so far, unless there are more now.
-fn most_line(most: u128, bytes: u128, line: u64, number: u64) -> u64
-    ensures { result ≡ (if nat_lt most bytes then number else line) }
-{
-    if bytes > most { number } else { line }
+    ghost invariant = { λ r. (r.served ≤ r.lines) × (r.peak_line ≤ r.lines) × (r.ledger.mark ≡ r.peak_line) };
 }
 
 impl LedgerReplay {
@@ -77,8 +73,25 @@ impl LedgerReplay {
             served: 0,
             peak_bytes: 0,
             peak_line: 0,
+            peak_blocks: 0,
             pending: None,
         }
+    }
+
+    /// What is held behind the last line is the peak, where it is more than was ever held.
+    #[inline(always)]
+    fn raise_peak(&mut self)
+        requires later { self.old.peak_line < self.old.lines }
+        ensures { RaisesPeak self.old self.new }
+    {
+        let bytes = self.ledger.bytes();
+        if bytes <= self.peak_bytes {
+            return;
+        }
+        self.peak_bytes = bytes;
+        self.peak_line = self.lines;
+        self.peak_blocks = self.ledger.len() as u64;
+        self.ledger.set_mark(self.lines);
     }
 
     /// Replays the line of this number that says this, with its location where it lies. What is wrong goes to the findings.
@@ -102,13 +115,10 @@ impl LedgerReplay {
         let is_given = outcome(&mut self.ledger, number, self.pending, event, findings)?;
         self.ledger.keeps_order();
         put_half(half, findings);
-        let bytes = self.ledger.bytes();
-        let most = self.peak_bytes;
         self.lines = number;
         self.served += u64::from(is_given);
-        self.peak_bytes = most_bytes(most, bytes);
-        self.peak_line = most_line(most, bytes, self.peak_line, number);
         self.pending = next;
+        self.raise_peak();
         Ok(())
     }
 
@@ -137,7 +147,8 @@ impl LedgerReplay {
 
     /// What is held.
     pub(crate) fn ledger(&self) -> &Ledger
-        ensures { result.now ≡ self.now.all }
+        ensures all { result.now.all ≡ self.now.all }
+        ensures at_peak { result.now.at_peak ≡ self.now.at_peak }
     {
         &self.ledger
     }

@@ -1,12 +1,13 @@
 -- The replay stands for one line more.
-use Rattle.std.proofs.Common.{◌≡◌, ℕ, ◌+◌, ◌++◌, ◌∷◌, List, [], sym, ap, ◌∙◌, subst, refl}
+use Rattle.std.proofs.Common.{◌≡◌, ℕ, ◌+◌, ◌++◌, ◌∷◌, List, [], sym, ap, ◌∙◌, subst, refl, arith}
 use mir.Val.{bool_byte}
-use Rattle.std.specs.Prelude.{Bool, true, false, nat_lt, is_some, if◌then◌else◌}
+use Rattle.std.specs.Prelude.{Bool, true, false, is_some, count_by, if◌then◌else◌}
 use Rattle.mtrace_replay.specs.declared.diagnostic.Diagnostic.{Diagnostic}
 use Rattle.mtrace_replay.specs.History.{held_after}
+use Rattle.mtrace_replay.specs.Totals.{is_served}
 use Rattle.mtrace_replay.specs.Moment.{plan, half, is_new}
-use Rattle.mtrace_replay.specs.Served.{all_served, found_in, Standing, IsServed, added_served}
-use Rattle.mtrace_replay.proofs.ServedLemmas.{stands_on, told_on}
+use Rattle.mtrace_replay.specs.Served.{served_moments, all_served, found_in, Standing, IsServed, added_served}
+use Rattle.mtrace_replay.proofs.ServedLemmas.{held_on, served_on, told_on, raised}
 use Rattle.mtrace_replay.proofs.no_heap.replay.LedgerReplay.feed_lent.Goals as goal
 
 one_where : (b : Bool) → bool_byte b ≡ (if b then 1 else 0)
@@ -17,29 +18,46 @@ pub returns : goal.returns
 returns c =
     let inside = c.self.inside in
     let event = c.args.event in
-    let old : Standing = record { all = inside.ledger; lines = inside.lines; served = inside.served; peak_bytes = inside.peak_bytes; peak_line = inside.peak_line; pending = inside.pending } in
-    let new : Standing = record {
-      all = c.outcome.new.ledger;
+    let served = inside.served + c.from.result in
+    let old : Standing = record {
+      all = inside.ledger.all;
+      lines = inside.lines;
+      served = inside.served;
+      peak_bytes = inside.peak_bytes;
+      peak_line = inside.peak_line;
+      peak_blocks = inside.peak_blocks;
+      at_peak = inside.ledger.at_peak;
+      pending = inside.pending;
+    } in
+    let middle : Standing = record {
+      all = c.outcome.new.ledger.all;
       lines = c.args.number;
-      served = inside.served + c.from.result;
-      peak_bytes = c.most_bytes-self-inside.result;
-      peak_line = c.most_line-self-inside.result;
+      served = served;
+      peak_bytes = inside.peak_bytes;
+      peak_line = inside.peak_line;
+      peak_blocks = inside.peak_blocks;
+      at_peak = c.outcome.new.ledger.at_peak;
       pending = c.old_address-next.result;
     } in
+    let new : Standing = c.raise_peak.new.self in
     let next : c.args.number ≡ inside.lines + 1 = c.requires.next ∙ sym (ap (λ (s : Standing). s.lines + 1) c.self.view_is) in
-    let H : ℕ → Type 0 = λ n. (address : ℕ) → found_in c.outcome.new.ledger address ≡ held_after (all_served (plan n event inside.pending (found_in inside.ledger))) (found_in inside.ledger) address in
-    let D : ℕ → Type 0 = λ n. c.outcome.new.findings ≡ (all_served (plan n event inside.pending (found_in inside.ledger))).diagnostics in
-    let G : ℕ → Type 0 = λ n. c.in_ok-is_given.is_given ≡ is_some (all_served (plan n event inside.pending (found_in inside.ledger))).given in
+    let H : ℕ → Type 0 = λ n. (address : ℕ) → found_in c.outcome.new.ledger.all address ≡ held_after (all_served (plan n event inside.pending (found_in inside.ledger.all))) (found_in inside.ledger.all) address in
+    let D : ℕ → Type 0 = λ n. c.outcome.new.findings ≡ (all_served (plan n event inside.pending (found_in inside.ledger.all))).diagnostics in
+    let G : ℕ → Type 0 = λ n. c.in_ok-is_given.is_given ≡ is_some (all_served (plan n event inside.pending (found_in inside.ledger.all))).given in
     let given = subst G next c.in_ok-is_given.ensures.given in
+    let one : c.from.result ≡ (if is_some (all_served (plan (inside.lines + 1) event inside.pending (found_in inside.ledger.all))).given then 1 else 0) =
+    c.from.ensures ∙ one_where c.in_ok-is_given.is_given ∙ ap (λ b. if b then 1 else 0) given in
     record {
       stands = λ past. subst (λ (before : Standing). IsServed before past → IsServed new (event ∷ past)) c.self.view_is
-          (λ stands. stands_on old new past event stands (subst H next c.in_ok-is_given.ensures.held) c.keeps_order.ensures c.bytes-bytes.result c.bytes-bytes.ensures next
-          (ap (λ n. inside.served + n) (c.from.ensures ∙ one_where c.in_ok-is_given.is_given ∙ ap (λ b. if b then 1 else 0) given)) c.old_address-next.ensures c.most_bytes-self-inside.ensures
-          (c.most_line-self-inside.ensures ∙ ap (λ n. if nat_lt inside.peak_bytes c.bytes-bytes.result then n else inside.peak_line) next));
+          (λ stands.
+              let held = held_on old middle past event stands (subst H next c.in_ok-is_given.ensures.held) c.keeps_order.ensures in
+              let count = ap (λ n. n + c.from.result) stands.served_are ∙ ap (λ n. count_by is_served (served_moments past) + n) one
+              ∙ served_on old middle past event stands (subst H next c.in_ok-is_given.ensures.held) c.keeps_order.ensures in
+              raised old middle new past event stands held (next ∙ omega (arith, stands.lines_are)) refl refl refl c.in_ok-is_given.ensures.peak.at_peak c.raise_peak.ensures count c.old_address-next.ensures);
       told = λ past. subst (λ (before : Standing). IsServed before past → c.put_half.new.findings ≡ added_served event past) c.self.view_is
-          (λ stands. told_on old new past event stands (subst H next c.in_ok-is_given.ensures.held) c.keeps_order.ensures c.put_half.new.findings
+          (λ stands. told_on old middle past event stands (subst H next c.in_ok-is_given.ensures.held) c.keeps_order.ensures c.put_half.new.findings
           (c.put_half.ensures ∙ ap (λ (all : List Diagnostic). all ++ c.outcome.new.findings) c.half_before-half.ensures
           ∙ ap (λ (all : List Diagnostic). (if is_new event then [] else half inside.lines inside.pending) ++ all) (subst D next c.in_ok-is_given.ensures.diagnostics_are)));
-      counted = refl;
+      counted = c.raise_peak.ensures.lines;
       unchanged = tt;
     }

@@ -1,8 +1,9 @@
 -- Nothing was held before the first line.
-use Rattle.std.proofs.Common.{sym, subst, [], None}
+use Rattle.std.proofs.Common.{[], sym, subst}
+use Rattle.mtrace_replay.specs.Ledger.{LedgerState}
 use Rattle.mtrace_replay.specs.Served.{IsServed}
-use Rattle.mtrace_replay.proofs.ServedLemmas.{none_served}
+use Rattle.mtrace_replay.proofs.ServedLemmas.{none_yet, none_served}
 use Rattle.mtrace_replay.proofs.no_heap.replay.LedgerReplay.new.Goals as goal
 
 pub returns : goal.returns
-returns c = subst (λ all. IsServed (record { all = all; lines = 0; served = 0; peak_bytes = 0; peak_line = 0; pending = None }) []) (sym c.new.ensures) none_served
+returns c = subst (λ (state : LedgerState). IsServed (record none_yet { all = state.all; at_peak = state.at_peak }) []) (sym c.new.ensures) none_served
