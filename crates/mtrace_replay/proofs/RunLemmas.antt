@@ -1,6 +1,9 @@
 -- A run under way, and how it goes on and ends.
 use Rattle.std.proofs.Common.{true, ◌≡◌, ℕ, Bool, false, ◌||◌, List, [], ◌∷◌, ◌++◌, length, refl, sym, ap, ◌∙◌, subst, arith, Some, reverse, inl, inr, append_assoc, if◌then◌else◌, not, ◌==◌}
-use Rattle.std.specs.Prelude.{Result}
+use Rattle.std.specs.Prelude.{Result, Ok, Err}
+use Rattle.mtrace_log.specs.Trace.{HasTaken, FlushWasAsked, flushed}
+use Rattle.mtrace_log.specs.declared.failed.Failed.{Failed as Failure}
+use Rattle.mtrace_log.specs.declared.call.Call.{Call}
 use Rattle.std.proofs.lemmas.Grind.{flat_map-append}
 use Rattle.std.proofs.lemmas.Bool.Decides.{nat_tests}
 use Rattle.std.proofs.lemmas.List.{length-reverse}
@@ -254,3 +257,8 @@ ends_at settings replay end has_diagnostics status reader_old reader_new writer_
 pub replays_by : (settings : Settings) (status : Status) (replay : Replayed) (reader_old reader_new : ReaderState) (writer_old writer_new : WriterState)
     → EndsAt settings status replay reader_old reader_new writer_old writer_new → HoldsAtEnd settings status replay.content reader_old reader_new writer_old writer_new
 replays_by settings status replay reader_old reader_new writer_old writer_new ends = record { reports = ends.reports; content_is = ends.stands.content_is }
+
+-- a writer that took pieces, and was then asked to flush
+pub flush_asked : (result : Result (Unit {0}) Failure) (old middle new : List Call) → HasTaken old middle → new ≡ flushed result ∷ middle → FlushWasAsked old new
+flush_asked (Ok done) old middle new took told = inl (record { middle = middle; moved = took; then = told })
+flush_asked (Err failure) old middle new took told = inr (record { middle = middle; moved = took; then = told })

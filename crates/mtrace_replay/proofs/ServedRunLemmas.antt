@@ -16,10 +16,14 @@ use Rattle.mtrace_replay.specs.declared.no_heap.report.LedgerReport.{LedgerRepor
 use Rattle.mtrace_replay.specs.declared.no_heap.report.LedgerReport.TheVariants as report
 use Rattle.mtrace_replay.specs.declared.no_heap.prepared.Prepared.{Prepared}
 use Rattle.mtrace_replay.specs.declared.no_heap.prepared.Prepared.TheVariants as prepared
-use Rattle.mtrace_replay.specs.Prepared.{IsOf, prepared_text}
+use Rattle.mtrace_replay.specs.Prepared.{IsOf, HasNamed, prepared_text}
+use Rattle.mtrace_replay.specs.Entry.{Entry}
+use Rattle.mtrace_replay.specs.Sites.{Site, AreSites}
+use Rattle.mtrace_replay.specs.Totals.{bytes_in, first_moments}
+use Rattle.mtrace_replay.proofs.TotalsLemmas.{measure_is_one}
 use Rattle.mtrace_replay.specs.Moment.{ReadLine, Given, Moment, half}
 use Rattle.mtrace_replay.specs.History.{held, notes, pending, entries_of}
-use Rattle.mtrace_replay.specs.Texts.{diagnostics_text, leaks_report, clean_or_found, total_size}
+use Rattle.mtrace_replay.specs.Texts.{diagnostics_text, leaks_report, both_sections, clean_or_found, total_size}
 use Rattle.mtrace_replay.specs.Run.{has_some}
 use Rattle.mtrace_replay.specs.Replaying.{IsFollowed}
 use Rattle.mtrace_replay.specs.Served.{unplaced, served_moment, served_moments, served_history, added_served, Standing, IsServed, totals_of}
@@ -115,12 +119,36 @@ module _ (replay : Standing) (lines : List ReadLine) (stands : IsServed replay (
     peak = stands.peak;
   }
 
+  -- what was held at the peak
+  abbrev peak_all : List Given
+  peak_all = stands.at_peak.blocks.all
+
+  peak_bytes_are : replay.peak_bytes ≡ total_size (entries_of peak_all)
+  peak_bytes_are =
+      measure_is_one bytes_in (first_moments replay.peak_line (served_history lines)) replay.peak_bytes (bytes_in peak_all) stands.peak.reached
+      (record { all = peak_all; held = stands.at_peak.blocks.held; measured = refl })
+
+  sections_are : (peak end : List Site) → both_sections replay.peak_line replay.peak_blocks replay.peak_bytes peak (length replay.all) (total_size replay.all) end
+      ≡ both_sections replay.peak_line (length peak_all) (total_size (entries_of peak_all)) peak (length given_of) (total_size (entries_of given_of)) end
+  sections_are peak end =
+      ap (λ n. both_sections replay.peak_line n replay.peak_bytes peak (length replay.all) (total_size replay.all) end) stands.at_peak.blocks.measured
+      ∙ ap (λ n. both_sections replay.peak_line (length peak_all) n peak (length replay.all) (total_size replay.all) end) peak_bytes_are
+      ∙ ap (λ n. both_sections replay.peak_line (length peak_all) (total_size (entries_of peak_all)) peak n (total_size replay.all) end) (sym (length-map replay.all unplaced))
+      ∙ ap (λ (all : List Entry). both_sections replay.peak_line (length peak_all) (total_size (entries_of peak_all)) peak (length given_of) (total_size all) end) (sym (entries_unplaced replay.all))
+
   -- the text of a report for which memory was taken
-  pub prepared_tells : (report : LedgerReport) (prepared : Prepared) → IsOf report prepared → TellsServed report lines (prepared_text replay prepared)
-  prepared_tells report.Held (prepared.Held addresses) is = record { all = given_of; held = stands.held; text_is = ap leaks_report (sym (entries_unplaced replay.all)) }
-  prepared_tells report.Sums prepared.Sums is = record { totals = totals_of replay; summed = summed; text_is = refl }
-  prepared_tells report.Nothing prepared.Nothing is = refl
-  prepared_tells report prepared is = absurd is
+  pub prepared_tells : (report : LedgerReport) (prepared : Prepared) → IsOf report prepared → HasNamed replay prepared → TellsServed report lines (prepared_text replay prepared)
+  prepared_tells report.Held (prepared.Held addresses) is named = record { all = given_of; held = stands.held; text_is = ap leaks_report (sym (entries_unplaced replay.all)) }
+  prepared_tells report.Sums prepared.Sums is named = record { totals = totals_of replay; summed = summed; text_is = refl }
+  prepared_tells report.Sites (prepared.Sites peak end) is named = record {
+    totals = totals_of replay;
+    summed = summed;
+    at_peak = record { all = peak_all; held = stands.at_peak.blocks.held; sites = peak.items; are = named.0 (entries_of peak_all) (stands.at_peak.sites peak_all stands.at_peak.blocks.held) };
+    at_end = record { all = given_of; held = stands.held; sites = end.items; are = subst (λ (all : List Entry). AreSites all end.items) (sym (entries_unplaced replay.all)) named.1 };
+    text_is = sections_are peak.items end.items;
+  }
+  prepared_tells report.Nothing prepared.Nothing is named = refl
+  prepared_tells report prepared is named = absurd is
 
 -- the writer failed at a line's diagnostics
 pub following_write : (report : LedgerReport) (old new : Progress) (replay_old replay_new : Standing) (had_diagnostics : Bool) (start before after : ReaderState) (writer_start writer_old writer_new : WriterState) (line : Line)
@@ -165,7 +193,7 @@ following_fault reads old new replay has_diagnostics start reader_old reader_new
 }
 
 module _ (report : LedgerReport) (replay : Standing) (has_diagnostics : Bool) (reader_old reader_new : ReaderState) (writer_old writer_middle writer_new : WriterState)
-    (done : HasServed replay has_diagnostics reader_old reader_new writer_old writer_middle) (prepared : Prepared) (is_of : IsOf report prepared) where
+    (done : HasServed replay has_diagnostics reader_old reader_new writer_old writer_middle) (prepared : Prepared) (is_of : IsOf report prepared) (named : HasNamed replay prepared) where
   abbrev its_text : List ℕ
   its_text = prepared_text replay prepared
 
@@ -177,7 +205,7 @@ module _ (report : LedgerReport) (replay : Standing) (has_diagnostics : Bool) (r
     begun = inr (record {
       read = subst (λ (after : Bytes). HasReadAll reader_old.left after done.lines) (sym (prepend_nothing reader_new.left)) done.read;
       text = its_text;
-      tells = prepared_tells replay done.lines done.stands report prepared is_of;
+      tells = prepared_tells replay done.lines done.stands report prepared is_of named;
       begun = subst (λ (text : List ℕ). Begins writer_old writer_new text) (sym (whole_is done.lines its_text))
           (Begins-after writer_old writer_middle writer_new (served_notes done.lines) (last_text done.lines its_text) done.wrote
           (subst (λ (text : List ℕ). Begins writer_middle writer_new text) (end_is replay done.lines done.stands its_text) begins));
@@ -194,7 +222,7 @@ module _ (report : LedgerReport) (replay : Standing) (has_diagnostics : Bool) (r
         lines = done.lines;
         read = done.read;
         text = its_text;
-        tells = prepared_tells replay done.lines done.stands report prepared is_of;
+        tells = prepared_tells replay done.lines done.stands report prepared is_of named;
         wrote = subst (λ (text : List ℕ). Wrote writer_old writer_new text) (sym (whole_is done.lines its_text))
             (Wrote-append writer_old writer_middle writer_new (served_notes done.lines) (last_text done.lines its_text) done.wrote
             (subst (λ (text : List ℕ). Wrote writer_middle writer_new text) (end_is replay done.lines done.stands its_text) wrote));
@@ -209,13 +237,13 @@ module _ (report : LedgerReport) (replay : Standing) (has_diagnostics : Bool) (r
 
 -- a run without a report has ended, with this replay
 pub served_nothing : (replay : Standing) (has_diagnostics : Bool) (reader_old reader_new : ReaderState) (writer_old writer_middle writer_new : WriterState)
-    (done : HasServed replay has_diagnostics reader_old reader_new writer_old writer_middle) (prepared : Prepared) (is_of : IsOf report.Nothing prepared) (status : Status)
+    (done : HasServed replay has_diagnostics reader_old reader_new writer_old writer_middle) (prepared : Prepared) (is_of : IsOf report.Nothing prepared) (named : HasNamed replay prepared) (status : Status)
     → Wrote writer_middle writer_new (served_end replay (prepared_text replay prepared))
     → status ≡ (if has_diagnostics || (has_some (half replay.lines replay.pending) || has_some replay.all) then Found else Clean)
     → EndsServed status replay reader_old reader_new writer_old writer_new
 unfolding served_all
-served_nothing replay has_diagnostics reader_old reader_new writer_old writer_middle writer_new done prepared is_of status wrote is = record {
-  reports = served_all report.Nothing replay has_diagnostics reader_old reader_new writer_old writer_middle writer_new done prepared is_of status wrote is;
+served_nothing replay has_diagnostics reader_old reader_new writer_old writer_middle writer_new done prepared is_of named status wrote is = record {
+  reports = served_all report.Nothing replay has_diagnostics reader_old reader_new writer_old writer_middle writer_new done prepared is_of named status wrote is;
   stands = done.stands;
 }
 

@@ -13,7 +13,7 @@ use Rattle.std.proofs.lemmas.Slice.Eq.{slice_eq-Decides}
 use Rattle.mtrace_replay.specs.Entry.{Entry}
 use Rattle.mtrace_replay.specs.Sites.{Origin, origin_cmp, Site, weigh, blocks_at, bytes_at, AreTallied}
 use Rattle.mtrace_replay.specs.declared.no_heap.ledger.Kept.{Kept}
-use Rattle.mtrace_replay.specs.declared.no_heap.shares.Amount.{Amount}
+use Rattle.mtrace_replay.specs.declared.amount.Amount.{Amount}
 use Rattle.mtrace_replay.specs.Locations.{Extends, location_of, HasLocation}
 use Rattle.mtrace_replay.specs.Shares.{ByLocation, nothing, now_at, origins, with_site, sites_by, sites_of}
 use Rattle.mtrace_replay.specs.Ledger.{entry_of, put_in_order, in_order, slot_of, in_slot, AreShared}

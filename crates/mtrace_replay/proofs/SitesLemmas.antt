@@ -7,15 +7,14 @@ use Rattle.mtrace_replay.specs.Moment.{ReadLine, Given}
 use Rattle.mtrace_replay.specs.Replay.{Replayed, StandsFor, entries}
 use Rattle.mtrace_log.specs.Shown.{Bytes}
 use Rattle.mtrace_replay.specs.Sites.{Site, AreSites}
-use Rattle.mtrace_replay.specs.Texts.{total_size, section, peak_words, end_words, refused_line}
+use Rattle.mtrace_replay.specs.Texts.{total_size, both_sections, refused_line}
 use Rattle.mtrace_replay.specs.Again.{HasReplayedFirst}
 use Rattle.mtrace_replay.specs.RunSites.{TellsSites}
 
 -- both sections, of two replays and their sites
 abbrev pub sites_text : (at_peak : Replayed) (peak_sites : List Site) (at_end : Replayed) (end_sites : List Site) → List ℕ
 sites_text at_peak peak_sites at_end end_sites =
-    section (peak_words at_end.totals.peak_line) (length at_peak.given) (total_size (entries at_peak)) peak_sites
-    ++ section end_words (length at_end.given) (total_size (entries at_end)) end_sites
+    both_sections at_end.totals.peak_line (length at_peak.given) (total_size (entries at_peak)) peak_sites (length at_end.given) (total_size (entries at_end)) end_sites
     ++ refused_line at_end.totals.refused
 
 pub tells_sites : (settings : Settings) (lines : List ReadLine) (at_peak at_end : Replayed) (peak_sites end_sites : List Site) (whole left : Bytes)
@@ -39,7 +38,7 @@ many replay blocks is = is ∙ length-map replay.given (λ (given : Given). give
 pub sites_text-is : (at_peak : Replayed) (peak_sites : List Site) (at_end : Replayed) (end_sites : List Site) (totals : Totals) (peak_blocks peak_bytes end_blocks end_bytes : ℕ)
     → totals ≡ at_end.totals → peak_blocks ≡ length (entries at_peak) → peak_bytes ≡ total_size (entries at_peak)
     → end_blocks ≡ length (entries at_end) → end_bytes ≡ total_size (entries at_end)
-    → section (peak_words totals.peak_line) peak_blocks peak_bytes peak_sites ++ section end_words end_blocks end_bytes end_sites ++ refused_line totals.refused
+    → both_sections totals.peak_line peak_blocks peak_bytes peak_sites end_blocks end_bytes end_sites ++ refused_line totals.refused
     ≡ sites_text at_peak peak_sites at_end end_sites
 sites_text-is at_peak peak_sites at_end end_sites totals peak_blocks peak_bytes end_blocks end_bytes totals_are a b c d =
     rw (totals_are, many at_peak peak_blocks a, b, many at_end end_blocks c, d) refl

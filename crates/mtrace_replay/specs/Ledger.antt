@@ -4,7 +4,9 @@ use Rattle.std.specs.List.{All, IsDistinct, sum_by}
 use Rattle.std.specs.Map.{keys_of, values_of}
 use Rattle.mtrace_replay.specs.Entry.{Entry}
 use Rattle.mtrace_replay.specs.Locations.{location_of, HasLocation}
-use Rattle.mtrace_replay.specs.Sites.{Site}
+use Rattle.mtrace_replay.specs.Sites.{Site, AreTallied}
+use Rattle.mtrace_replay.specs.declared.no_heap.shares.When.{When}
+use Rattle.mtrace_replay.specs.declared.no_heap.shares.When.TheVariants.{Peak, End}
 use Rattle.mtrace_replay.specs.Shares.{ByLocation, nothing, amount_less, now_at, marked_at, Changes}
 use Rattle.mtrace_replay.specs.declared.no_heap.ledger.Kept.{Kept}
 
@@ -74,3 +76,8 @@ pub record LedgerState : Type 0 where
 pub record KeepsPeak (old new : LedgerState) : Type 0 where
   pub at_peak : new.at_peak ≡ old.at_peak
   pub mark : new.mark ≡ old.mark
+
+-- the entries that are held, or some that were held at the mark
+abbrev pub AreEntries : When → List Entry → LedgerState → Type 0
+AreEntries Peak entries state = AreTallied entries state.at_peak
+AreEntries End entries state = entries ≡ state.all

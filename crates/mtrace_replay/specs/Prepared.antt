@@ -1,26 +1,34 @@
 -- A report of a log without a heap, for which all memory was taken.
-use Rattle.std.specs.Prelude.{◌≡◌, ℕ, List, [], map, ⊤}
+use Rattle.std.specs.Prelude.{◌≡◌, ℕ, List, [], length, map, ⊤}
 use Rattle.mtrace_replay.specs.declared.no_heap.report.LedgerReport.{LedgerReport}
 use Rattle.mtrace_replay.specs.declared.no_heap.report.LedgerReport.TheVariants as report
 use Rattle.mtrace_replay.specs.declared.no_heap.prepared.Prepared.{Prepared}
 use Rattle.mtrace_replay.specs.declared.no_heap.prepared.Prepared.TheVariants as prepared
-use Rattle.mtrace_replay.specs.Texts.{leaks_report, ledger_peak_report}
+use Rattle.mtrace_replay.specs.Texts.{total_size, leaks_report, ledger_peak_report, both_sections}
+use Rattle.mtrace_replay.specs.Entry.{Entry}
+use Rattle.mtrace_replay.specs.Sites.{AreSites, AreTallied}
 use Rattle.mtrace_replay.specs.Served.{Standing, totals_of}
 
 -- it is of that report
 abbrev pub IsOf : LedgerReport → Prepared → Type 0
 IsOf report.Held (prepared.Held addresses) = ⊤
 IsOf report.Sums prepared.Sums = ⊤
+IsOf report.Sites (prepared.Sites peak end) = ⊤
 IsOf report.Nothing prepared.Nothing = ⊤
 IsOf report prepared = ⊥
 
--- it has what the report names of this replay: the addresses that are held, in order
+-- it has what the report names of this replay: the addresses that are held, in order, or the sites of what was held at the peak
+-- and of what is held
 abbrev pub HasNamed : Standing → Prepared → Type 0
 HasNamed replay (prepared.Held addresses) = addresses.items ≡ map (λ entry. entry.addr) replay.all
+HasNamed replay (prepared.Sites peak end) =
+    ((entries : List Entry) → AreTallied entries replay.at_peak → AreSites entries peak.items) × AreSites replay.all end.items
 HasNamed replay prepared = ⊤
 
 -- its text
 abbrev pub prepared_text : Standing → Prepared → List ℕ
 prepared_text replay (prepared.Held addresses) = leaks_report replay.all
 prepared_text replay prepared.Sums = ledger_peak_report (totals_of replay)
+prepared_text replay (prepared.Sites peak end) =
+    both_sections replay.peak_line replay.peak_blocks replay.peak_bytes peak.items (length replay.all) (total_size replay.all) end.items
 prepared_text replay prepared.Nothing = []

@@ -11,13 +11,14 @@ use Rattle.mtrace_replay.specs.declared.status.RunFault.{RunFault}
 use Rattle.mtrace_replay.specs.declared.status.RunFault.TheVariants.{Read, Write, OutOfMemory}
 use Rattle.mtrace_replay.specs.declared.no_heap.replay.LedgerTotals.{LedgerTotals}
 use Rattle.mtrace_replay.specs.declared.no_heap.report.LedgerReport.{LedgerReport}
-use Rattle.mtrace_replay.specs.declared.no_heap.report.LedgerReport.TheVariants.{Held, Sums, Nothing}
+use Rattle.mtrace_replay.specs.declared.no_heap.report.LedgerReport.TheVariants.{Held, Sums, Sites, Nothing}
 use Rattle.mtrace_replay.specs.declared.no_heap.run.EndedLedger.{EndedLedger}
 use Rattle.mtrace_replay.specs.declared.no_heap.run.Stop.{Stop}
 use Rattle.mtrace_replay.specs.declared.no_heap.run.Stop.TheVariants.{Reader, Writer, Memory}
 use Rattle.mtrace_replay.specs.Moment.{ReadLine, Given, Moment, half}
 use Rattle.mtrace_replay.specs.History.{notes, AreHeld, entries_of}
-use Rattle.mtrace_replay.specs.Totals.{is_served, Measures, IsPeak, bytes_in, blocks_in}
+use Rattle.mtrace_replay.specs.Totals.{is_served, first_moments, Measures, IsPeak, bytes_in, blocks_in}
+use Rattle.mtrace_replay.specs.RunSites.{HeldSites, sections_of}
 use Rattle.mtrace_replay.specs.Texts.{diagnostics_text, leaks_report, ledger_peak_report, clean_or_found}
 use Rattle.mtrace_replay.specs.Served.{served_history, served_diagnostics, added_served, Standing, IsServed}
 use Rattle.mtrace_replay.specs.Run.{with_unused, FailedInPiece, IsPastLastNumber, has_some}
@@ -46,10 +47,19 @@ pub record TellsSums (lines : List ReadLine) (text : List ℕ) : Type 0 where
   pub summed : AreServedTotals (served_history lines) totals
   pub text_is : text ≡ ledger_peak_report totals
 
+-- the text of who holds the memory: at the peak and at the end
+pub record TellsServedSites (lines : List ReadLine) (text : List ℕ) : Type 0 where
+  pub totals : LedgerTotals
+  pub summed : AreServedTotals (served_history lines) totals
+  pub at_peak : HeldSites (first_moments totals.peak_line (served_history lines))
+  pub at_end : HeldSites (served_history lines)
+  pub text_is : text ≡ sections_of totals.peak_line at_peak at_end
+
 -- the text of a report of these lines
 abbrev pub TellsServed : LedgerReport → (lines : List ReadLine) (text : List ℕ) → Type 0
 TellsServed Held lines text = TellsHeld lines text
 TellsServed Sums lines text = TellsSums lines text
+TellsServed Sites lines text = TellsServedSites lines text
 TellsServed Nothing lines text = text ≡ []
 
 -- all diagnostics of the lines, and then a text

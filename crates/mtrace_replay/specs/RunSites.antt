@@ -8,18 +8,18 @@ use Rattle.mtrace_replay.specs.declared.status.RunFault.{RunFault}
 use Rattle.mtrace_replay.specs.declared.totals.Totals.{Totals}
 use Rattle.mtrace_replay.specs.Started.{started}
 use Rattle.mtrace_replay.specs.Totals.{AreTotals}
-use Rattle.mtrace_replay.specs.Moment.{ReadLine, Given}
+use Rattle.mtrace_replay.specs.Moment.{ReadLine, Given, Moment}
 use Rattle.mtrace_replay.specs.History.{history, AreHeld, entries_of}
 use Rattle.mtrace_replay.specs.Sites.{Site, AreSites}
-use Rattle.mtrace_replay.specs.declared.sites.Sum.{Sum}
+use Rattle.mtrace_replay.specs.declared.amount.Amount.{Amount}
 use Rattle.mtrace_replay.specs.Entry.{Entry}
 use Rattle.mtrace_replay.specs.Gather.{Grouped}
 use Rattle.mtrace_replay.specs.Replay.{Replayed, StandsFor}
-use Rattle.mtrace_replay.specs.Texts.{total_size, section, peak_words, end_words, refused_line}
+use Rattle.mtrace_replay.specs.Texts.{total_size, both_sections, refused_line}
 use Rattle.mtrace_replay.specs.Again.{HasReadFirst, begun_again, FailsAgain, Follows, RunsAgain}
 
 -- how many entries there are, of how many bytes, and their sites
-pub record Groups (entries : List Entry) (sum : Sum) (grouped : Grouped) : Type 0 where
+pub record Groups (entries : List Entry) (sum : Amount) (grouped : Grouped) : Type 0 where
   pub blocks : sum.blocks ≡ length entries
   pub bytes : sum.bytes ≡ total_size entries
   pub sites : AreSites entries grouped.sites
@@ -32,16 +32,17 @@ pub record HasMemory (settings : Settings) (start : Replayed) (peak end : ℕ) :
   pub peak_room : settings.records ≤ peak
   pub end_room : settings.records ≤ end
 
--- what lines leave held, and its sites
-pub record HeldSites (settings : Settings) (lines : List ReadLine) : Type 0 where
+-- what moments leave held, and its sites
+pub record HeldSites (past : List Moment) : Type 0 where
   pub all : List Given
-  pub held : AreHeld all (history settings lines)
+  pub held : AreHeld all past
   pub sites : List Site
   pub are : AreSites (entries_of all) sites
 
--- a section: of what lines leave held
-abbrev pub section_of : {settings : Settings} {lines : List ReadLine} → List ℕ → HeldSites settings lines → List ℕ
-section_of words held = section words (length held.all) (total_size (entries_of held.all)) held.sites
+-- both sections: of what moments left held at the peak, behind this line, and of what they leave held at the end
+abbrev pub sections_of : {at_peak at_end : List Moment} → ℕ → HeldSites at_peak → HeldSites at_end → List ℕ
+sections_of line peak end =
+    both_sections line (length peak.all) (total_size (entries_of peak.all)) peak.sites (length end.all) (total_size (entries_of end.all)) end.sites
 
 -- The text of who holds the memory of a log. It is first of the lines up to the peak, which are read again from the
 -- first byte on. Then it is of all lines, and of how many were refused, where some were.
@@ -50,9 +51,9 @@ pub record TellsSites (settings : Settings) (lines : List ReadLine) (whole left 
   pub summed : AreTotals (started settings) (history settings lines) totals
   pub first : List ReadLine
   pub again : HasReadFirst totals.peak_line whole left first
-  pub at_peak : HeldSites settings first
-  pub at_end : HeldSites settings lines
-  pub text_is : text ≡ section_of (peak_words totals.peak_line) at_peak ++ section_of end_words at_end ++ refused_line totals.refused
+  pub at_peak : HeldSites (history settings first)
+  pub at_end : HeldSites (history settings lines)
+  pub text_is : text ≡ sections_of totals.peak_line at_peak at_end ++ refused_line totals.refused
 
 -- the reader failed in the second reading, or has fewer lines then than the peak's number
 abbrev pub FailsAgainAtPeak : (settings : Settings) (lines : List ReadLine) (reader_old reader_new : ReaderState) → Type 0

@@ -1,6 +1,6 @@
 -- What each location holds, by its slot.
 use Rattle.std.specs.Prelude.{◌≡◌, ℕ, suc, ◌+◌, ◌-◌, ◌==◌, List, [], ◌∷◌, length, map, None, Some, slice_index_or, if◌then◌else◌}
-use Rattle.mtrace_replay.specs.declared.no_heap.shares.Amount.{Amount}
+use Rattle.mtrace_replay.specs.declared.amount.Amount.{Amount}
 use Rattle.mtrace_replay.specs.declared.no_heap.shares.Share.{Share}
 use Rattle.mtrace_replay.specs.declared.no_heap.shares.When.{When}
 use Rattle.mtrace_replay.specs.declared.no_heap.shares.When.TheVariants.{Peak, End}

@@ -145,7 +145,7 @@ walk_report content = flat_map pool_text content.pools
 
 -- `B bytes in E blocks at LOCATION`, one line
 abbrev pub site_text : Site → List ℕ
-site_text site = pair_line [] site.bytes (codes " bytes in ") site.blocks (codes " blocks" ++ at_text site.at)
+site_text site = decimal site.bytes ++ codes " bytes in " ++ decimal site.blocks ++ codes " blocks" ++ at_text site.at ++ newline ∷ []
 
 -- words, how many blocks are held and their bytes, one line, and then a line for each site
 abbrev pub section : List ℕ → (blocks bytes : ℕ) → List Site → List ℕ
@@ -158,6 +158,11 @@ peak_words line = codes "Held at the peak, line " ++ decimal line
 -- the words above the sites at the end
 abbrev pub end_words : List ℕ
 end_words = codes "Held at the end"
+
+-- what is held at the peak and what is held at the end, each by its sites
+abbrev pub both_sections : (peak_line peak_blocks peak_bytes : ℕ) → List Site → (end_blocks end_bytes : ℕ) → List Site → List ℕ
+both_sections peak_line peak_blocks peak_bytes peak_sites end_blocks end_bytes end_sites =
+    section (peak_words peak_line) peak_blocks peak_bytes peak_sites ++ section end_words end_blocks end_bytes end_sites
 
 -- a number between its words, one line
 abbrev pub count_line : List ℕ → ℕ → List ℕ → List ℕ

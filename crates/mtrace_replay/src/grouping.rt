@@ -8,7 +8,7 @@ ghost use Rattle.mtrace_replay.specs.Texts.{total_size};
 
 use crate::entry::Entry;
 use crate::index::Entries;
-use crate::site::{Site, compare_locations};
+use crate::site::{Site, compare_locations, location_bytes};
 use std::alloc::{AllocError, Global};
 use std::marker::Model;
 
@@ -16,11 +16,13 @@ use std::marker::Model;
 fn sort_entries(entries: &mut Vec<&Entry>)
     ensures { Sorts lent_origin origin_cmp entries.old entries.new }
 {
-    entries.sort_unstable_by(|a, b| compare_locations(a.at.as_ref(), b.at.as_ref()));
+    entries.sort_unstable_by(|a, b| {
+        compare_locations(location_bytes(&a.at), location_bytes(&b.at))
+    });
 }
 
 /// Sorts sites into their order.
-fn sort_sites(sites: &mut Vec<Site<'_>>)
+pub(crate) fn sort_sites(sites: &mut Vec<Site<'_>>)
     ensures { Sorts (λ site. site) site_cmp sites.old sites.new }
 {
     sites.sort_unstable_by(|a, b| a.compare(b));

@@ -3,6 +3,7 @@
 #![tactic(auto)]
 
 mod again;
+mod amount;
 mod arrange;
 mod asked;
 mod diagnostic;
@@ -18,6 +19,7 @@ mod key;
 mod keys;
 pub mod laws;
 mod line_text;
+mod location_text;
 mod no_heap;
 mod point;
 mod replay;
@@ -25,6 +27,7 @@ mod report;
 mod run;
 mod save;
 mod search;
+mod sections;
 mod settings;
 mod site;
 mod sites;

@@ -5,12 +5,12 @@ ghost use Rattle.std.specs.Option.{option_copied};
 ghost use Rattle.arrayvec.specs.ArrayVec.{array_vec_len};
 ghost use Rattle.mtrace_log.specs.Address.{address_text};
 ghost use Rattle.mtrace_replay.specs.Appends.{Appends, IsShort};
-ghost use Rattle.mtrace_replay.specs.Texts.{count_line, refused_line, refusal_text, kind_text, diagnostic_text, at_text, entry_text, number_line, pair_line, spread_text, greatest_line, peak_lines, peak_words, site_text, use_text, row_text, column, point_text};
+ghost use Rattle.mtrace_replay.specs.Texts.{count_line, refused_line, refusal_text, kind_text, diagnostic_text, at_text, entry_text, number_line, pair_line, spread_text, greatest_line, peak_lines, peak_words, use_text, row_text, column, point_text};
 
+use crate::amount::Amount;
 use crate::diagnostic::{Diagnostic, Kind};
 use crate::entry::Entry;
 use crate::point::Point;
-use crate::site::Site;
 use crate::survey::Survey;
 use crate::totals::Totals;
 use arrayvec::ArrayVec;
@@ -192,7 +192,7 @@ pub(crate) fn push_wide_pair_line(
     push_bytes(text, b"\n");
 }
 
-/// The same of numbers of 64 bits.
+/// Appends such a line of two numbers of 64 bits.
 pub(crate) fn push_pair_line(
     text: &mut LineText,
     word: &[u8],
@@ -230,7 +230,7 @@ pub(crate) fn wide_total_text(blocks: u64, bytes: u128) -> LineText
     text
 }
 
-/// The same of bytes of 64 bits.
+/// The line of the totals, of a sum of 64 bits.
 pub(crate) fn total_text(blocks: u64, bytes: u64) -> LineText
     ensures { result.items ≡ pair_line (codes "Total: ") blocks (codes " blocks, ") bytes (codes " bytes.") }
 {
@@ -248,25 +248,18 @@ pub(crate) fn peak_words(line: u64) -> LineText
 }
 
 /// The end of a line behind those words: how many blocks were held, and how many bytes they have together.
-pub(crate) fn section_text(blocks: u64, bytes: u64) -> LineText
-    ensures { result.items ≡ pair_line (codes ": ") blocks (codes " blocks, ") bytes (codes " bytes.") }
+pub(crate) fn section_text(sum: Amount) -> LineText
+    ensures { result.items ≡ pair_line (codes ": ") sum.blocks (codes " blocks, ") sum.bytes (codes " bytes.") }
 {
     let mut text = ArrayVec::new();
-    push_pair_line(&mut text, b": ", blocks, b" blocks, ", bytes, b" bytes.");
-    text
-}
-
-/// The line of what one location holds.
-pub(crate) fn site_text(site: &Site<'_>) -> LineText
-    ensures { result.items ≡ site_text site.now }
-{
-    let mut text = ArrayVec::new();
-    push_number(&mut text, u128::from(site.bytes));
-    push_bytes(&mut text, b" bytes in ");
-    push_number(&mut text, u128::from(site.blocks));
-    push_bytes(&mut text, b" blocks");
-    push_location(&mut text, site.at);
-    push_bytes(&mut text, b"\n");
+    push_wide_pair_line(
+        &mut text,
+        b": ",
+        u128::from(sum.blocks),
+        b" blocks, ",
+        sum.bytes,
+        b" bytes.",
+    );
     text
 }
 

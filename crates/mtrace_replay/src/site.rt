@@ -13,11 +13,11 @@ use std::marker::Model;
 #[derive(Debug, Drop)]
 pub(crate) struct Site<'a> {
     /// The location, where there is one.
-    pub(crate) at: Option<&'a Location>,
+    pub(crate) at: Option<&'a [u8]>,
     /// How many blocks are held.
     pub(crate) blocks: u64,
     /// How many bytes were asked for them in sum.
-    pub(crate) bytes: u64,
+    pub(crate) bytes: u128,
 }
 
 impl<'a> Model for Site<'a> {
@@ -29,16 +29,26 @@ impl<'a> Model for Site<'a> {
     ghost view = { λ site. record { blocks = site.blocks; bytes = site.bytes; at = option_copied site.at } };
 }
 
+/// The bytes of a location, where there is one.
+pub(crate) fn location_bytes(at: &Option<Location>) -> Option<&[u8]>
+    ensures { option_copied result ≡ at.now }
+{
+    match at {
+        Some(location) => Some(location.bytes()),
+        None => None,
+    }
+}
+
 /// How two locations stand: none first, and then by their bytes.
 #[tactic(auto, unfolding(crate::specs::Sites::origin_cmp))]
-pub(crate) fn compare_locations(first: Option<&Location>, second: Option<&Location>) -> Ordering
+pub(crate) fn compare_locations(first: Option<&[u8]>, second: Option<&[u8]>) -> Ordering
     ensures { result ≡ origin_cmp (option_copied first.entry) (option_copied second.entry) }
 {
     match (first, second) {
         (None, None) => Ordering::Equal,
         (None, Some(_)) => Ordering::Less,
         (Some(_), None) => Ordering::Greater,
-        (Some(x), Some(y)) => x.bytes().cmp(y.bytes()),
+        (Some(x), Some(y)) => x.cmp(y),
     }
 }
 
@@ -48,9 +58,9 @@ impl<'a> Site<'a> {
         ensures { result ≡ record { blocks = 1; bytes = entry.now.size; at = entry.now.at } }
     {
         Site {
-            at: entry.at.as_ref(),
+            at: location_bytes(&entry.at),
             blocks: 1,
-            bytes: entry.size,
+            bytes: u128::from(entry.size),
         }
     }
 

@@ -1,21 +1,23 @@
 //! The run that tells who holds the memory of a log.
 
-ghost use Rattle.std.specs.Prelude.{◌≡◌, ◌++◌, ◌≤◌, ◌↔◌, List, [], reverse, flat_map, IfOk, IsErrOf, IsTrue};
+ghost use Rattle.std.specs.Prelude.{◌≡◌, ◌++◌, ◌≤◌, ◌↔◌, List, [], reverse, IfOk, IsErrOf, IsTrue};
 ghost use Rattle.mtrace_log.specs.Output.{Puts};
 ghost use Rattle.mtrace_replay.specs.declared.settings.Settings.{Settings};
 ghost use Rattle.mtrace_replay.specs.Settings.{are_bad};
 ghost use Rattle.mtrace_replay.specs.Moment.{ReadLine};
 ghost use Rattle.mtrace_replay.specs.Replay.{StandsFor, entries};
-ghost use Rattle.mtrace_replay.specs.Texts.{site_text, section, peak_words, end_words, refused_line};
+ghost use Rattle.mtrace_replay.specs.Texts.{both_sections, refused_line};
 ghost use Rattle.mtrace_replay.specs.RunSites.{Groups, HasMemory, SitesFollow, RunsSites};
 
 use crate::again::replay_again;
+use crate::amount::Amount;
 use crate::flush::flush_behind;
 use crate::grouping::Grouping;
-use crate::line_text::{peak_words, refused_text, section_text, site_text};
+use crate::line_text::refused_text;
 use crate::replay::{Replay, ReplayFault};
 use crate::report::Report;
 use crate::run::replay_log;
+use crate::sections::put_both;
 use crate::settings::Settings;
 use crate::site::Site;
 use crate::status::{RunFault, Status};
@@ -24,69 +26,39 @@ use mtrace_log::{Again, Failed, Sink, put_all};
 use std::alloc::Global;
 use tlsf_heap::{Heap, Heaped};
 
-/// Puts a line for each site.
-fn put_sites<W: Sink>(writer: &mut W, sites: &[Site<'_>]) -> Result<(), Failed>
-    ensures { Puts result (flat_map site_text sites.now) (W.shown writer.old) (W.shown writer.new) }
-{
-    for site in sites {
-        put_all(writer, site_text(site).as_slice())?;
-    }
-    Ok(())
-}
-
-/// How many blocks are held, and how many bytes they have together.
-#[derive(Clone, Copy)]
-struct Sum {
-    blocks: u64,
-    bytes: u64,
-}
-
 /// Groups what a replay holds.
-fn group_held<'a, H: Heaped>(replay: &'a Replay<H>, grouping: &mut Grouping<'a>) -> Sum
+fn group_held<'a, H: Heaped>(replay: &'a Replay<H>, grouping: &mut Grouping<'a>) -> Amount
     requires room { replay.now.content.records ≤ grouping.old.room }
     ensures { Groups (entries replay.now) result grouping.new }
 {
-    let sum = Sum {
+    let sum = Amount {
         blocks: replay.blocks(),
-        bytes: replay.bytes(),
+        bytes: u128::from(replay.bytes()),
     };
     grouping.group(replay.held());
     sum
 }
 
-/// Puts a section: words, how many blocks are held and their bytes, and a line for each site.
-fn put_section<W: Sink>(
-    writer: &mut W,
-    words: &[u8],
-    sum: Sum,
-    sites: &[Site<'_>],
-) -> Result<(), Failed>
-    ensures { Puts result (section words.now sum.blocks sum.bytes sites.now) (W.shown writer.old) (W.shown writer.new) }
-{
-    put_all(writer, words)?;
-    put_all(writer, section_text(sum.blocks, sum.bytes).as_slice())?;
-    put_sites(writer, sites)
-}
-
 /// Puts what is held at the peak and what is held at the end, each by its sites, and how many lines were refused.
-fn put_both<W: Sink>(
+fn put_told<W: Sink>(
     writer: &mut W,
     totals: Totals,
-    peak_sum: Sum,
+    peak_sum: Amount,
     peak_sites: &[Site<'_>],
-    end_sum: Sum,
+    end_sum: Amount,
     end_sites: &[Site<'_>],
 ) -> Result<(), Failed>
-    ensures { Puts result (section (peak_words totals.peak_line) peak_sum.blocks peak_sum.bytes peak_sites.now
-        ++ section end_words end_sum.blocks end_sum.bytes end_sites.now ++ refused_line totals.refused) (W.shown writer.old) (W.shown writer.new) }
+    ensures { Puts result (both_sections totals.peak_line peak_sum.blocks peak_sum.bytes peak_sites.now end_sum.blocks end_sum.bytes end_sites.now
+        ++ refused_line totals.refused) (W.shown writer.old) (W.shown writer.new) }
 {
-    put_section(
+    put_both(
         writer,
-        peak_words(totals.peak_line).as_slice(),
+        totals.peak_line,
         peak_sum,
         peak_sites,
+        end_sum,
+        end_sites,
     )?;
-    put_section(writer, b"Held at the end", end_sum, end_sites)?;
     put_all(writer, refused_text(totals.refused).as_slice())
 }
 
@@ -114,7 +86,7 @@ fn tell_sites<'a, R: Again, W: Sink>(
         return Err(RunFault::Read);
     };
     let peak_sum = group_held(at_peak, &mut peak);
-    let put = put_both(writer, totals, peak_sum, peak.sites(), end_sum, end.sites());
+    let put = put_told(writer, totals, peak_sum, peak.sites(), end_sum, end.sites());
     flush_behind(writer, put, status)
 }
 

@@ -1,8 +1,8 @@
 -- The runs, in the order of sites, are the sites.
-use Rattle.std.proofs.Common.{◌≡◌, ℕ, ◌+◌, ◌<◌, ◌≤◌, false, List, [], ◌∷◌, length, get_or, refl, sym, ◌∙◌, subst, arith, zero, suc}
+use Rattle.std.proofs.Common.{◌≡◌, ℕ, ◌+◌, ◌<◌, ◌≤◌, Bool, true, false, cond, List, [], ◌∷◌, length, get_or, refl, sym, ◌∙◌, subst, arith, zero, suc}
 use Rattle.std.specs.List.{AllByRecursion, sum_by, All, Any}
 use Rattle.std.specs.List.Sorted.{IsPermutation, IsSorted, IsStrictlySortedBy}
-use Rattle.std.specs.Ordering.{is_lt, nat_cmp, ordering_then, ordering_reverse}
+use Rattle.std.specs.Ordering.{is_eq, is_lt, nat_cmp, ordering_then, ordering_reverse}
 use Rattle.std.specs.Cmp.{IsTotalOrder, IsStrictWeakOrder}
 use Rattle.std.specs.FinMap.{nat_cmp-IsAntisymmetric}
 use Rattle.std.specs.declared.cmp.Ordering.{Ordering}
@@ -11,11 +11,11 @@ use Rattle.std.proofs.lemmas.Cmp.{nat_cmp_total, on_total, then_total, back_tota
 use Rattle.std.proofs.lemmas.List.Sums.{sum_by-cons}
 use Rattle.std.proofs.lemmas.List.Sorted.{ranks_by, sorted_far, sum_by-IsPermutation, All-permutation}
 use Rattle.std.proofs.lemmas.List.Elements.{All-from_recursion, recursion_from_All}
-use Rattle.mtrace_replay.specs.Sites.{Origin, origin_cmp, Site, weigh, blocks_at, bytes_at, site_cmp, IsSiteOf, AreSites}
-use Rattle.mtrace_replay.specs.Gather.{gather, Ordered, Rising}
+use Rattle.mtrace_replay.specs.Sites.{Origin, origin_cmp, Site, weigh, blocks_at, bytes_at, site_cmp, IsSiteOf, AreSites, AreTallied}
+use Rattle.mtrace_replay.specs.Gather.{gather, Ordered}
 use Rattle.mtrace_replay.specs.Entry.{Entry}
 use Rattle.mtrace_replay.proofs.SiteLemmas.Origins.{origin_total, origin_same, weigh-self, weighs_at}
-use Rattle.mtrace_replay.proofs.SiteLemmas.Gathered.{gather_total, gather_rising, gather_exact, rising_one}
+use Rattle.mtrace_replay.proofs.SiteLemmas.Gathered.{gather_total, gather_rising, gather_some, rising_one}
 
 pub site_total : IsTotalOrder site_cmp
 site_total =
@@ -87,21 +87,53 @@ at_least f [] k d lt = absurd (omega (arith, lt))
 at_least f (e ∷ es) zero d lt = omega (arith, sum_by-cons f e es)
 at_least f (e ∷ es) (suc k) d lt = omega (arith, sum_by-cons f e es, at_least f es k d (omega (arith, lt)))
 
-all_map : {X : Type 0} (P Q : X → Type 0) (xs : List X) → ((x : X) → P x → Q x) → All P xs → All Q xs
-all_map P Q xs h all k d lt = h (get_or xs k d) (all k d lt)
+-- what weighs nothing by one weighs nothing
+weigh-nothing : (p q : Origin) (n : ℕ) → weigh p q 1 ≡ 0 → weigh p q n ≡ 0
+weigh-nothing p q n none = by (is_eq (origin_cmp p q)) none
+  where
+    by : (b : Bool) → cond {A = ℕ} b 1 0 ≡ 0 → cond b n 0 ≡ 0
+    by true one = absurd (omega (arith, one))
+    by false one = refl
 
--- the sites, by any order of the entries that is sorted by origin, and of the runs
-pub sites_are : (entries sorted : List Entry) (sites : List Site) → IsPermutation entries sorted → Ordered sorted → IsPermutation (gather sorted) sites → IsSorted site_cmp sites → AreSites entries sites
-sites_are entries sorted sites moved order arranged up =
-    let runs = gather sorted in
-    let rise : Rising runs = gather_rising sorted order in
-    let blocks : (p : Origin) → blocks_at p sorted ≡ blocks_at p entries = λ p. sum_by-IsPermutation (λ e. weigh p e.at 1) entries sorted moved in
-    let bytes : (p : Origin) → bytes_at p sorted ≡ bytes_at p entries = λ p. sum_by-IsPermutation (λ e. weigh p e.at e.size) entries sorted moved in
-    let exact : All (IsSiteOf entries) runs = all_map (IsSiteOf sorted) (IsSiteOf entries) runs (λ s h. record { some = h.some; blocks = h.blocks ∙ blocks s.at; bytes = h.bytes ∙ bytes s.at })
-    (All-from_recursion (IsSiteOf sorted) runs (gather_exact sorted order)) in
-    let one : (p : Origin) → sum_by (λ t. weigh p t.at 1) sites ≤ 1 = λ p. omega (arith, sum_by-IsPermutation (λ t. weigh p t.at 1) runs sites arranged, rising_one runs rise p) in
-    let held : (p : Origin) → sum_by (λ t. weigh p t.at t.blocks) sites ≡ blocks_at p entries =
-    λ p. sum_by-IsPermutation (λ t. weigh p t.at t.blocks) runs sites arranged ∙ gather_total (λ s. s.blocks) (λ e. 1) (λ e. refl) (λ s e. refl) p sorted ∙ blocks p in
+all_nothing : (m : Site → ℕ) (p : Origin) (ss : List Site) → sum_by (λ t. weigh p t.at 1) ss ≡ 0 → sum_by (λ t. weigh p t.at (m t)) ss ≡ 0
+all_nothing m p [] none = refl
+all_nothing m p (s ∷ ss) none =
+    let whole = sum_by-cons (λ (t : Site). weigh p t.at 1) s ss in
+    omega (arith, sum_by-cons (λ (t : Site). weigh p t.at (m t)) s ss, weigh-nothing p s.at (m s) (omega (arith, whole, none)), all_nothing m p ss (omega (arith, whole, none)))
+
+-- where no origin has two sites, each has all that is at its origin
+own_one : (m : Site → ℕ) (ss : List Site) → ((p : Origin) → sum_by (λ t. weigh p t.at 1) ss ≤ 1) → AllByRecursion (λ s. sum_by (λ t. weigh s.at t.at (m t)) ss ≡ m s) ss
+own_one m [] one = tt
+own_one m (s ∷ ss) one = (head, tail ss (own_one m ss rest) (own_one (λ t. 1) ss rest))
+  where
+    rest : (p : Origin) → sum_by (λ t. weigh p t.at 1) ss ≤ 1
+    rest p = omega (arith, sum_by-cons (λ t. weigh p t.at 1) s ss, one p)
+
+    head : sum_by (λ t. weigh s.at t.at (m t)) (s ∷ ss) ≡ m s
+    head =
+        let nothing = all_nothing m s.at ss (omega (arith, sum_by-cons (λ t. weigh s.at t.at 1) s ss, weigh-self s.at 1, one s.at)) in
+        omega (arith, sum_by-cons (λ t. weigh s.at t.at (m t)) s ss, weigh-self s.at (m s), nothing)
+
+    tail : (us : List Site) → AllByRecursion (λ u. sum_by (λ t. weigh u.at t.at (m t)) ss ≡ m u) us → AllByRecursion (λ u. sum_by (λ t. weigh u.at t.at 1) ss ≡ 1) us
+        → AllByRecursion (λ u. sum_by (λ t. weigh u.at t.at (m t)) (s ∷ ss) ≡ m u) us
+    tail [] all ones = tt
+    tail (u ∷ us) (its, all) (single, ones) =
+        let nothing = weigh-nothing u.at s.at (m s) (omega (arith, sum_by-cons (λ t. weigh u.at t.at 1) s ss, single, one u.at)) in
+        (omega (arith, sum_by-cons (λ t. weigh u.at t.at (m t)) s ss, its, nothing), tail us all ones)
+
+exact_of : (entries : List Entry) (all ss : List Site) → AreTallied entries all → AllByRecursion (λ s. 0 < s.blocks) ss
+    → AllByRecursion (λ s. sum_by (λ t. weigh s.at t.at t.blocks) all ≡ s.blocks) ss → AllByRecursion (λ s. sum_by (λ t. weigh s.at t.at t.bytes) all ≡ s.bytes) ss → AllByRecursion (IsSiteOf entries) ss
+exact_of entries all [] tallied some a b = tt
+exact_of entries all (s ∷ ss) tallied (n, some) (x, a) (y, b) =
+    (record { some = n; blocks = sym x ∙ tallied.blocks s.at; bytes = sym y ∙ tallied.bytes s.at }, exact_of entries all ss tallied some a b)
+
+-- sites that count and sum the entries, none of them empty, are their sites when sorted
+pub are_sites : (entries : List Entry) (runs sites : List Site) → AreTallied entries runs → AllByRecursion (λ s. 0 < s.blocks) runs → IsPermutation runs sites → IsSorted site_cmp sites → AreSites entries sites
+are_sites entries runs sites tallied some arranged up =
+    let exact : All (IsSiteOf entries) runs = All-from_recursion (IsSiteOf entries) runs
+    (exact_of entries runs runs tallied some (own_one (λ s. s.blocks) runs tallied.one) (own_one (λ s. s.bytes) runs tallied.one)) in
+    let one : (p : Origin) → sum_by (λ t. weigh p t.at 1) sites ≤ 1 = λ p. omega (arith, sum_by-IsPermutation (λ t. weigh p t.at 1) runs sites arranged, tallied.one p) in
+    let held : (p : Origin) → sum_by (λ t. weigh p t.at t.blocks) sites ≡ blocks_at p entries = λ p. sum_by-IsPermutation (λ t. weigh p t.at t.blocks) runs sites arranged ∙ tallied.blocks p in
     record {
       order = strict sites up one;
       exact = All-permutation (IsSiteOf entries) runs sites arranged exact;
@@ -111,3 +143,12 @@ sites_are entries sorted sites moved order arranged up =
           any_map (λ s. 0 < weigh e.at s.at s.blocks) (λ s. s.at ≡ e.at) sites (λ s h. weighs_at e.at s.at s.blocks h)
           (found (λ s. weigh e.at s.at s.blocks) sites (omega (arith, held e.at, least)));
     }
+
+-- the sites, by any order of the entries that is sorted by origin, and of the runs
+pub sites_are : (entries sorted : List Entry) (sites : List Site) → IsPermutation entries sorted → Ordered sorted → IsPermutation (gather sorted) sites → IsSorted site_cmp sites → AreSites entries sites
+sites_are entries sorted sites moved order arranged up =
+    are_sites entries (gather sorted) sites (record {
+      one = rising_one (gather sorted) (gather_rising sorted order);
+      blocks = λ p. gather_total (λ s. s.blocks) (λ e. 1) (λ e. refl) (λ s e. refl) p sorted ∙ sum_by-IsPermutation (λ e. weigh p e.at 1) entries sorted moved;
+      bytes = λ p. gather_total (λ s. s.bytes) (λ e. e.size) (λ e. refl) (λ s e. refl) p sorted ∙ sum_by-IsPermutation (λ e. weigh p e.at e.size) entries sorted moved;
+    }) (gather_some sorted) arranged up

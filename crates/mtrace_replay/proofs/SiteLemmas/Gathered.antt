@@ -84,23 +84,10 @@ gather_rising [] order = tt
 gather_rising (e ∷ []) order = (tt, tt)
 gather_rising (e ∷ (f ∷ es)) order = rising_onto e (gather (f ∷ es)) (gather_rising (f ∷ es) order.1) (first_ok e f.at (gather (f ∷ es)) (first_at f (gather es)) order.0)
 
--- ---- each run is all that is at its origin
+-- ---- an origin below all runs has none
 none : (m : Site → ℕ) (p : Origin) (ss : List Site) → AllByRecursion (λ t. origin_cmp p t.at ≡ Less) ss → sum_by (λ t. weigh p t.at (m t)) ss ≡ 0
 none m p [] all = refl
 none m p (s ∷ ss) (here, there) = sum_by-cons (λ t. weigh p t.at (m t)) s ss ∙ (omega (arith, weigh-below p s.at (m s) here, none m p ss there))
-
-pub own_total : (m : Site → ℕ) (ss : List Site) → Rising ss → AllByRecursion (λ s. sum_by (λ t. weigh s.at t.at (m t)) ss ≡ m s) ss
-own_total m [] up = tt
-own_total m (s ∷ ss) (below, up) = (head, tail ss below (own_total m ss up))
-  where
-    head : sum_by (λ t. weigh s.at t.at (m t)) (s ∷ ss) ≡ m s
-    head = omega (arith, sum_by-cons (λ t. weigh s.at t.at (m t)) s ss, weigh-self s.at (m s), none m s.at ss below)
-
-    tail : (us : List Site) → AllByRecursion (λ t. origin_cmp s.at t.at ≡ Less) us → AllByRecursion (λ u. sum_by (λ t. weigh u.at t.at (m t)) ss ≡ m u) us
-        → AllByRecursion (λ u. sum_by (λ t. weigh u.at t.at (m t)) (s ∷ ss) ≡ m u) us
-    tail [] less all = tt
-    tail (u ∷ us) (l, less) (h, all) =
-        (omega (arith, sum_by-cons (λ t. weigh u.at t.at (m t)) s ss, weigh-above u.at s.at (m s) l, h), tail us less all)
 
 -- no origin has two runs
 pub rising_one : (ss : List Site) → Rising ss → (p : Origin) → sum_by (λ t. weigh p t.at 1) ss ≤ 1
@@ -123,24 +110,9 @@ onto_some e (s ∷ ss) (here, there) = by_test (bool_cases (is_same s e))
     by_test (inl is) = subst (AllByRecursion (λ s. 0 < s.blocks)) (sym (onto-same e s ss is)) (omega arith, there)
     by_test (inr is) = subst (AllByRecursion (λ s. 0 < s.blocks)) (sym (onto-other e s ss is)) (omega arith, (here, there))
 
-gather_some : (es : List Entry) → AllByRecursion (λ s. 0 < s.blocks) (gather es)
+pub gather_some : (es : List Entry) → AllByRecursion (λ s. 0 < s.blocks) (gather es)
 gather_some [] = tt
 gather_some (e ∷ es) = onto_some e (gather es) (gather_some es)
-
--- so each run is a site of the entries
-exact_of : (es : List Entry) (all ss : List Site) → ((p : Origin) → sum_by (λ t. weigh p t.at t.blocks) all ≡ blocks_at p es) → ((p : Origin) → sum_by (λ t. weigh p t.at t.bytes) all ≡ bytes_at p es)
-    → AllByRecursion (λ s. 0 < s.blocks) ss → AllByRecursion (λ s. sum_by (λ t. weigh s.at t.at t.blocks) all ≡ s.blocks) ss → AllByRecursion (λ s. sum_by (λ t. weigh s.at t.at t.bytes) all ≡ s.bytes) ss
-    → AllByRecursion (IsSiteOf es) ss
-exact_of es all [] blocks bytes some a b = tt
-exact_of es all (s ∷ ss) blocks bytes (n, some) (x, a) (y, b) = (record { some = n; blocks = sym x ∙ blocks s.at; bytes = sym y ∙ bytes s.at }, exact_of es all ss blocks bytes some a b)
-
-pub gather_exact : (es : List Entry) → Ordered es → AllByRecursion (IsSiteOf es) (gather es)
-gather_exact es order =
-    let up : Rising (gather es) = gather_rising es order in
-    exact_of es (gather es) (gather es)
-    (λ p. gather_total (λ s. s.blocks) (λ e. 1) (λ e. refl) (λ s e. refl) p es)
-    (λ p. gather_total (λ s. s.bytes) (λ e. e.size) (λ e. refl) (λ s e. refl) p es)
-    (gather_some es) (own_total (λ s. s.blocks) (gather es) up) (own_total (λ s. s.bytes) (gather es) up)
 
 -- no run has more than all entries have
 onto_small : (e : Entry) (n b : ℕ) (ss : List Site) → AllByRecursion (λ s. (s.blocks ≤ n) × (s.bytes ≤ b)) ss → AllByRecursion (λ s. (s.blocks ≤ n + 1) × (s.bytes ≤ e.size + b)) (onto e ss)

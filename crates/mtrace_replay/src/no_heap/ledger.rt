@@ -1,17 +1,22 @@
 //! What is held, by address.
 
-ghost use Rattle.std.specs.Prelude.{◌≡◌, ◌<◌, ℕ, [], None, Some, IfOk, IfSome, OnOk, OnErr, is_some, length, if◌then◌else◌, ◌==◌};
+ghost use Rattle.std.specs.Prelude.{◌≡◌, ◌<◌, ℕ, List, [], reverse, None, Some, IfOk, IfSome, OnOk, OnErr, is_some, length, if◌then◌else◌, ◌==◌};
 ghost use Rattle.std.specs.Prelude.{map};
 ghost use Rattle.std.specs.List.Sorted.{IsStrictlyIncreasing, IsPermutation, IsSorted};
 ghost use Rattle.std.specs.Ordering.{nat_cmp};
 ghost use Rattle.std.specs.HashMap.{keys};
 ghost use Rattle.std.specs.Option.{option_copied, option_map};
 ghost use Rattle.mtrace_replay.specs.Texts.{total_size};
-ghost use Rattle.mtrace_replay.specs.Sites.{AreTallied};
-ghost use Rattle.mtrace_replay.specs.Ledger.{held_at, slot_of, IsCounted, Forgets, KeepsPeak};
+ghost use Rattle.mtrace_replay.specs.Entry.{Entry};
+ghost use Rattle.mtrace_replay.specs.Shares.{amount_at, with_site, sites_of};
+ghost use Rattle.mtrace_replay.specs.Sites.{AreTallied, AreSites};
+ghost use Rattle.mtrace_replay.specs.Ledger.{held_at, slot_of, IsCounted, Forgets, KeepsPeak, AreEntries};
 
 use super::locations::Locations;
-use super::shares::Shares;
+use super::shares::{Shares, When};
+use crate::amount::Amount;
+use crate::grouping::sort_sites;
+use crate::site::Site;
 use mtrace_log::Addr;
 use std::alloc::{AllocError, Global};
 use std::collections::HashMap;
@@ -95,6 +100,45 @@ fn forget(shares: &mut Shares, bytes: &mut u128, before: Option<Kept>)
     };
     shares.take(slot_of(kept.location), kept.size);
     *bytes -= u128::from(kept.size);
+}
+
+/// The site of a location, unless it has no block.
+fn push_site<'a>(
+    sites: &mut Vec<Site<'a>>,
+    at: Option<&'a [u8]>,
+    amount: Amount,
+) -> Result<(), AllocError>
+    ensures { OnOk result (reverse sites.new.items ≡ with_site (option_copied at.entry) amount (reverse sites.old.items)) }
+{
+    if amount.blocks == 0 {
+        return Ok(());
+    }
+    sites.push(Site {
+        at,
+        blocks: amount.blocks,
+        bytes: amount.bytes,
+    })?;
+    Ok(())
+}
+
+/// The sites of locations, from that of the last one on.
+fn gather_sites<'a>(
+    alloc: Global,
+    locations: &'a Locations,
+    shares: &Shares,
+    when: When,
+) -> Result<Vec<Site<'a>>, AllocError>
+    ensures { IfOk result (λ sites. reverse sites.items ≡ sites_of (amount_at when shares.now) locations.now) }
+{
+    let mut sites = Vec::new(alloc);
+    let mut left = locations.len();
+    while left > 0 {
+        let at = locations.get(left - 1);
+        push_site(&mut sites, at, shares.amount(left, when))?;
+        left -= 1;
+    }
+    push_site(&mut sites, None, shares.amount(0, when))?;
+    Ok(sites)
 }
 
 impl Ledger {
@@ -199,6 +243,20 @@ impl Ledger {
     {
         self.locations.keep_apart();
         self.shares.set_mark(line);
+    }
+
+    /// The sites of what is held, or of what was held at the mark, in their order.
+    ///
+    /// # Errors
+    ///
+    /// `AllocError` where memory is refused for them.
+    pub fn sites(&self, alloc: Global, when: When) -> Result<Vec<Site<'_>>, AllocError>
+        ensures { IfOk result (λ sites. (entries : List Entry) → AreEntries when entries self.now → AreSites entries sites.items) }
+    {
+        self.locations.keep_apart();
+        let mut sites = gather_sites(alloc, &self.locations, &self.shares, when)?;
+        sort_sites(&mut sites);
+        Ok(sites)
     }
 
     /// Says what each ledger keeps, and does nothing: the addresses rise.

@@ -1,6 +1,6 @@
 //! The locations of a log, each kept once.
 
-ghost use Rattle.std.specs.Prelude.{◌≡◌, [], Some, slice_get, IfOk, IfSome, nat_eq};
+ghost use Rattle.std.specs.Prelude.{◌≡◌, [], Some, slice_get, length, IfOk, nat_eq};
 ghost use Rattle.std.specs.List.{IsDistinct};
 ghost use Rattle.std.specs.Cmp.Lexicographic.{pointwise};
 ghost use Rattle.std.specs.Option.{option_copied};
@@ -84,11 +84,18 @@ impl Locations {
         let _count = self.seen.len();
     }
 
+    /// How many there are.
+    pub fn len(&self) -> usize
+        ensures { result ≡ length self.now }
+    {
+        self.seen.len()
+    }
+
     /// The location of this number.
-    pub fn get(&self, number: u32) -> Option<&[u8]>
+    pub fn get(&self, number: usize) -> Option<&[u8]>
         ensures { option_copied result ≡ slice_get self.now number }
     {
-        let bytes = self.seen.get_index(number as usize)?;
+        let bytes = self.seen.get_index(number)?;
         Some(bytes.as_slice())
     }
 
@@ -97,7 +104,7 @@ impl Locations {
         ensures { option_copied result ≡ location_of self.now location }
     {
         match location {
-            Some(number) => self.get(number),
+            Some(number) => self.get(number as usize),
             None => None,
         }
     }

@@ -5,15 +5,22 @@ ghost use Rattle.mtrace_replay.specs.Prepared.{IsOf, HasNamed};
 
 use super::replay::LedgerReplay;
 use super::report::LedgerReport;
+use super::shares::When;
+use crate::site::Site;
 use std::alloc::{AllocError, Global};
 
 /// A report for which all memory was taken, with what it names.
 #[derive(Drop)]
-pub enum Prepared {
+pub(crate) enum Prepared<'a> {
     // The addresses that are held, in order.
     Held(Vec<u64>),
     // The sums over the lines.
     Sums,
+    // The sites of what was held at the peak, and of what is held at the end.
+    Sites {
+        peak: Vec<Site<'a>>,
+        end: Vec<Site<'a>>,
+    },
     // No report.
     Nothing,
 }
@@ -23,11 +30,11 @@ pub enum Prepared {
 /// # Errors
 ///
 /// `AllocError` where memory is refused.
-pub(crate) fn prepare(
+pub(crate) fn prepare<'a>(
     alloc: Global,
-    replay: &LedgerReplay,
+    replay: &'a LedgerReplay,
     report: LedgerReport,
-) -> Result<Prepared, AllocError>
+) -> Result<Prepared<'a>, AllocError>
     ensures report { IfOk result (IsOf report) }
     ensures named { IfOk result (HasNamed replay.now) }
 {
@@ -37,6 +44,11 @@ pub(crate) fn prepare(
             Ok(Prepared::Held(addresses))
         }
         LedgerReport::Sums => Ok(Prepared::Sums),
+        LedgerReport::Sites => {
+            let peak = replay.ledger().sites(alloc, When::Peak)?;
+            let end = replay.ledger().sites(alloc, When::End)?;
+            Ok(Prepared::Sites { peak, end })
+        }
         LedgerReport::Nothing => Ok(Prepared::Nothing),
     }
 }

@@ -1,11 +1,13 @@
 //! The replay of a log without a heap.
 
-ghost use Rattle.std.specs.Prelude.{◌≡◌, ◌+◌, ◌<◌, []};
+ghost use Rattle.std.specs.Prelude.{◌≡◌, ◌+◌, ◌<◌, [], length};
+ghost use Rattle.mtrace_replay.specs.Texts.{total_size};
 ghost use Rattle.mtrace_replay.specs.Moment.{half};
 ghost use Rattle.mtrace_replay.specs.Served.{IsServed, FeedsLedger, RaisesPeak, totals_of};
 
 use super::ledger::Ledger;
 use super::line::outcome;
+use crate::amount::Amount;
 use crate::diagnostic::Note;
 use crate::findings::Findings;
 use crate::replay::{half_before, half_diagnostic, old_address, put_half};
@@ -142,6 +144,26 @@ impl LedgerReplay {
             live_blocks: self.ledger.len() as u64,
             peak_bytes: self.peak_bytes,
             peak_line: self.peak_line,
+        }
+    }
+
+    /// What was held at the peak.
+    pub(crate) fn peak_amount(&self) -> Amount
+        ensures { result ≡ record { blocks = self.now.peak_blocks; bytes = self.now.peak_bytes } }
+    {
+        Amount {
+            blocks: self.peak_blocks,
+            bytes: self.peak_bytes,
+        }
+    }
+
+    /// What is held now.
+    pub(crate) fn live_amount(&self) -> Amount
+        ensures { result ≡ record { blocks = length self.now.all; bytes = total_size self.now.all } }
+    {
+        Amount {
+            blocks: self.ledger.len() as u64,
+            bytes: self.ledger.bytes(),
         }
     }
 

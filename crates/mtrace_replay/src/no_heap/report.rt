@@ -12,10 +12,12 @@ ghost use Rattle.mtrace_replay.specs.Prepared.{HasNamed, prepared_text};
 use super::ledger::{Ledger, Seen};
 use super::prepared::Prepared;
 use super::replay::{LedgerReplay, LedgerTotals};
+use crate::location_text::put_location;
 use crate::line_text::{
     LineText, push_address, push_bytes, push_number, push_number_line, push_wide_pair_line,
     wide_total_text,
 };
+use crate::sections::put_both;
 use arrayvec::ArrayVec;
 use mtrace_log::{Addr, Failed, LONGEST_ADDRESS, Sink, put_all};
 
@@ -26,6 +28,8 @@ pub enum LedgerReport {
     Held,
     /// The sums over the lines, and the most that was held.
     Sums,
+    /// Who holds the memory, at the peak and at the end: a line for each location.
+    Sites,
     /// Nothing.
     Nothing,
 }
@@ -54,17 +58,6 @@ fn entry_front(address: u64, size: u64, line: u64) -> LineText
     text
 }
 
-/// Puts ` at ` and the location, where there is one.
-fn put_location<W: Sink>(writer: &mut W, at: Option<&[u8]>) -> Result<(), Failed>
-    ensures { Puts result (at_text (option_copied at.entry)) (W.shown writer.old) (W.shown writer.new) }
-{
-    let Some(bytes) = at else {
-        return Ok(());
-    };
-    put_all(writer, b" at ")?;
-    put_all(writer, bytes)
-}
-
 /// Puts the line of what is held under an address.
 fn put_entry<W: Sink>(writer: &mut W, address: u64, seen: &Seen<'_>) -> Result<(), Failed>
     ensures { Puts result (entry_text (record { addr = address; size = seen.now.size; line = seen.now.line; at = option_copied seen.now.at })) (W.shown writer.old) (W.shown writer.new) }
@@ -79,8 +72,8 @@ fn put_entry<W: Sink>(writer: &mut W, address: u64, seen: &Seen<'_>) -> Result<(
 
 /// Puts a line for each address that is held, in order of address.
 fn put_entries<W: Sink>(writer: &mut W, ledger: &Ledger, addresses: &[u64]) -> Result<(), Failed>
-    requires { addresses.now ≡ map (λ entry. entry.addr) ledger.now }
-    ensures { Puts result (flat_map entry_text ledger.now) (W.shown writer.old) (W.shown writer.new) }
+    requires { addresses.now ≡ map (λ entry. entry.addr) ledger.now.all }
+    ensures { Puts result (flat_map entry_text ledger.now.all) (W.shown writer.old) (W.shown writer.new) }
 {
     ledger.keeps_order();
     for address in addresses {
@@ -94,9 +87,9 @@ fn put_entries<W: Sink>(writer: &mut W, ledger: &Ledger, addresses: &[u64]) -> R
 
 /// Puts the report where something is held.
 fn put_held<W: Sink>(writer: &mut W, ledger: &Ledger, addresses: &[u64]) -> Result<(), Failed>
-    requires some { ledger.now ≢ [] }
-    requires addresses { addresses.now ≡ map (λ entry. entry.addr) ledger.now }
-    ensures { Puts result (leaks_report ledger.now) (W.shown writer.old) (W.shown writer.new) }
+    requires some { ledger.now.all ≢ [] }
+    requires addresses { addresses.now ≡ map (λ entry. entry.addr) ledger.now.all }
+    ensures { Puts result (leaks_report ledger.now.all) (W.shown writer.old) (W.shown writer.new) }
 {
     put_all(writer, b"Memory not freed:\n")?;
     put_entries(writer, ledger, addresses)?;
@@ -106,8 +99,8 @@ fn put_held<W: Sink>(writer: &mut W, ledger: &Ledger, addresses: &[u64]) -> Resu
 
 /// Puts the report of leaks.
 fn put_leaks<W: Sink>(writer: &mut W, ledger: &Ledger, addresses: &[u64]) -> Result<(), Failed>
-    requires addresses { addresses.now ≡ map (λ entry. entry.addr) ledger.now }
-    ensures { Puts result (leaks_report ledger.now) (W.shown writer.old) (W.shown writer.new) }
+    requires addresses { addresses.now ≡ map (λ entry. entry.addr) ledger.now.all }
+    ensures { Puts result (leaks_report ledger.now.all) (W.shown writer.old) (W.shown writer.new) }
 {
     if ledger.len() == 0 {
         put_all(writer, b"No memory leaks.\n")
@@ -151,7 +144,7 @@ fn sums_text(totals: LedgerTotals) -> LineText
 pub(crate) fn put_ledger_report<W: Sink>(
     writer: &mut W,
     replay: &LedgerReplay,
-    prepared: &Prepared,
+    prepared: &Prepared<'_>,
 ) -> Result<(), Failed>
     requires named { HasNamed replay.now prepared.now }
     ensures { Puts result (prepared_text replay.now prepared.now) (W.shown writer.old) (W.shown writer.new) }
@@ -159,6 +152,17 @@ pub(crate) fn put_ledger_report<W: Sink>(
     match prepared {
         Prepared::Held(addresses) => put_leaks(writer, replay.ledger(), addresses.as_slice()),
         Prepared::Sums => put_all(writer, sums_text(replay.totals()).as_slice()),
+        Prepared::Sites { peak, end } => {
+            let totals = replay.totals();
+            put_both(
+                writer,
+                totals.peak_line,
+                replay.peak_amount(),
+                peak.as_slice(),
+                replay.live_amount(),
+                end.as_slice(),
+            )
+        }
         Prepared::Nothing => Ok(()),
     }
 }

@@ -84,7 +84,7 @@ fn put_end<W: Sink>(
     writer: &mut W,
     replay: &LedgerReplay,
     diagnostics: &Note,
-    prepared: &Prepared,
+    prepared: &Prepared<'_>,
 ) -> Result<(), Failed>
     requires named { HasNamed replay.now prepared.now }
     ensures { Puts result (diagnostics_text diagnostics.now.items ++ prepared_text replay.now prepared.now) (W.shown writer.old) (W.shown writer.new) }
@@ -98,7 +98,7 @@ fn finish<W: Sink>(
     writer: &mut W,
     replay: &LedgerReplay,
     has_diagnostics: bool,
-    prepared: &Prepared,
+    prepared: &Prepared<'_>,
 ) -> Result<Status, Failed>
     requires named { HasNamed replay.now prepared.now }
     ensures { FinishesServed (prepared_text replay.now prepared.now) has_diagnostics result replay.now (W.shown writer.old) (W.shown writer.new) }
@@ -147,7 +147,9 @@ pub(crate) fn follow_log<R: Source, W: Sink>(
         let _ = writer.flush();
         return Err(RunFault::OutOfMemory);
     };
-    match finish(writer, &replay, has_diagnostics, &prepared) {
+    let finished = finish(writer, &replay, has_diagnostics, &prepared);
+    drop(prepared);
+    match finished {
         Ok(status) => Ok(EndedLedger { status, replay }),
         Err(_) => Err(RunFault::Write),
     }

@@ -3,17 +3,9 @@
 ghost use Rattle.std.specs.Prelude.{◌≡◌, ◌+◌, ◌<◌, ◌≤◌, ◌^◌, ℕ, length, OnOk};
 ghost use Rattle.mtrace_replay.specs.Shares.{Changes, KeepsShares, Marks, amount_at, amount_more, amount_less, now_at, marked_at, marked_in, nothing};
 
+use crate::amount::Amount;
 use std::alloc::{AllocError, Global};
 use std::marker::Model;
-
-/// How many blocks there are, and how many bytes were asked for them.
-#[derive(Clone, Copy, Debug, PartialEq, Eq)]
-pub struct Amount {
-    /// How many blocks.
-    pub blocks: u64,
-    /// How many bytes in sum.
-    pub bytes: u128,
-}
 
 /// Which of two moments is meant.
 #[derive(Clone, Copy, Debug, PartialEq, Eq)]

@@ -9,12 +9,9 @@ use Rattle.mtrace_replay.specs.Run.{end_text}
 use Rattle.mtrace_log.specs.declared.call.Call.TheVariants.{Took, Flushed}
 use Rattle.mtrace_log.proofs.TraceLemmas.{moved_then_append, failed_after}
 use Rattle.mtrace_replay.proofs.RunLemmas.{report_all, ends_at, report_write}
+use Rattle.mtrace_replay.proofs.RunLemmas.{flush_asked}
 use Rattle.mtrace_replay.proofs.run.replay_log.Goals as goal
 
--- a writer that took pieces, and was then asked to flush
-flush_asked : (result : Result (Unit {0}) Failure) (old middle new : List Call) → HasTaken old middle → new ≡ flushed result ∷ middle → FlushWasAsked old new
-flush_asked (Ok done) old middle new took told = inl (record { middle = middle; moved = took; then = told })
-flush_asked (Err failure) old middle new took told = inr (record { middle = middle; moved = took; then = told })
 
 -- the log has ended, and all was written
 pub returns-in-Ok-finish-clause-ran : goal.returns-in-Ok-finish-clause-ran

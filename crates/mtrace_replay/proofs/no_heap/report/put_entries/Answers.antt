@@ -38,14 +38,14 @@ module _ (all : List Entry) (addresses : List ℕ) (index : ℕ) (same : address
 
 pub unreachable-requires : goal.unreachable-requires
 unreachable-requires g c =
-    let there = entry_at c.args.ledger.now c.args.addresses.now c.loop-address.address-index c.requires c.loop-address-test.true c.keeps_order.ensures in
-    let none : None ≡ held_at c.args.ledger.now (get_or c.args.addresses.now c.loop-address.address-index 0) = c.in_default.ensures in
+    let there = entry_at c.args.ledger.now.all c.args.addresses.now c.loop-address.address-index c.requires c.loop-address-test.true c.keeps_order.ensures in
+    let none : None ≡ held_at c.args.ledger.now.all (get_or c.args.addresses.now c.loop-address.address-index 0) = c.in_default.ensures in
     cc (none, there)
 
 pub loop-address-preserved : goal.loop-address-preserved
 loop-address-preserved g c =
     let writes = g.W.Sink.shown in
-    let all = c.args.ledger.now in
+    let all = c.args.ledger.now.all in
     let index = c.loop-address.address-index in
     let seen = c.in-Some.seen in
     let there = entry_at all c.args.addresses.now index c.requires c.loop-address-test.true c.keeps_order.ensures in
@@ -57,7 +57,7 @@ loop-address-preserved g c =
 pub returns-in_err-put_entry : goal.returns-in_err-put_entry
 returns-in_err-put_entry g c =
     let writes = g.W.Sink.shown in
-    let all = c.args.ledger.now in
+    let all = c.args.ledger.now.all in
     let index = c.loop-address.address-index in
     let there = entry_at all c.args.addresses.now index c.requires c.loop-address-test.true c.keeps_order.ensures in
     let same = from_some _ (numbered all index) (c.in-Some.ensures ∙ there) in

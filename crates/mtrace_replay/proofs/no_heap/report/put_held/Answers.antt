@@ -9,7 +9,7 @@ pub returns-in_err-put_all : goal.returns-in_err-put_all
 returns-in_err-put_all g c =
     let old = g.W.Sink.shown c.args.writer.now in
     let new = g.W.Sink.shown c.put_all.new.writer in
-    let all = c.args.ledger.now in
+    let all = c.args.ledger.now.all in
     puts_exit c.from_residual.result _ c.from_residual.ensures.1 (leaks_report all) old new
     (subst (λ (text : List ℕ). PutsPart text old new) (sym (leaks_report-some all c.requires.some))
     (fails_early old new (heading ++ flat_map entry_text all) (total_text all) (fails_early old new heading (flat_map entry_text all) c.in_err-put_all.ensures)))
@@ -19,7 +19,7 @@ returns-in_err-put_entries g c =
     let old = g.W.Sink.shown c.args.writer.now in
     let middle = g.W.Sink.shown c.put_all.new.writer in
     let new = g.W.Sink.shown c.put_entries.new.writer in
-    let all = c.args.ledger.now in
+    let all = c.args.ledger.now.all in
     puts_exit c.from_residual-in_err-put_entries.result _ c.from_residual-in_err-put_entries.ensures.1 (leaks_report all) old new
     (subst (λ (text : List ℕ). PutsPart text old new) (sym (leaks_report-some all c.requires.some))
     (fails_early old new (heading ++ flat_map entry_text all) (total_text all) (fails_on old middle new heading (flat_map entry_text all) c.in_ok-put_all.ensures c.in_err-put_entries.ensures)))
@@ -30,7 +30,7 @@ returns g c =
     let middle = g.W.Sink.shown c.put_all.new.writer in
     let later = g.W.Sink.shown c.put_entries.new.writer in
     let new = g.W.Sink.shown c.put_all-2.new.writer in
-    let all = c.args.ledger.now in
+    let all = c.args.ledger.now.all in
     let last = c.as_slice.ensures.value ∙ c.wide_total_text-total.ensures ∙ total_text-is all _ _ c.len.ensures c.bytes.ensures in
     subst (λ (text : List ℕ). Puts c.put_all-2.result text old new) (sym (leaks_report-some all c.requires.some))
     (puts_then c.put_all-2.result old later new (heading ++ flat_map entry_text all) (total_text all)

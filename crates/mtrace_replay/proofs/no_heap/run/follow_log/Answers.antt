@@ -1,13 +1,14 @@
-use Rattle.std.proofs.Common.{subst}
+use Rattle.std.proofs.Common.{refl, ◌∙◌, subst}
 use Rattle.mtrace_log.specs.declared.call.Call.TheVariants.{Took, Flushed}
 use Rattle.mtrace_log.proofs.TraceLemmas.{moved_then_append, failed_after}
 use Rattle.mtrace_replay.specs.Prepared.{IsOf}
-use Rattle.mtrace_replay.proofs.ServedRunLemmas.{served_write, served_all, served_nothing}
+use Rattle.mtrace_replay.proofs.RunLemmas.{flush_asked}
+use Rattle.mtrace_replay.proofs.ServedRunLemmas.{served_write, served_all, served_nothing, served_memory}
 use Rattle.mtrace_replay.proofs.no_heap.run.follow_log.Goals as goal
 
 -- the log has ended, and all was written
-pub returns-in-Ok-finish-clause-ran : goal.returns-in-Ok-finish-clause-ran
-returns-in-Ok-finish-clause-ran g c =
+pub returns-in-Ok-finished-clause-ran : goal.returns-in-Ok-finished-clause-ran
+returns-in-Ok-finished-clause-ran g c =
     let reads = g.R.Source.shown in
     let writes = g.W.Sink.shown in
     let done = c.in-Ok.ensures.done c.new-replay.ensures in
@@ -15,23 +16,23 @@ returns-in-Ok-finish-clause-ran g c =
     record {
       ends = record {
         finished = served_all c.args.report c.follow_lines.new.replay c.in-Ok.has_diagnostics (reads c.args.reader.now) (reads c.follow_lines.new.reader)
-            (writes c.args.writer.now) (writes c.follow_lines.new.writer) (writes c.finish.new.writer) done c.in-Ok-prepare.prepared c.in-Ok-prepare.ensures.report
-            c.in-Ok-finish.status c.in-Ok-finish.ensures.all c.in-Ok-finish.ensures.status;
+            (writes c.args.writer.now) (writes c.follow_lines.new.writer) (writes c.finish-finished.new.writer) done c.in-Ok-prepare.prepared c.in-Ok-prepare.ensures.report c.in-Ok-prepare.ensures.named
+            c.in-Ok-finished.status c.in-Ok-finished.ensures.all c.in-Ok-finished.ensures.status;
         reader_ended = c.in-Ok.ensures.reader_ended;
-        writer_flushed = moved_then_append Took Flushed _ _ _ took c.in-Ok-finish.ensures.flushed;
+        writer_flushed = moved_then_append Took Flushed _ _ _ took c.in-Ok-finished.ensures.flushed;
       };
       whole = c.follow_lines.ensures.whole;
     }
 
 -- and the replay stands for the lines, where there is no report
-pub returns-in-Ok-finish-clause-last : goal.returns-in-Ok-finish-clause-last
-returns-in-Ok-finish-clause-last g c = λ is.
+pub returns-in-Ok-finished-clause-last : goal.returns-in-Ok-finished-clause-last
+returns-in-Ok-finished-clause-last g c = λ is.
     let reads = g.R.Source.shown in
     let writes = g.W.Sink.shown in
     let done = c.in-Ok.ensures.done c.new-replay.ensures in
     served_nothing c.follow_lines.new.replay c.in-Ok.has_diagnostics (reads c.args.reader.now) (reads c.follow_lines.new.reader)
-    (writes c.args.writer.now) (writes c.follow_lines.new.writer) (writes c.finish.new.writer) done c.in-Ok-prepare.prepared
-    (subst (λ report. IsOf report c.in-Ok-prepare.prepared) is c.in-Ok-prepare.ensures.report) c.in-Ok-finish.status c.in-Ok-finish.ensures.all c.in-Ok-finish.ensures.status
+    (writes c.args.writer.now) (writes c.follow_lines.new.writer) (writes c.finish-finished.new.writer) done c.in-Ok-prepare.prepared
+    (subst (λ report. IsOf report c.in-Ok-prepare.prepared) is c.in-Ok-prepare.ensures.report) c.in-Ok-prepare.ensures.named c.in-Ok-finished.status c.in-Ok-finished.ensures.all c.in-Ok-finished.ensures.status
 
 -- the writer failed at the end
 pub returns-in-Err-clause-ran : goal.returns-in-Err-clause-ran
@@ -43,8 +44,49 @@ returns-in-Err-clause-ran g c =
     record {
       ends = record {
         write_fault = served_write c.args.report c.follow_lines.new.replay c.in-Ok.has_diagnostics (reads c.args.reader.now) (reads c.follow_lines.new.reader)
-            (writes c.args.writer.now) (writes c.follow_lines.new.writer) (writes c.finish.new.writer) done c.in-Ok-prepare.prepared c.in-Ok-prepare.ensures.report c.in-Err.ensures.beginning;
+            (writes c.args.writer.now) (writes c.follow_lines.new.writer) (writes c.finish-finished.new.writer) done c.in-Ok-prepare.prepared c.in-Ok-prepare.ensures.report c.in-Ok-prepare.ensures.named c.in-Err.ensures.beginning;
         writer_failed = failed_after _ _ _ took c.in-Err.ensures.failed;
+        reader_not_failed = c.in-Ok.ensures.reader_not_failed (λ is. cc);
+      };
+      whole = c.follow_lines.ensures.whole;
+    }
+
+-- the reader failed
+pub returns-in-Err-Reader-clause-ran : goal.returns-in-Err-Reader-clause-ran
+returns-in-Err-Reader-clause-ran g c =
+    let stops = c.in-Err-Reader.ensures.read (cc) c.new-replay.ensures in
+    record {
+      ends = record {
+        read_fault = record { lines = stops.lines; reason = stops.reason; wrote = c.flush.ensures.kept ∙ stops.wrote };
+        flush_asked = flush_asked c.flush.result _ _ _ (c.in-Err-Reader.ensures.writer_took (λ is. cc)) c.flush.ensures.told;
+      };
+      whole = c.follow_lines.ensures.whole;
+    }
+
+-- memory was refused at a line
+pub returns-in-Err-Memory-clause-ran : goal.returns-in-Err-Memory-clause-ran
+returns-in-Err-Memory-clause-ran g c =
+    let stops = c.in-Err-Memory.ensures.memory (cc) c.new-replay.ensures in
+    record {
+      ends = record {
+        memory = record { lines = stops.lines; unused = stops.unused; reason = stops.reason; wrote = c.flush-in-Err-Memory.ensures.kept ∙ stops.wrote };
+        flush_asked = flush_asked c.flush-in-Err-Memory.result _ _ _ (c.in-Err-Memory.ensures.writer_took (λ is. cc)) c.flush-in-Err-Memory.ensures.told;
+        reader_not_failed = c.in-Err-Memory.ensures.reader_not_failed (λ is. cc);
+      };
+      whole = c.follow_lines.ensures.whole;
+    }
+
+-- memory was refused for the report
+pub returns-in_default-clause-ran : goal.returns-in_default-clause-ran
+returns-in_default-clause-ran g c =
+    let reads = g.R.Source.shown in
+    let writes = g.W.Sink.shown in
+    let done = c.in-Ok.ensures.done c.new-replay.ensures in
+    let stops = served_memory c.follow_lines.new.replay c.in-Ok.has_diagnostics (reads c.args.reader.now) (reads c.follow_lines.new.reader) (writes c.args.writer.now) (writes c.follow_lines.new.writer) done in
+    record {
+      ends = record {
+        memory = record { lines = stops.lines; unused = stops.unused; reason = stops.reason; wrote = c.flush-in_default.ensures.kept ∙ stops.wrote };
+        flush_asked = flush_asked c.flush-in_default.result _ _ _ (c.in-Ok.ensures.writer_took (λ is. cc)) c.flush-in_default.ensures.told;
         reader_not_failed = c.in-Ok.ensures.reader_not_failed (λ is. cc);
       };
       whole = c.follow_lines.ensures.whole;

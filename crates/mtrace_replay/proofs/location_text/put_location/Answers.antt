@@ -3,7 +3,7 @@ use Rattle.std.specs.Option.{option_copied}
 use Rattle.mtrace_log.specs.Output.{PutsPart, Puts}
 use Rattle.mtrace_log.proofs.Writing.{puts_then, fails_early, puts_exit}
 use Rattle.mtrace_replay.specs.Texts.{at_text}
-use Rattle.mtrace_replay.proofs.no_heap.report.put_location.Goals as goal
+use Rattle.mtrace_replay.proofs.location_text.put_location.Goals as goal
 
 pub returns-in_err-put_all : goal.returns-in_err-put_all
 returns-in_err-put_all g c =

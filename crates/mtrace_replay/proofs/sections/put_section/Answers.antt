@@ -2,7 +2,7 @@ use Rattle.std.proofs.Common.{List, ℕ, subst, ◌∙◌, ◌++◌, flat_map, c
 use Rattle.mtrace_log.specs.Output.{PutsAll, PutsPart}
 use Rattle.mtrace_log.proofs.Writing.{puts_on, puts_then, fails_on, fails_early, puts_exit}
 use Rattle.mtrace_replay.specs.Texts.{pair_line, site_text}
-use Rattle.mtrace_replay.proofs.sites.put_section.Goals as goal
+use Rattle.mtrace_replay.proofs.sections.put_section.Goals as goal
 
 pub returns-in_err-put_all : goal.returns-in_err-put_all
 returns-in_err-put_all g c =

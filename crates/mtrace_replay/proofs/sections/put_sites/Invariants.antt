@@ -1,7 +1,7 @@
 use Rattle.std.proofs.Common.{drop, flat_map}
 use Rattle.mtrace_log.proofs.Writing.{IsPutting}
 use Rattle.mtrace_replay.specs.Texts.{site_text}
-use Rattle.mtrace_replay.proofs.sites.put_sites.Given as goal
+use Rattle.mtrace_replay.proofs.sections.put_sites.Given as goal
 
 -- the lines so far are put, and those of the rest are left
 abbrev pub invariant-loop-site : goal.invariant-loop-site

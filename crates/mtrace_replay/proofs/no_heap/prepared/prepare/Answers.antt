@@ -1,0 +1,11 @@
+-- The sites are those of what was held at the peak, and of what is held.
+use Rattle.std.proofs.Common.{List, sym, subst}
+use Rattle.mtrace_replay.specs.Entry.{Entry}
+use Rattle.mtrace_replay.specs.Sites.{Site, AreSites, AreTallied}
+use Rattle.mtrace_replay.proofs.no_heap.prepared.prepare.Goals as goal
+
+pub returns-in_ok-end-in-Sites-clause-named : goal.returns-in_ok-end-in-Sites-clause-named
+returns-in_ok-end-in-Sites-clause-named c = (
+  λ entries tallied. c.in_ok-peak-in-Sites.ensures entries (subst (λ (sites : List Site). AreTallied entries sites) (sym c.ledger-in-Sites.ensures.at_peak) tallied),
+  c.in_ok-end-in-Sites.ensures c.args.replay.now.all (sym c.ledger-in-Sites-2.ensures.all),
+)
