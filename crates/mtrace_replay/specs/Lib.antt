@@ -36,3 +36,4 @@ pub mod Ledger
 pub mod Locations
 pub mod Served
 pub mod RunServed
+pub mod ServedTimeline
