@@ -8,18 +8,22 @@ use Rattle.mtrace_log.specs.Output.{Wrote, Begins}
 use Rattle.mtrace_log.specs.declared.line.Line.{Line}
 use Rattle.mtrace_log.specs.declared.line.ReadFault.{ReadFault}
 use Rattle.mtrace_log.specs.declared.line.ReadFault.TheVariants.{ReaderFailed}
-use Rattle.mtrace_log.proofs.Writing.{Wrote-nothing, Wrote-append, Begins-after, Begins-longer}
+use Rattle.mtrace_log.proofs.Writing.{Wrote-nothing, Wrote-append, Begins-after}
 use Rattle.mtrace_replay.specs.declared.status.Status.{Status}
 use Rattle.mtrace_replay.specs.declared.status.Status.TheVariants.{Clean, Found}
 use Rattle.mtrace_replay.specs.declared.no_heap.replay.LedgerTotals.{LedgerTotals}
 use Rattle.mtrace_replay.specs.declared.no_heap.report.LedgerReport.{LedgerReport}
+use Rattle.mtrace_replay.specs.declared.no_heap.report.LedgerReport.TheVariants as report
+use Rattle.mtrace_replay.specs.declared.no_heap.prepared.Prepared.{Prepared}
+use Rattle.mtrace_replay.specs.declared.no_heap.prepared.Prepared.TheVariants as prepared
+use Rattle.mtrace_replay.specs.Prepared.{IsOf, prepared_text}
 use Rattle.mtrace_replay.specs.Moment.{ReadLine, Given, Moment, half}
 use Rattle.mtrace_replay.specs.History.{held, notes, pending, entries_of}
-use Rattle.mtrace_replay.specs.Texts.{diagnostics_text, ledger_report_text, clean_or_found, total_size}
+use Rattle.mtrace_replay.specs.Texts.{diagnostics_text, leaks_report, clean_or_found, total_size}
 use Rattle.mtrace_replay.specs.Run.{has_some}
 use Rattle.mtrace_replay.specs.Replaying.{IsFollowed}
 use Rattle.mtrace_replay.specs.Served.{unplaced, served_moment, served_moments, served_history, added_served, Standing, IsServed, totals_of}
-use Rattle.mtrace_replay.specs.RunServed.{served_notes, whole_served, AreServedTotals, ReportsServed, StopsServedAtRead, StopsServedAtWrite, StopsForMemory, served_end, LineServed, LineServedInPart, HasServed}
+use Rattle.mtrace_replay.specs.RunServed.{served_notes, whole_served, AreServedTotals, TellsServed, ReportsServed, EndsServed, StopsServedAtRead, StopsServedAtWrite, StopsForMemory, served_end, LineServed, LineServedInPart, HasServed}
 use Rattle.mtrace_replay.proofs.ReplayingLemmas.{prepend_nothing, no_line, followed_start, followed_line, followed_end, followed_fault, line_read, reverse-more}
 use Rattle.mtrace_replay.proofs.RunLemmas.{diagnostics_text-append, some_diagnostic-append, status-is}
 use Rattle.mtrace_replay.proofs.ServedLemmas.{length-served, entries_unplaced}
@@ -82,15 +86,14 @@ module _ (old new : Progress) (replay_old replay_new : Standing) (had_diagnostic
         wrote = subst (λ (writer : WriterState). Wrote writer_start writer (served_notes lines)) (sym same) under.wrote;
       }
 
--- what comes behind the diagnostics of the lines: that of the end, and the report
-abbrev last_text : LedgerReport → List ReadLine → List Given → LedgerTotals → List ℕ
-last_text report lines all totals = diagnostics_text (half (length lines) (pending (reverse lines))) ++ ledger_report_text report (entries_of all) totals
+-- what comes behind the diagnostics of the lines: that of the end, and a text
+abbrev last_text : List ReadLine → List ℕ → List ℕ
+last_text lines text = diagnostics_text (half (length lines) (pending (reverse lines))) ++ text
 
-whole_is : (report : LedgerReport) (lines : List ReadLine) (all : List Given) (totals : LedgerTotals) → whole_served report lines all totals ≡ served_notes lines ++ last_text report lines all totals
-whole_is report lines all totals =
+whole_is : (lines : List ReadLine) (text : List ℕ) → whole_served lines text ≡ served_notes lines ++ last_text lines text
+whole_is lines text =
     let last = half (length lines) (pending (reverse lines)) in
-    let told = ledger_report_text report (entries_of all) totals in
-    ap (λ text. text ++ told) (diagnostics_text-append (notes (served_history lines)) last) ∙ append_assoc (served_notes lines) (diagnostics_text last) told
+    ap (λ front. front ++ text) (diagnostics_text-append (notes (served_history lines)) last) ∙ append_assoc (served_notes lines) (diagnostics_text last) text
 
 module _ (replay : Standing) (lines : List ReadLine) (stands : IsServed replay (reverse lines)) where
   abbrev given_of : List Given
@@ -100,10 +103,8 @@ module _ (replay : Standing) (lines : List ReadLine) (stands : IsServed replay (
   half_is = ap (λ n. half n replay.pending) (stands.lines_are ∙ length-reverse lines) ∙ ap (half (length lines)) stands.pending_is
 
   -- what a replay that stands for the lines writes at the end
-  end_is : (report : LedgerReport) → served_end report replay ≡ last_text report lines given_of (totals_of replay)
-  end_is report =
-      ap (λ last. diagnostics_text last ++ ledger_report_text report replay.all (totals_of replay)) half_is
-      ∙ ap (λ entries. diagnostics_text (half (length lines) (pending (reverse lines))) ++ ledger_report_text report entries (totals_of replay)) (sym (entries_unplaced replay.all))
+  end_is : (text : List ℕ) → served_end replay text ≡ last_text lines text
+  end_is text = ap (λ last. diagnostics_text last ++ text) half_is
 
   summed : AreServedTotals (served_history lines) (totals_of replay)
   summed = record {
@@ -114,6 +115,13 @@ module _ (replay : Standing) (lines : List ReadLine) (stands : IsServed replay (
     peak = stands.peak;
   }
 
+  -- the text of a report for which memory was taken
+  pub prepared_tells : (report : LedgerReport) (prepared : Prepared) → IsOf report prepared → TellsServed report lines (prepared_text replay prepared)
+  prepared_tells report.Held (prepared.Held addresses) is = record { all = given_of; held = stands.held; text_is = ap leaks_report (sym (entries_unplaced replay.all)) }
+  prepared_tells report.Sums prepared.Sums is = record { totals = totals_of replay; summed = summed; text_is = refl }
+  prepared_tells report.Nothing prepared.Nothing is = refl
+  prepared_tells report prepared is = absurd is
+
 -- the writer failed at a line's diagnostics
 pub following_write : (report : LedgerReport) (old new : Progress) (replay_old replay_new : Standing) (had_diagnostics : Bool) (start before after : ReaderState) (writer_start writer_old writer_new : WriterState) (line : Line)
     → (under : IsFollowing old replay_old had_diagnostics start before writer_start writer_old)
@@ -123,26 +131,12 @@ pub following_write : (report : LedgerReport) (old new : Progress) (replay_old r
 following_write report old new replay_old replay_new had_diagnostics start before after writer_start writer_old writer_new line under given begins =
     let was = under.so_far.lines in
     let now = followed_line (λ past. IsServed replay_old past) (λ past. IsServed replay_new past) old new start before after line under.so_far given begins.stands in
-    let lines = now.lines in
-    let begun : Begins writer_start writer_new (served_notes lines) =
-    subst (λ (text : List ℕ). Begins writer_start writer_new text) (sym (notes-more was line.event))
-    (Begins-after writer_start writer_old writer_new (served_notes was) (diagnostics_text (added_served line.event (reverse was))) under.wrote begins.begun) in
-    let all = given_of replay_new lines now.stands in
     record {
-      lines = lines;
+      lines = now.lines;
       unused = new.held;
-      begun = elim (line_read new.stage start.left (to_come old before.left) (to_come new after.left) lines line.event given.taken now.read) [
-        | inl reading ↦ inl (reading, begun)
-        | inr read ↦ inr (record {
-          read = read;
-          all = all;
-          held = now.stands.held;
-          totals = totals_of replay_new;
-          summed = summed replay_new lines now.stands;
-          begun = subst (λ (text : List ℕ). Begins writer_start writer_new text) (sym (whole_is report lines all (totals_of replay_new)))
-              (Begins-longer writer_start writer_new (served_notes lines) (last_text report lines all (totals_of replay_new)) begun);
-        })
-      ];
+      begun = inl (line_read new.stage start.left (to_come old before.left) (to_come new after.left) now.lines line.event given.taken now.read,
+          subst (λ (text : List ℕ). Begins writer_start writer_new text) (sym (notes-more was line.event))
+          (Begins-after writer_start writer_old writer_new (served_notes was) (diagnostics_text (added_served line.event (reverse was))) under.wrote begins.begun));
     }
 
 -- the end of the log
@@ -171,43 +165,41 @@ following_fault reads old new replay has_diagnostics start reader_old reader_new
 }
 
 module _ (report : LedgerReport) (replay : Standing) (has_diagnostics : Bool) (reader_old reader_new : ReaderState) (writer_old writer_middle writer_new : WriterState)
-    (done : HasServed replay has_diagnostics reader_old reader_new writer_old writer_middle) where
+    (done : HasServed replay has_diagnostics reader_old reader_new writer_old writer_middle) (prepared : Prepared) (is_of : IsOf report prepared) where
+  abbrev its_text : List ℕ
+  its_text = prepared_text replay prepared
+
   -- the writer failed at the end
-  pub served_write : Begins writer_middle writer_new (served_end report replay) → StopsServedAtWrite report reader_old reader_new writer_old writer_new
-  served_write begins =
-      let all = given_of replay done.lines done.stands in
-      record {
-        lines = done.lines;
-        unused = [];
-        begun = inr (record {
-          read = subst (λ (after : Bytes). HasReadAll reader_old.left after done.lines) (sym (prepend_nothing reader_new.left)) done.read;
-          all = all;
-          held = done.stands.held;
-          totals = totals_of replay;
-          summed = summed replay done.lines done.stands;
-          begun = subst (λ (text : List ℕ). Begins writer_old writer_new text) (sym (whole_is report done.lines all (totals_of replay)))
-              (Begins-after writer_old writer_middle writer_new (served_notes done.lines) (last_text report done.lines all (totals_of replay)) done.wrote
-              (subst (λ (text : List ℕ). Begins writer_middle writer_new text) (end_is replay done.lines done.stands report) begins));
-        });
-      }
+  pub served_write : Begins writer_middle writer_new (served_end replay its_text) → StopsServedAtWrite report reader_old reader_new writer_old writer_new
+  served_write begins = record {
+    lines = done.lines;
+    unused = [];
+    begun = inr (record {
+      read = subst (λ (after : Bytes). HasReadAll reader_old.left after done.lines) (sym (prepend_nothing reader_new.left)) done.read;
+      text = its_text;
+      tells = prepared_tells replay done.lines done.stands report prepared is_of;
+      begun = subst (λ (text : List ℕ). Begins writer_old writer_new text) (sym (whole_is done.lines its_text))
+          (Begins-after writer_old writer_middle writer_new (served_notes done.lines) (last_text done.lines its_text) done.wrote
+          (subst (λ (text : List ℕ). Begins writer_middle writer_new text) (end_is replay done.lines done.stands its_text) begins));
+    });
+  }
 
   -- all was written
-  pub served_all : (status : Status) → Wrote writer_middle writer_new (served_end report replay)
+  pub served_all : (status : Status) → Wrote writer_middle writer_new (served_end replay its_text)
       → status ≡ (if has_diagnostics || (has_some (half replay.lines replay.pending) || has_some replay.all) then Found else Clean)
       → ReportsServed report status reader_old reader_new writer_old writer_new
   served_all status wrote is =
-      let all = given_of replay done.lines done.stands in
       let last = half (length done.lines) (pending (reverse done.lines)) in
       record {
         lines = done.lines;
         read = done.read;
-        all = all;
+        text = its_text;
+        tells = prepared_tells replay done.lines done.stands report prepared is_of;
+        wrote = subst (λ (text : List ℕ). Wrote writer_old writer_new text) (sym (whole_is done.lines its_text))
+            (Wrote-append writer_old writer_middle writer_new (served_notes done.lines) (last_text done.lines its_text) done.wrote
+            (subst (λ (text : List ℕ). Wrote writer_middle writer_new text) (end_is replay done.lines done.stands its_text) wrote));
+        all = given_of replay done.lines done.stands;
         held = done.stands.held;
-        totals = totals_of replay;
-        summed = summed replay done.lines done.stands;
-        wrote = subst (λ (text : List ℕ). Wrote writer_old writer_new text) (sym (whole_is report done.lines all (totals_of replay)))
-            (Wrote-append writer_old writer_middle writer_new (served_notes done.lines) (last_text report done.lines all (totals_of replay)) done.wrote
-            (subst (λ (text : List ℕ). Wrote writer_middle writer_new text) (end_is replay done.lines done.stands report) wrote));
         status_is = is
             ∙ ap (λ b. if b || (has_some (half replay.lines replay.pending) || has_some replay.all) then Found else Clean) done.has_diagnostics_is
             ∙ ap (λ more. if has_some (notes (served_history done.lines)) || (has_some more || has_some replay.all) then Found else Clean) (half_is replay done.lines done.stands)
@@ -215,6 +207,19 @@ module _ (report : LedgerReport) (replay : Standing) (has_diagnostics : Bool) (r
             ∙ ap (clean_or_found (notes (served_history done.lines) ++ last)) (sym (entries_unplaced replay.all));
       }
 
-  -- memory was refused behind the last line
-  pub served_memory : StopsForMemory reader_old reader_new writer_old writer_middle
-  served_memory = record { lines = done.lines; unused = []; reason = inr done.read; wrote = done.wrote }
+-- a run without a report has ended, with this replay
+pub served_nothing : (replay : Standing) (has_diagnostics : Bool) (reader_old reader_new : ReaderState) (writer_old writer_middle writer_new : WriterState)
+    (done : HasServed replay has_diagnostics reader_old reader_new writer_old writer_middle) (prepared : Prepared) (is_of : IsOf report.Nothing prepared) (status : Status)
+    → Wrote writer_middle writer_new (served_end replay (prepared_text replay prepared))
+    → status ≡ (if has_diagnostics || (has_some (half replay.lines replay.pending) || has_some replay.all) then Found else Clean)
+    → EndsServed status replay reader_old reader_new writer_old writer_new
+unfolding served_all
+served_nothing replay has_diagnostics reader_old reader_new writer_old writer_middle writer_new done prepared is_of status wrote is = record {
+  reports = served_all report.Nothing replay has_diagnostics reader_old reader_new writer_old writer_middle writer_new done prepared is_of status wrote is;
+  stands = done.stands;
+}
+
+-- memory was refused behind the last line
+pub served_memory : (replay : Standing) (has_diagnostics : Bool) (reader_old reader_new : ReaderState) (writer_old writer_middle : WriterState)
+    → HasServed replay has_diagnostics reader_old reader_new writer_old writer_middle → StopsForMemory reader_old reader_new writer_old writer_middle
+served_memory replay has_diagnostics reader_old reader_new writer_old writer_middle done = record { lines = done.lines; unused = []; reason = inr done.read; wrote = done.wrote }

@@ -14,6 +14,7 @@ pub mod Index
 pub mod Key
 pub mod Keys
 pub mod Moment
+pub mod Prepared
 pub mod Replay
 pub mod Replaying
 pub mod Rows

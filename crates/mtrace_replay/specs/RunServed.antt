@@ -11,22 +11,20 @@ use Rattle.mtrace_replay.specs.declared.status.RunFault.{RunFault}
 use Rattle.mtrace_replay.specs.declared.status.RunFault.TheVariants.{Read, Write, OutOfMemory}
 use Rattle.mtrace_replay.specs.declared.no_heap.replay.LedgerTotals.{LedgerTotals}
 use Rattle.mtrace_replay.specs.declared.no_heap.report.LedgerReport.{LedgerReport}
+use Rattle.mtrace_replay.specs.declared.no_heap.report.LedgerReport.TheVariants.{Held, Sums, Nothing}
+use Rattle.mtrace_replay.specs.declared.no_heap.run.EndedLedger.{EndedLedger}
 use Rattle.mtrace_replay.specs.declared.no_heap.run.Stop.{Stop}
 use Rattle.mtrace_replay.specs.declared.no_heap.run.Stop.TheVariants.{Reader, Writer, Memory}
 use Rattle.mtrace_replay.specs.Moment.{ReadLine, Given, Moment, half}
 use Rattle.mtrace_replay.specs.History.{notes, AreHeld, entries_of}
 use Rattle.mtrace_replay.specs.Totals.{is_served, Measures, IsPeak, bytes_in, blocks_in}
-use Rattle.mtrace_replay.specs.Texts.{diagnostics_text, ledger_report_text, clean_or_found}
-use Rattle.mtrace_replay.specs.Served.{served_history, served_diagnostics, added_served, Standing, IsServed, totals_of}
+use Rattle.mtrace_replay.specs.Texts.{diagnostics_text, leaks_report, ledger_peak_report, clean_or_found}
+use Rattle.mtrace_replay.specs.Served.{served_history, served_diagnostics, added_served, Standing, IsServed}
 use Rattle.mtrace_replay.specs.Run.{with_unused, FailedInPiece, IsPastLastNumber, has_some}
 
 -- the text of the diagnostics of lines, the first line first
 abbrev pub served_notes : List ReadLine → List ℕ
 served_notes lines = diagnostics_text (notes (served_history lines))
-
--- all diagnostics of the lines, and then the report
-abbrev pub whole_served : LedgerReport → List ReadLine → List Given → LedgerTotals → List ℕ
-whole_served report lines all totals = diagnostics_text (served_diagnostics lines) ++ ledger_report_text report (entries_of all) totals
 
 -- the sums over lines without a heap
 pub record AreServedTotals (past : List Moment) (totals : LedgerTotals) : Type 0 where
@@ -36,25 +34,49 @@ pub record AreServedTotals (past : List Moment) (totals : LedgerTotals) : Type 0
   pub live_blocks : Measures blocks_in past totals.live_blocks
   pub peak : IsPeak past totals.peak_bytes totals.peak_line
 
+-- the text of what is held at the end
+pub record TellsHeld (lines : List ReadLine) (text : List ℕ) : Type 0 where
+  pub all : List Given
+  pub held : AreHeld all (served_history lines)
+  pub text_is : text ≡ leaks_report (entries_of all)
+
+-- the text of the sums
+pub record TellsSums (lines : List ReadLine) (text : List ℕ) : Type 0 where
+  pub totals : LedgerTotals
+  pub summed : AreServedTotals (served_history lines) totals
+  pub text_is : text ≡ ledger_peak_report totals
+
+-- the text of a report of these lines
+abbrev pub TellsServed : LedgerReport → (lines : List ReadLine) (text : List ℕ) → Type 0
+TellsServed Held lines text = TellsHeld lines text
+TellsServed Sums lines text = TellsSums lines text
+TellsServed Nothing lines text = text ≡ []
+
+-- all diagnostics of the lines, and then a text
+abbrev pub whole_served : List ReadLine → List ℕ → List ℕ
+whole_served lines text = diagnostics_text (served_diagnostics lines) ++ text
+
 -- all of the log was read, and the whole text of its history was written; the status is that text's
 pub record ReportsServed (report : LedgerReport) (status : Status) (reader_old reader_new : ReaderState) (writer_old writer_new : WriterState) : Type 0 where
   pub lines : List ReadLine
   pub read : HasReadAll reader_old.left reader_new.left lines
+  pub text : List ℕ
+  pub tells : TellsServed report lines text
+  pub wrote : Wrote writer_old writer_new (whole_served lines text)
   pub all : List Given
   pub held : AreHeld all (served_history lines)
-  pub totals : LedgerTotals
-  pub summed : AreServedTotals (served_history lines) totals
-  pub wrote : Wrote writer_old writer_new (whole_served report lines all totals)
   pub status_is : status ≡ clean_or_found (served_diagnostics lines) (entries_of all)
 
 -- all of the log was read, and a beginning of the whole text was written
 pub record BeginsServed (report : LedgerReport) (reader_old reader_new : ReaderState) (writer_old writer_new : WriterState) (lines : List ReadLine) : Type 0 where
   pub read : HasReadAll reader_old.left reader_new.left lines
-  pub all : List Given
-  pub held : AreHeld all (served_history lines)
-  pub totals : LedgerTotals
-  pub summed : AreServedTotals (served_history lines) totals
-  pub begun : Begins writer_old writer_new (whole_served report lines all totals)
+  pub text : List ℕ
+  pub tells : TellsServed report lines text
+  pub begun : Begins writer_old writer_new (whole_served lines text)
+
+-- the lines were read, and perhaps to the end of the log
+abbrev pub HasReadThese : (reader_old reader_new : ReaderState) → List ReadLine → Type 0
+HasReadThese reader_old reader_new lines = HasRead reader_old.left reader_new.left lines ⊎ HasReadAll reader_old.left reader_new.left lines
 
 -- The reader failed, or a line past the last number would come. In the second case unused are the bytes that were asked of the
 -- reader and belong to no line that was read. The diagnostics of the lines read were written, and no report.
@@ -69,12 +91,8 @@ pub record StopsServedAtRead (reader_old reader_new : ReaderState) (writer_old w
 pub record StopsServedAtWrite (report : LedgerReport) (reader_old reader_new : ReaderState) (writer_old writer_new : WriterState) : Type 0 where
   pub lines : List ReadLine
   pub unused : List ℕ
-  pub begun : (HasRead reader_old.left (with_unused unused reader_new).left lines × Begins writer_old writer_new (served_notes lines))
+  pub begun : (HasReadThese reader_old (with_unused unused reader_new) lines × Begins writer_old writer_new (served_notes lines))
       ⊎ BeginsServed report reader_old (with_unused unused reader_new) writer_old writer_new lines
-
--- the lines were read, and perhaps to the end of the log
-abbrev pub HasReadThese : (reader_old reader_new : ReaderState) → List ReadLine → Type 0
-HasReadThese reader_old reader_new lines = HasRead reader_old.left reader_new.left lines ⊎ HasReadAll reader_old.left reader_new.left lines
 
 -- Memory was refused, at the line behind these, or behind the last one of the log. The diagnostics of these lines were written,
 -- and no report. Unused are the bytes that were asked of the reader and belong to no line that was read.
@@ -121,9 +139,19 @@ pub record RunsServed (report : LedgerReport) (result : Result Status RunFault) 
   pub ends : ServedEnds report result reader_old reader_new writer_old writer_new
   pub whole : reader_new.whole ≡ reader_old.whole
 
--- what is written at the end: the diagnostic of the last line, and the report
-abbrev pub served_end : LedgerReport → Standing → List ℕ
-served_end report replay = diagnostics_text (half replay.lines replay.pending) ++ ledger_report_text report replay.all (totals_of replay)
+-- the answer of a run, without its replay
+abbrev pub served_status : Result EndedLedger RunFault → Result Status RunFault
+served_status (Ok ended) = Ok ended.status
+served_status (Err fault) = Err fault
+
+-- a run without a report, and the replay in the end
+pub record EndsServed (status : Status) (replay : Standing) (reader_old reader_new : ReaderState) (writer_old writer_new : WriterState) : Type 0 where
+  pub reports : ReportsServed Nothing status reader_old reader_new writer_old writer_new
+  pub stands : IsServed replay (reverse reports.lines)
+
+-- what is written at the end: the diagnostic of the last line, and then the text of the report
+abbrev pub served_end : Standing → List ℕ → List ℕ
+served_end replay text = diagnostics_text (half replay.lines replay.pending) ++ text
 
 -- one line more was followed, and its diagnostics were written
 pub record LineServed (new : Standing) (line : ReadLine) (past : List ReadLine) (writer_old writer_new : WriterState) (has_diagnostics : Bool) : Type 0 where
@@ -170,9 +198,9 @@ pub record FollowsLines (result : Result Bool Stop) (replay_old replay_new : Sta
   pub memory : IsErrOf result Memory → IsServed replay_old [] → StopsForMemory reader_old reader_new writer_old writer_new
 
 -- What a call leaves that puts all that is written at the end, and flushes. It answers the status, by whether a line had a diagnostic.
-pub record FinishesServed {E : Type 0} (report : LedgerReport) (has_diagnostics : Bool) (result : Result Status E) (replay : Standing) (writer_old writer_new : WriterState) : Type 0 where
-  pub all : OnOk result (Wrote writer_old writer_new (served_end report replay))
+pub record FinishesServed {E : Type 0} (text : List ℕ) (has_diagnostics : Bool) (result : Result Status E) (replay : Standing) (writer_old writer_new : WriterState) : Type 0 where
+  pub all : OnOk result (Wrote writer_old writer_new (served_end replay text))
   pub status : IfOk result (λ status. status ≡ (if has_diagnostics || (has_some (half replay.lines replay.pending) || has_some replay.all) then Found else Clean))
   pub flushed : OnOk result (HasTakenAndFlushed writer_old.calls writer_new.calls)
-  pub beginning : OnErr result (Begins writer_old writer_new (served_end report replay))
+  pub beginning : OnErr result (Begins writer_old writer_new (served_end replay text))
   pub failed : OnErr result (HasFailedToWrite writer_old.calls writer_new.calls)

@@ -10,8 +10,6 @@ use Rattle.tlsf_heap.specs.Rows.{row_of}
 use Rattle.mtrace_replay.specs.Entry.{Entry}
 use Rattle.mtrace_replay.specs.declared.no_heap.point.LedgerPoint.{LedgerPoint}
 use Rattle.mtrace_replay.specs.declared.no_heap.replay.LedgerTotals.{LedgerTotals}
-use Rattle.mtrace_replay.specs.declared.no_heap.report.LedgerReport.{LedgerReport}
-use Rattle.mtrace_replay.specs.declared.no_heap.report.LedgerReport.TheVariants.{Held, Sums}
 use Rattle.mtrace_replay.specs.declared.report.Report.{Report}
 use Rattle.mtrace_replay.specs.declared.report.Report.TheVariants.{Leaks, Peak, Walk, Nothing}
 use Rattle.mtrace_replay.specs.declared.point.Point.{Point}
@@ -255,8 +253,3 @@ ledger_peak_report totals =
     ++ number_line (codes "served: ") totals.served
     ++ pair_line (codes "live: ") totals.live_bytes (codes " bytes in ") totals.live_blocks (codes " blocks")
     ++ pair_line (codes "peak: ") totals.peak_bytes (codes " bytes at line ") totals.peak_line []
-
--- the text of a report of a ledger
-abbrev pub ledger_report_text : LedgerReport → List Entry → LedgerTotals → List ℕ
-ledger_report_text Held entries totals = leaks_report entries
-ledger_report_text Sums entries totals = ledger_peak_report totals

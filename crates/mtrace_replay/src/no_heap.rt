@@ -5,6 +5,7 @@ pub(crate) mod ledger;
 mod line;
 mod locations;
 pub(crate) mod point;
+pub(crate) mod prepared;
 pub(crate) mod replay;
 pub(crate) mod report;
 pub(crate) mod run;

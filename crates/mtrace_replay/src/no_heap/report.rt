@@ -6,11 +6,11 @@ ghost use Rattle.arrayvec.specs.ArrayVec.{array_vec_len};
 ghost use Rattle.mtrace_log.specs.Address.{address_text};
 ghost use Rattle.mtrace_log.specs.Output.{Puts};
 ghost use Rattle.mtrace_replay.specs.Appends.{Appends};
-ghost use Rattle.mtrace_replay.specs.Texts.{at_text, entry_text, leaks_report, ledger_peak_report, ledger_report_text};
-ghost use Rattle.mtrace_replay.specs.Served.{totals_of};
-ghost use Rattle.mtrace_replay.specs.declared.no_heap.report.LedgerReport.TheVariants.{Held};
+ghost use Rattle.mtrace_replay.specs.Texts.{at_text, entry_text, leaks_report, ledger_peak_report};
+ghost use Rattle.mtrace_replay.specs.Prepared.{HasNamed, prepared_text};
 
 use super::ledger::{Ledger, Seen};
+use super::prepared::Prepared;
 use super::replay::{LedgerReplay, LedgerTotals};
 use crate::line_text::{
     LineText, push_address, push_bytes, push_number, push_number_line, push_wide_pair_line,
@@ -26,6 +26,8 @@ pub enum LedgerReport {
     Held,
     /// The sums over the lines, and the most that was held.
     Sums,
+    /// Nothing.
+    Nothing,
 }
 
 /// Appends the spelling of the address with this number. No address has the number 0, which has no digit.
@@ -141,7 +143,7 @@ fn sums_text(totals: LedgerTotals) -> LineText
     text
 }
 
-/// Puts a report. The addresses are those that are held, in order, where the report names them.
+/// Puts a report.
 ///
 /// # Errors
 ///
@@ -149,14 +151,14 @@ fn sums_text(totals: LedgerTotals) -> LineText
 pub(crate) fn put_ledger_report<W: Sink>(
     writer: &mut W,
     replay: &LedgerReplay,
-    report: LedgerReport,
-    addresses: &[u64],
+    prepared: &Prepared,
 ) -> Result<(), Failed>
-    requires addresses { report ≡ Held → addresses.now ≡ map (λ entry. entry.addr) replay.now.all }
-    ensures { Puts result (ledger_report_text report replay.now.all (totals_of replay.now)) (W.shown writer.old) (W.shown writer.new) }
+    requires named { HasNamed replay.now prepared.now }
+    ensures { Puts result (prepared_text replay.now prepared.now) (W.shown writer.old) (W.shown writer.new) }
 {
-    match report {
-        LedgerReport::Held => put_leaks(writer, replay.ledger(), addresses),
-        LedgerReport::Sums => put_all(writer, sums_text(replay.totals()).as_slice()),
+    match prepared {
+        Prepared::Held(addresses) => put_leaks(writer, replay.ledger(), addresses.as_slice()),
+        Prepared::Sums => put_all(writer, sums_text(replay.totals()).as_slice()),
+        Prepared::Nothing => Ok(()),
     }
 }

@@ -1,12 +1,13 @@
 //! The run that writes the report of a log without a heap.
 
-ghost use Rattle.std.specs.Prelude.{◌≡◌, ◌+◌, ◌++◌, [], map, IfOk};
+ghost use Rattle.std.specs.Prelude.{◌≡◌, ◌+◌, ◌++◌, [], IfOk};
 ghost use Rattle.mtrace_log.specs.Output.{Puts};
-ghost use Rattle.mtrace_replay.specs.Texts.{diagnostics_text, ledger_report_text};
-ghost use Rattle.mtrace_replay.specs.Served.{totals_of};
-ghost use Rattle.mtrace_replay.specs.RunServed.{RunsServed, FollowsLine, FollowsLines, FinishesServed};
-ghost use Rattle.mtrace_replay.specs.declared.no_heap.report.LedgerReport.TheVariants.{Held};
+ghost use Rattle.mtrace_replay.specs.Texts.{diagnostics_text};
+ghost use Rattle.mtrace_replay.specs.Prepared.{HasNamed, prepared_text};
+ghost use Rattle.mtrace_replay.specs.RunServed.{RunsServed, FollowsLine, FollowsLines, FinishesServed, EndsServed, served_status};
+ghost use Rattle.mtrace_replay.specs.declared.no_heap.report.LedgerReport.TheVariants.{Nothing};
 
+use super::prepared::{Prepared, prepare};
 use super::replay::LedgerReplay;
 use super::report::{LedgerReport, put_ledger_report};
 use crate::diagnostic::Note;
@@ -14,7 +15,7 @@ use crate::findings::Findings;
 use crate::run::{put_diagnostics, put_findings};
 use crate::status::{RunFault, Status};
 use mtrace_log::{Event, Failed, LentLocation, LineFault, Lines, Sink, Source};
-use std::alloc::{AllocError, Global};
+use std::alloc::Global;
 
 /// Why no more lines are followed.
 #[derive(Clone, Copy)]
@@ -83,14 +84,13 @@ fn put_end<W: Sink>(
     writer: &mut W,
     replay: &LedgerReplay,
     diagnostics: &Note,
-    report: LedgerReport,
-    addresses: &[u64],
+    prepared: &Prepared,
 ) -> Result<(), Failed>
-    requires addresses { report ≡ Held → addresses.now ≡ map (λ entry. entry.addr) replay.now.all }
-    ensures { Puts result (diagnostics_text diagnostics.now.items ++ ledger_report_text report replay.now.all (totals_of replay.now)) (W.shown writer.old) (W.shown writer.new) }
+    requires named { HasNamed replay.now prepared.now }
+    ensures { Puts result (diagnostics_text diagnostics.now.items ++ prepared_text replay.now prepared.now) (W.shown writer.old) (W.shown writer.new) }
 {
     put_diagnostics(writer, diagnostics)?;
-    put_ledger_report(writer, replay, report, addresses)
+    put_ledger_report(writer, replay, prepared)
 }
 
 /// Puts what is wrong at the end and the report, and flushes. Answers the status.
@@ -98,15 +98,14 @@ fn finish<W: Sink>(
     writer: &mut W,
     replay: &LedgerReplay,
     has_diagnostics: bool,
-    report: LedgerReport,
-    addresses: &[u64],
+    prepared: &Prepared,
 ) -> Result<Status, Failed>
-    requires addresses { report ≡ Held → addresses.now ≡ map (λ entry. entry.addr) replay.now.all }
-    ensures { FinishesServed report has_diagnostics result replay.now (W.shown writer.old) (W.shown writer.new) }
+    requires named { HasNamed replay.now prepared.now }
+    ensures { FinishesServed (prepared_text replay.now prepared.now) has_diagnostics result replay.now (W.shown writer.old) (W.shown writer.new) }
 {
     let diagnostics = replay.finish();
     let is_found = has_diagnostics || !diagnostics.is_empty() || replay.ledger().len() > 0;
-    put_end(writer, replay, &diagnostics, report, addresses)?;
+    put_end(writer, replay, &diagnostics, prepared)?;
     writer.flush()?;
     if is_found {
         return Ok(Status::Found);
@@ -114,17 +113,43 @@ fn finish<W: Sink>(
     Ok(Status::Clean)
 }
 
-/// The addresses that a report names, in order.
-fn named_addresses(
+/// A run that read its log to the end: its status, and the replay then.
+#[derive(Drop)]
+pub(crate) struct EndedLedger {
+    pub(crate) status: Status,
+    pub(crate) replay: LedgerReplay,
+}
+
+/// Reads a log and follows it without a heap, and writes what is wrong with its lines, and then the report.
+pub(crate) fn follow_log<R: Source, W: Sink>(
     alloc: Global,
-    replay: &LedgerReplay,
+    reader: &mut R,
+    writer: &mut W,
     report: LedgerReport,
-) -> Result<Vec<u64>, AllocError>
-    ensures { IfOk result (λ addresses. report ≡ Held → addresses.items ≡ map (λ entry. entry.addr) replay.now.all) }
+) -> Result<EndedLedger, RunFault>
+    ensures ran { RunsServed report (served_status result) (R.shown reader.old) (R.shown reader.new) (W.shown writer.old) (W.shown writer.new) }
+    ensures last { report ≡ Nothing → IfOk result (λ ended. EndsServed ended.status ended.replay (R.shown reader.old) (R.shown reader.new) (W.shown writer.old) (W.shown writer.new)) }
 {
-    match report {
-        LedgerReport::Held => replay.ledger().addresses(alloc),
-        LedgerReport::Sums => Ok(Vec::new(alloc)),
+    let mut replay = LedgerReplay::new(alloc);
+    let has_diagnostics = match follow_lines(reader, writer, &mut replay) {
+        Ok(has_diagnostics) => has_diagnostics,
+        Err(Stop::Writer) => return Err(RunFault::Write),
+        Err(Stop::Reader) => {
+            let _ = writer.flush();
+            return Err(RunFault::Read);
+        }
+        Err(Stop::Memory) => {
+            let _ = writer.flush();
+            return Err(RunFault::OutOfMemory);
+        }
+    };
+    let Ok(prepared) = prepare(alloc, &replay, report) else {
+        let _ = writer.flush();
+        return Err(RunFault::OutOfMemory);
+    };
+    match finish(writer, &replay, has_diagnostics, &prepared) {
+        Ok(status) => Ok(EndedLedger { status, replay }),
+        Err(_) => Err(RunFault::Write),
     }
 }
 
@@ -147,31 +172,6 @@ pub fn run_ledger<R: Source, W: Sink>(
 ) -> Result<Status, RunFault>
     ensures { RunsServed report result (R.shown reader.old) (R.shown reader.new) (W.shown writer.old) (W.shown writer.new) }
 {
-    let mut replay = LedgerReplay::new(alloc);
-    let has_diagnostics = match follow_lines(reader, writer, &mut replay) {
-        Ok(has_diagnostics) => has_diagnostics,
-        Err(Stop::Writer) => return Err(RunFault::Write),
-        Err(Stop::Reader) => {
-            let _ = writer.flush();
-            return Err(RunFault::Read);
-        }
-        Err(Stop::Memory) => {
-            let _ = writer.flush();
-            return Err(RunFault::OutOfMemory);
-        }
-    };
-    let Ok(addresses) = named_addresses(alloc, &replay, report) else {
-        let _ = writer.flush();
-        return Err(RunFault::OutOfMemory);
-    };
-    match finish(
-        writer,
-        &replay,
-        has_diagnostics,
-        report,
-        addresses.as_slice(),
-    ) {
-        Ok(status) => Ok(status),
-        Err(_) => Err(RunFault::Write),
-    }
+    let ended = follow_log(alloc, reader, writer, report)?;
+    Ok(ended.status)
 }

@@ -55,7 +55,8 @@ loop-number-preserved g c =
           let G : List Point → Replayed → Type 0 = λ all now. Gathers settings all c.replay_up_to.new.lines now (reads c.begin.new.self) (reads c.replay_up_to.new.reader) in
           let more = gathers_more settings points point c.loop-number.lines c.replay_up_to.new.lines c.loop-number.replay replay touches (reads c.begin.new.self) (reads c.loop-number.reader) (reads c.replay_up_to.new.reader)
           so_far (read.replaying settings (reads c.begin.new.self) so_far.now) kept.within (c.point_after.ensures.line ∙ read.counted) (c.point_after.ensures.point settings) in
-          subst (λ all. G all c.point_after.new.replay) (sym items) (subst (G (points ++ point ∷ [])) (sym c.point_after.ensures.kept) more);
+          let all_are : points ++ point ∷ [] ≡ c.push_reserved.new.self.items = sym items in
+          subst (λ all. G all c.point_after.new.replay) all_are (subst (G (points ++ point ∷ [])) (sym c.point_after.ensures.kept) more);
       told = lines_more (λ (one : Point). one.line) numbers index points point c.push_reserved.new.self.items kept.told items line c.loop-number-test.true;
       within = within_more (λ (one : Point). one.line) c.loop-number.lines.count c.replay_up_to.new.lines.count points point c.push_reserved.new.self.items items kept.within up (omega (arith, line, read.reached));
       reached = read.reached ∙ sym (greatest_taken numbers index c.requires.rising c.loop-number-test.true) ∙ ap (λ n. greatest (take n numbers)) (let next : suc index ≡ index + 1 = omega arith in next);

@@ -4,8 +4,8 @@ use Rattle.std.proofs.lemmas.Grind.{common_steps}
 use Rattle.mtrace_log.specs.Output.{Begins}
 use Rattle.mtrace_log.proofs.Writing.{Begins-all}
 use Rattle.mtrace_replay.specs.declared.diagnostic.Diagnostic.{Diagnostic}
-use Rattle.mtrace_replay.specs.Texts.{diagnostics_text, ledger_report_text}
-use Rattle.mtrace_replay.specs.Served.{totals_of}
+use Rattle.mtrace_replay.specs.Texts.{diagnostics_text}
+use Rattle.mtrace_replay.specs.Prepared.{prepared_text}
 use Rattle.mtrace_replay.proofs.no_heap.run.finish.Goals as goal
 
 pub returns-in_err-flush : goal.returns-in_err-flush
@@ -14,7 +14,7 @@ returns-in_err-flush g c =
     let put = c.in_ok-put_end.ensures in
     let p = err_from_is_err_and c.from_residual-in_err-flush.result c.from_residual-in_err-flush.ensures.1 in
     let P : List Diagnostic → Type 0 = λ diagnostics. Begins (writes c.args.writer.now) (writes c.flush.new.self)
-    (diagnostics_text diagnostics ++ ledger_report_text c.args.report c.args.replay.now.all (totals_of c.args.replay.now)) in
+    (diagnostics_text diagnostics ++ prepared_text c.args.replay.now c.args.prepared.now) in
     rw p.1 (record {
       all = tt;
       status = tt;
