@@ -55,3 +55,4 @@ mod LedgerLemmas
 mod LocationsLemmas
 mod ServedLemmas
 mod ServedRunLemmas
+mod ServedTimelineLemmas

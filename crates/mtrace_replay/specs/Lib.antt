@@ -38,3 +38,4 @@ pub mod Locations
 pub mod Served
 pub mod RunServed
 pub mod ServedTimeline
+pub mod RunServedTimeline

@@ -1,18 +1,26 @@
 //! The run that tells what is held over the lines of a log, without a heap.
 
-ghost use Rattle.std.specs.Prelude.{◌≡◌, ◌<◌, ◌≤◌, ◌++◌, List, [], flat_map, vec_capacity, length, IfOk};
+ghost use Rattle.std.specs.Prelude.{◌≡◌, ◌<◌, ◌≤◌, List, flat_map, length, IfOk};
 ghost use Rattle.std.specs.List.Sorted.{IsStrictlyIncreasing};
 ghost use Rattle.mtrace_log.specs.Output.{Puts};
+ghost use Rattle.mtrace_replay.specs.Moment.{ReadLine};
+ghost use Rattle.mtrace_replay.specs.Totals.{IsPeak};
 ghost use Rattle.mtrace_replay.specs.Timeline.{AreTold};
 ghost use Rattle.mtrace_replay.specs.Texts.{ledger_point_text, ledger_timeline_text};
+ghost use Rattle.mtrace_replay.specs.Served.{served_history};
 ghost use Rattle.mtrace_replay.specs.ServedTimeline.{ReadsLedgerPoints};
+ghost use Rattle.mtrace_replay.specs.RunServedTimeline.{ServedTimelineFollows, RunsServedTimeline};
 
 use super::again::follow_up_to;
 use super::point::{LedgerPoint, ledger_point};
 use super::replay::{LedgerReplay, LedgerTotals};
+use super::report::LedgerReport;
+use super::run::follow_log;
 use crate::findings::Findings;
+use crate::flush::flush_behind;
 use crate::line_text::{LineText, push_bytes, push_column, push_number};
-use crate::status::RunFault;
+use crate::status::{RunFault, Status};
+use crate::timeline::MOST_PARTS;
 use crate::told::tell_lines;
 use arrayvec::ArrayVec;
 use mtrace_log::{Again, Failed, Lines, Sink, put_all};
@@ -91,4 +99,64 @@ fn read_points<R: Again>(
     }
     lines.holds_few();
     Ok(points)
+}
+
+/// Reads the log again, and puts what was held after the lines that are told. Answers this status.
+fn tell_timeline<R: Again, W: Sink>(
+    alloc: Global,
+    reader: &mut R,
+    writer: &mut W,
+    totals: LedgerTotals,
+    parts: u32,
+    status: Status,
+) -> Result<Status, RunFault>
+    requires some { 0 < parts }
+    ensures answer { IfOk result (λ answered. answered ≡ status) }
+    ensures told { (lines : List ReadLine) → totals.lines ≡ length lines → IsPeak (served_history lines) totals.peak_bytes totals.peak_line
+        → ServedTimelineFollows parts lines R.shown W.shown result reader.old reader.new writer.old writer.new }
+{
+    let Ok(numbers) = told_lines(alloc, totals, parts) else {
+        return Err(RunFault::OutOfMemory);
+    };
+    let points = match read_points(alloc, reader, numbers.as_slice()) {
+        Ok(points) => points,
+        Err(fault) => return Err(fault),
+    };
+    let put = put_timeline(writer, points.as_slice());
+    flush_behind(writer, put, status)
+}
+
+/// Reads a log of mtrace(3) and follows it without a heap, and writes what is wrong with its lines, each as it comes. Then flushes
+/// the writer, reads the log again, and writes what was held over its lines. The log is cut into equal parts, `parts` of them.
+/// There is a point before the first line, after the line of the peak, and after the last line of each part. A point has the bytes
+/// and the blocks held. The writer is flushed once more.
+///
+/// Memory is taken in each reading for the addresses that are held and the locations that are named, and for the points. What the
+/// first reading held is given back before the second one.
+///
+/// # Errors
+///
+/// `BadSettings` where the parts aren't from 1 to 10,000: then nothing is read or written. `Read` where the reader failed, or line
+/// 2^64 would come: then what is wrong with the lines before is written. `Read` comes also where the reader doesn't begin again,
+/// fails then, or has fewer lines then. Then what is wrong with the lines is written, and no point. `OutOfMemory` where memory is
+/// refused: then what is wrong with the lines before is written, and no point. `Write` where the writer answered an error, took no
+/// byte of some, or failed a flush: then a beginning of the text is written.
+pub fn run_ledger_timeline<R: Again, W: Sink>(
+    alloc: Global,
+    reader: &mut R,
+    writer: &mut W,
+    parts: u32,
+) -> Result<Status, RunFault>
+    ensures { RunsServedTimeline parts R.shown W.shown result reader.old reader.new writer.old writer.new }
+{
+    if parts == 0 || parts > MOST_PARTS {
+        return Err(RunFault::BadSettings);
+    }
+    let ended = match follow_log(alloc, reader, writer, LedgerReport::Nothing) {
+        Ok(ended) => ended,
+        Err(fault) => return Err(fault),
+    };
+    let (totals, status) = (ended.replay.totals(), ended.status);
+    drop(ended);
+    tell_timeline(alloc, reader, writer, totals, parts, status)
 }

@@ -82,8 +82,9 @@ loop-number-preserved g c =
     let up : c.loop-number.lines.count ≤ c.follow_up_to.new.lines.count = omega (arith, kept.reached, up_to_next numbers index c.requires.rising c.loop-number-test.true, read.reached) in
     let next = read.following start kept.so_far.now in
     let G : List LedgerPoint → Type 0 = λ all. HasGathered (λ (one : LedgerPoint). one.line) IsPointOfLines all (IsServed replay) c.follow_up_to.new.lines start (reads c.follow_up_to.new.reader) in
+    let all_are : points ++ point ∷ [] ≡ c.push_reserved.new.self.items = sym items in
     record {
-      so_far = subst G (sym items) (gathered_more (λ (one : LedgerPoint). one.line) IsPointOfLines points point (IsServed c.loop-number.replay) (IsServed replay) c.loop-number.lines c.follow_up_to.new.lines
+      so_far = subst G all_are (gathered_more (λ (one : LedgerPoint). one.line) IsPointOfLines points point (IsServed c.loop-number.replay) (IsServed replay) c.loop-number.lines c.follow_up_to.new.lines
           start (reads c.loop-number.reader) (reads c.follow_up_to.new.reader) kept.so_far next kept.within (c.ledger_point.ensures.line ∙ read.counted)
           (c.ledger_point.ensures.point (reverse next.now.lines) next.now.stands));
       told = lines_more (λ (one : LedgerPoint). one.line) numbers index points point c.push_reserved.new.self.items kept.told items line c.loop-number-test.true;
