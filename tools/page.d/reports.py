@@ -6,7 +6,7 @@ import sys
 import tempfile
 from pathlib import Path
 
-# The greatest heap, on which timeline and sites replay a log where no option is given.
+# The greatest heap, on which a page is made where no option is given.
 GREATEST = {"pool": 1073741808, "pools": 1, "records": 65535}
 UNIT = 16
 KINDS = (b"too long", b"not a line", b" is not held", b" is already held", b" refused: ", b"half of a reallocation", b"no < before >")

@@ -1,6 +1,6 @@
 -- The first lines of a log, read and replayed.
-use Rattle.std.proofs.Common.{◌≡◌, ◌<◌, ◌≤◌, ◌∷◌, ℕ, List, length, refl, sym, subst, arith, ◌⊎◌, inl, inr}
-use Rattle.std.specs.Prelude.{Result, Ok, Err}
+use Rattle.std.proofs.Common.{◌≡◌, ◌<◌, ◌≤◌, ◌∷◌, ℕ, List, length, refl, sym, ap, subst, arith, ◌⊎◌, inl, inr}
+use Rattle.std.specs.Prelude.{Result, Ok, Err, IsErrOf}
 use Rattle.mtrace_log.specs.Progress.{Progress, Stage, Reading, Ended, Faulted, to_come, greatest_number, most_asked}
 use Rattle.mtrace_log.specs.Shown.{ReaderState}
 use Rattle.mtrace_log.specs.declared.call.Call.TheVariants.{Gave, Began}
@@ -10,16 +10,16 @@ use Rattle.mtrace_log.specs.HasRead.{HasRead, HasReadAll, HasReadSo}
 use Rattle.mtrace_log.specs.Event.{Event}
 use Rattle.mtrace_log.specs.declared.event.LineFault.{LineFault}
 use Rattle.mtrace_replay.specs.declared.settings.Settings.{Settings}
-use Rattle.mtrace_replay.specs.Replay.{Replayed}
+use Rattle.mtrace_replay.specs.Replay.{Replayed, StandsFor}
 use Rattle.mtrace_replay.specs.Run.{with_unused, FailedInPiece, IsPastLastNumber}
 use Rattle.mtrace_replay.specs.Again.{HasReadFirst, HasReplayedFirst, StopsEarly, ReplaysFirst, begun_again}
-use Rattle.mtrace_replay.specs.Replaying.{IsReplaying, ReplaysUpTo}
+use Rattle.mtrace_replay.specs.Replaying.{IsFollowed, IsReplaying, ReplaysUpTo}
 use Rattle.mtrace_replay.proofs.ReplayingLemmas.{used_to_end, no_line, replaying_start}
 
 -- what was read so far
-pub read_first : (settings : Settings) (progress : Progress) (replay : Replayed) (start now : ReaderState) → (so_far : IsReplaying settings progress replay start now)
+pub read_first : (Stands : List (Result Event LineFault) → Type 0) (progress : Progress) (start now : ReaderState) → (so_far : IsFollowed Stands progress start now)
     → length progress.held ≤ most_asked → HasReadFirst progress.count start.left now.left so_far.lines
-read_first settings progress replay start now so_far few = record { count = sym so_far.count; unused = progress.held; few = few; read = by_stage progress.stage refl so_far.read }
+read_first Stands progress start now so_far few = record { count = sym so_far.count; unused = progress.held; few = few; read = by_stage progress.stage refl so_far.read }
   where
     by_stage : (stage : Stage) → progress.stage ≡ stage → HasReadSo stage start.left (to_come progress now.left) so_far.lines
         → HasRead start.left (to_come progress now.left) so_far.lines ⊎ HasReadAll start.left now.left so_far.lines
@@ -33,15 +33,15 @@ pub first_at_most : (many : ℕ) (settings : Settings) (progress : Progress) (re
     → length progress.held ≤ most_asked → HasReplayedFirst many settings replay start.left now.left
 first_at_most many settings progress replay start now so_far all few = record {
   lines = so_far.lines;
-  read = subst (λ n. HasReadFirst n start.left now.left so_far.lines) all (read_first settings progress replay start now so_far few);
+  read = subst (λ n. HasReadFirst n start.left now.left so_far.lines) all (read_first (StandsFor replay settings) progress start now so_far few);
   stands = so_far.stands;
 }
 
 -- the text had no more lines
-pub ends_early : (many : ℕ) (settings : Settings) (progress : Progress) (replay : Replayed) (start before after : ReaderState)
-    → (so_far : IsReplaying settings progress replay start before) → progress.count < many → HasReadAll start.left after.left so_far.lines → HasGivenAll start.calls after.calls
+pub ends_early : (many : ℕ) (Stands : List (Result Event LineFault) → Type 0) (progress : Progress) (start before after : ReaderState)
+    → (so_far : IsFollowed Stands progress start before) → progress.count < many → HasReadAll start.left after.left so_far.lines → HasGivenAll start.calls after.calls
     → StopsEarly many start after
-ends_early many settings progress replay start before after so_far fewer all told =
+ends_early many Stands progress start before after so_far fewer all told =
     inr (record { lines = so_far.lines; fewer = omega (arith, so_far.count, fewer); read = all; told = told })
 
 -- before the last number a fault is the reader's
@@ -81,3 +81,7 @@ first_up_to many (Err failed) new replay_old replay_new reader_old reader_new wi
   whole = up.whole;
   records = up.records;
 }
+
+-- an error is the same, whatever would have been answered else
+pub other_result : {T U E : Type 0} (fault other : E) → IsErrOf {T = T} (Err fault) other → IsErrOf {T = U} (Err fault) other
+other_result fault other is = (let same : fault ≡ other = cc in ap Err same)

@@ -58,3 +58,4 @@ mod LedgerPeak
 mod LocationsLemmas
 mod ServedLemmas
 mod ServedRunLemmas
+mod ServedTimelineLemmas

@@ -15,7 +15,7 @@ use Rattle.mtrace_log.proofs.ReadLemmas.{HasRead-none, HasReadSo-line, HasReadSo
 use Rattle.mtrace_replay.specs.declared.settings.Settings.{Settings}
 use Rattle.mtrace_replay.specs.Replay.{Replayed, StandsFor}
 use Rattle.mtrace_replay.specs.Run.{with_unused, FailedInPiece, IsPastLastNumber}
-use Rattle.mtrace_replay.specs.Replaying.{IsFollowed, IsReplaying, GoesOn}
+use Rattle.mtrace_replay.specs.Replaying.{IsFollowed, IsFollowedOn, IsReplaying}
 
 pub prepend_nothing : (known : Bytes) → prepend_known [] known ≡ known
 prepend_nothing None = refl
@@ -68,27 +68,27 @@ replaying_line settings old new replay_old replay_new start before after line so
     followed_line (λ past. StandsFor replay_old settings past) (λ past. StandsFor replay_new settings past) old new start before after line so_far given stands
 
 -- so far nothing came behind
-abbrev pub going_on_none : (settings : Settings) (progress : Progress) (replay : Replayed) (start now : ReaderState) (so_far : IsReplaying settings progress replay start now)
-    → GoesOn settings so_far.lines progress replay start now
-going_on_none settings progress replay start now so_far = record { now = so_far; more = []; behind = sym (append-nil so_far.lines) }
+abbrev pub followed_on_none : (Stands : List (Result Event LineFault) → Type 0) (progress : Progress) (start now : ReaderState) (so_far : IsFollowed Stands progress start now)
+    → IsFollowedOn Stands so_far.lines progress start now
+followed_on_none Stands progress start now so_far = record { now = so_far; more = []; behind = sym (append-nil so_far.lines) }
 
 -- one line more came behind
-abbrev pub going_on : (settings : Settings) (old new : Progress) (replay_old replay_new : Replayed) (start before after : ReaderState) (line : Line)
-    → (so_far : IsReplaying settings old replay_old start before)
+abbrev pub followed_on_line : (Stood Stands : List (Result Event LineFault) → Type 0) (old new : Progress) (start before after : ReaderState) (line : Line)
+    → (so_far : IsFollowed Stood old start before)
     → GivesLine old new (to_come old before.left) (to_come new after.left) line
-    → StandsFor replay_new settings (line.event ∷ reverse so_far.lines)
-    → GoesOn settings so_far.lines new replay_new start after
-going_on settings old new replay_old replay_new start before after line so_far given stands = record {
-  now = replaying_line settings old new replay_old replay_new start before after line so_far given stands;
+    → Stands (line.event ∷ reverse so_far.lines)
+    → IsFollowedOn Stands so_far.lines new start after
+followed_on_line Stood Stands old new start before after line so_far given stands = record {
+  now = followed_line Stood Stands old new start before after line so_far given stands;
   more = line.event ∷ [];
   behind = refl;
 }
 
 -- what came behind, and then what came behind that
-abbrev pub going_on_further : (settings : Settings) (first : List (Result Event LineFault)) (old new : Progress) (replay_old replay_new : Replayed) (start before after : ReaderState)
-    → (so_far : GoesOn settings first old replay_old start before) → GoesOn settings so_far.now.lines new replay_new start after
-    → GoesOn settings first new replay_new start after
-going_on_further settings first old new replay_old replay_new start before after so_far later = record {
+abbrev pub followed_on_further : (Stood Stands : List (Result Event LineFault) → Type 0) (first : List (Result Event LineFault)) (old new : Progress) (start before after : ReaderState)
+    → (so_far : IsFollowedOn Stood first old start before) → IsFollowedOn Stands so_far.now.lines new start after
+    → IsFollowedOn Stands first new start after
+followed_on_further Stood Stands first old new start before after so_far later = record {
   now = later.now;
   more = so_far.more ++ later.more;
   behind = later.behind ∙ ap (λ lines. lines ++ later.more) so_far.behind ∙ append_assoc first so_far.more later.more;

@@ -1,5 +1,5 @@
 -- A run that reads its log again.
-use Rattle.std.proofs.Common.{◌≡◌, ℕ, List, refl, inr}
+use Rattle.std.proofs.Common.{rules, ◌≡◌, ◌≢◌, ◌≤◌, ℕ, List, true, refl, inr}
 use Rattle.std.proofs.lemmas.Result.{IfErr-weaker}
 use Rattle.std.specs.Prelude.{◌↔◌, Result, Ok, Err, IfErr, IsErrOf, IsTrue}
 use Rattle.mtrace_log.specs.Shown.{Bytes, ReaderState, WriterState}
@@ -11,6 +11,7 @@ use Rattle.mtrace_replay.specs.declared.status.RunFault.TheVariants.{Read, Write
 use Rattle.mtrace_replay.specs.Settings.{are_bad}
 use Rattle.mtrace_replay.specs.Moment.{ReadLine}
 use Rattle.mtrace_replay.specs.Run.{RunEnds}
+use Rattle.mtrace_replay.specs.Timeline.{is_bad_parts}
 use Rattle.mtrace_replay.specs.Saving.{PutsAndFlushes}
 use Rattle.mtrace_replay.specs.Again.{Follows, RunsAgain}
 
@@ -44,3 +45,7 @@ module _ {R W : Type 0} (Tells : Bytes → List ℕ → Type 0) (HasWorked Fails
     read_fault = λ is. absurd (never_read result only is);
     nothing_put = λ is. absurd (never_read result only is);
   }
+
+-- this many parts are not bad
+pub not_bad : (parts : ℕ) → parts ≢ 0 → parts ≤ 10000 → is_bad_parts parts ≡ true → ⊥
+not_bad parts some few bad = search rules

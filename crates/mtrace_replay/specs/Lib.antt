@@ -38,3 +38,5 @@ pub mod Ledger
 pub mod Locations
 pub mod Served
 pub mod RunServed
+pub mod ServedTimeline
+pub mod RunServedTimeline

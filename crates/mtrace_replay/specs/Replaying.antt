@@ -23,11 +23,15 @@ pub record IsFollowed (Stands : List (Result Event LineFault) → Type 0) (progr
 abbrev pub IsReplaying : (settings : Settings) (progress : Progress) (replay : Replayed) (reader_start reader_now : ReaderState) → Type 0
 IsReplaying settings progress replay reader_start reader_now = IsFollowed (λ past. StandsFor replay settings past) progress reader_start reader_now
 
--- the lines so far, and more behind these, were read and replayed
-pub record GoesOn (settings : Settings) (before : List (Result Event LineFault)) (progress : Progress) (replay : Replayed) (reader_start reader_now : ReaderState) : Type 0 where
-  pub now : IsReplaying settings progress replay reader_start reader_now
+-- the lines before, and more behind these, were read, and this holds of them all, the latest first
+pub record IsFollowedOn (Stands : List (Result Event LineFault) → Type 0) (before : List (Result Event LineFault)) (progress : Progress) (reader_start reader_now : ReaderState) : Type 0 where
+  pub now : IsFollowed Stands progress reader_start reader_now
   pub more : List (Result Event LineFault)
   pub behind : now.lines ≡ before ++ more
+
+-- the lines so far, and more behind these, were read and replayed
+abbrev pub GoesOn : (settings : Settings) (before : List (Result Event LineFault)) (progress : Progress) (replay : Replayed) (reader_start reader_now : ReaderState) → Type 0
+GoesOn settings before progress replay reader_start reader_now = IsFollowedOn (λ past. StandsFor replay settings past) before progress reader_start reader_now
 
 -- since the start the reader gave pieces, as many as this stage has, and perhaps told its end
 abbrev pub HasGivenSo : Stage → (start now : ReaderState) → Type 0

@@ -1,5 +1,5 @@
 -- What a run leaves that tells what is held over the lines of a log.
-use Rattle.std.specs.Prelude.{◌≡◌, ℕ, ◌+◌, ◌≤◌, true, false, List, [], take, Vec, vec_capacity, Result, Err, OnOk, OnErr}
+use Rattle.std.specs.Prelude.{◌≡◌, ℕ, ◌+◌, ◌≤◌, true, false, List, [], map, take, Vec, vec_capacity, Result, Err, OnOk, OnErr}
 use Rattle.std.specs.List.{All}
 use Rattle.mtrace_log.specs.Shown.{Bytes, ReaderState, WriterState}
 use Rattle.mtrace_log.specs.Trace.{HasNotFailed}
@@ -60,11 +60,16 @@ pub record HasRoom {N P : Type 0} (parts : ℕ) (numbers : Vec ℕ N) (points : 
   pub points_room : parts + 2 ≤ vec_capacity points
 
 -- Lines were read again, up to the greatest of these numbers. There is a point for each number, of the first of these lines.
-pub record HasPoints (settings : Settings) (numbers : List ℕ) (points : List Point) (whole left : Bytes) : Type 0 where
+pub record HasPointsOf {P : Type 0} (line_of : P → ℕ) (Is : List ReadLine → P → Type 0) (numbers : List ℕ) (points : List P) (whole left : Bytes) : Type 0 where
   pub again : List ReadLine
   pub read : HasReadFirst (greatest numbers) whole left again
-  pub told : lines_of points ≡ numbers
-  pub exact : All (λ point. IsPoint (started settings) (history settings (take point.line again)) point) points
+  pub told : map line_of points ≡ numbers
+  pub exact : All (λ point. Is (take (line_of point) again) point) points
+
+-- the same of points on a heap
+abbrev pub HasPoints : (settings : Settings) (numbers : List ℕ) (points : List Point) (whole left : Bytes) → Type 0
+HasPoints settings numbers points whole left =
+    HasPointsOf (λ point. point.line) (λ first point. IsPoint (started settings) (history settings first) point) numbers points whole left
 
 -- What a call leaves that reads the log again, and gathers a point for each of these numbers. Or the reader failed, or has fewer
 -- lines than one of them.

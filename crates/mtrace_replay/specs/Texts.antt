@@ -8,6 +8,7 @@ use Rattle.tlsf_heap.specs.declared.row.Row.{Row}
 use Rattle.tlsf_heap.specs.Content.{Pool, blocks_of, is_free}
 use Rattle.tlsf_heap.specs.Rows.{row_of}
 use Rattle.mtrace_replay.specs.Entry.{Entry}
+use Rattle.mtrace_replay.specs.declared.no_heap.point.LedgerPoint.{LedgerPoint}
 use Rattle.mtrace_replay.specs.declared.no_heap.replay.LedgerTotals.{LedgerTotals}
 use Rattle.mtrace_replay.specs.declared.report.Report.{Report}
 use Rattle.mtrace_replay.specs.declared.report.Report.TheVariants.{Leaks, Peak, Walk, Nothing}
@@ -224,6 +225,18 @@ point_text point =
 -- a line for each point below their words, and how many lines were refused, where some were
 abbrev pub timeline_text : List Point → (refused : ℕ) → List ℕ
 timeline_text points refused = timeline_words ++ flat_map point_text points ++ refused_line refused
+
+-- the words above the points where there is no heap
+abbrev pub ledger_timeline_words : List ℕ
+ledger_timeline_words = codes "line bytes blocks" ++ newline ∷ []
+
+-- `LINE BYTES BLOCKS`, one line
+abbrev pub ledger_point_text : LedgerPoint → List ℕ
+ledger_point_text point = decimal point.line ++ column point.bytes ++ column point.blocks ++ newline ∷ []
+
+-- a line for each point below their words
+abbrev pub ledger_timeline_text : List LedgerPoint → List ℕ
+ledger_timeline_text points = ledger_timeline_words ++ flat_map ledger_point_text points
 
 -- the text of a report
 abbrev pub report_text : Report → List Entry → Totals → Bare → List ℕ

@@ -352,12 +352,12 @@ pub(crate) fn pool_text(base: u64, bytes: u64) -> LineText
 }
 
 /// Appends a number behind a blank.
-fn push_column(text: &mut LineText, number: u64)
+pub(crate) fn push_column(text: &mut LineText, number: u128)
     requires { array_vec_len text.old + 41 ≤ LONGEST_TEXT }
     ensures { Appends (column number) 41 text.old text.new }
 {
     push_bytes(text, b" ");
-    push_number(text, u128::from(number));
+    push_number(text, number);
 }
 
 /// The line of a point.
@@ -366,11 +366,11 @@ pub(crate) fn point_text(point: &Point) -> LineText
 {
     let mut text = ArrayVec::new();
     push_number(&mut text, u128::from(point.line));
-    push_column(&mut text, point.bytes);
-    push_column(&mut text, point.blocks);
-    push_column(&mut text, point.reach);
-    push_column(&mut text, point.free);
-    push_column(&mut text, point.largest);
+    push_column(&mut text, u128::from(point.bytes));
+    push_column(&mut text, u128::from(point.blocks));
+    push_column(&mut text, u128::from(point.reach));
+    push_column(&mut text, u128::from(point.free));
+    push_column(&mut text, u128::from(point.largest));
     push_bytes(&mut text, b"\n");
     text
 }

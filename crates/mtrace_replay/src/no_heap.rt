@@ -1,10 +1,13 @@
 //! A log replayed without a heap: what is held, of any number of blocks.
 
+mod again;
 pub(crate) mod ledger;
 mod line;
 mod locations;
+pub(crate) mod point;
 pub(crate) mod prepared;
 pub(crate) mod replay;
 pub(crate) mod report;
 pub(crate) mod run;
 pub(crate) mod shares;
+pub(crate) mod timeline;

@@ -25,7 +25,7 @@ use std::alloc::{AllocError, Global};
 use tlsf_heap::Heap;
 
 /// The greatest number of parts.
-const MOST_PARTS: u32 = 10_000;
+pub(crate) const MOST_PARTS: u32 = 10_000;
 
 /// Puts a line for each point.
 fn put_points<W: Sink>(writer: &mut W, points: &[Point]) -> Result<(), Failed>

@@ -2,7 +2,7 @@
 use Rattle.std.proofs.Common.{◌≡◌, ◌∙◌, ◌⊎◌, ◌<◌, ◌^◌, ◌||◌, ℕ, List, [], Option, Some, None, Result, Ok, Err, Bool, inl, inr, refl, sym, ap, subst, true, false, codes}
 use Rattle.std.proofs.lemmas.Bool.{false≢true}
 use Rattle.std.proofs.lemmas.Slice.Eq.{bytes_eq-Decides}
-use Rattle.std.specs.Prelude.{MatchBool, String, bytes_eq, string_bytes}
+use Rattle.std.specs.Prelude.{MatchBool, IfSome, String, bytes_eq, string_bytes}
 use Rattle.std.specs.Result.{IsErrAnd}
 use Rattle.std.specs.declared.alloc.Global.{Global}
 use Rattle.std.specs.Str.Parse.{ParsesUnsigned, digits_value, without_leading_plus}
@@ -19,7 +19,7 @@ use Rattle.clap.proofs.OnLiterals.{clap_on_literals}
 use Rattle.clap.proofs.WalkLemmas.{one_text-rows}
 use Rattle.mtrace_replay.specs.declared.settings.Settings.{Settings}
 use Rattle.mtrace_replay.specs.declared.no_heap.report.LedgerReport.{LedgerReport}
-use Rattle.mtrace_replay.specs.declared.no_heap.report.LedgerReport.TheVariants.{Held, Sums}
+use Rattle.mtrace_replay.specs.declared.no_heap.report.LedgerReport.TheVariants.{Held, Sums, Nothing}
 use Rattle.mtrace_replay.specs.declared.size.Bounds.{Bounds}
 use Rattle.mtrace_replay.specs.declared.status.RunFault.TheVariants.{OutOfMemory}
 use Rattle.tlsf_tool.specs.declared.asked.Command.{Command}
@@ -29,7 +29,7 @@ use Rattle.tlsf_tool.specs.declared.asked.Name.{Name}
 use Rattle.tlsf_tool.specs.declared.asked.Name.TheVariants.{Leaks, Peak, Walk}
 use Rattle.tlsf_tool.specs.declared.asked.ToolFault.{ToolFault}
 use Rattle.tlsf_tool.specs.declared.asked.ToolFault.TheVariants.{Help, Usage, CannotOpen, InputIsOutput, ImageIsOutput, ReadsOnce, ReadsFileOnce, Run}
-use Rattle.tlsf_tool.specs.CommandLine.{IsArgOf, IsCommandOf, given_rule, AskFor, HasNumber, HasSettings, HasBounds, HasNoLog, MatchesAskFor, bare_line, report_line, ledger_line, HasNoHeap, default_settings, follow_name, great_line, timeline_line, fit_line, size_line, save_line, check_line, name_text, texts_of, tlsf_line, wrong_with}
+use Rattle.tlsf_tool.specs.CommandLine.{IsArgOf, IsCommandOf, given_rule, AskFor, HasNumber, HasNone, HasSettings, HasBounds, HasNoLog, MatchesAskFor, bare_line, report_line, ledger_line, HasNoHeap, default_settings, great_line, timeline_line, fit_line, size_line, save_line, check_line, name_text, texts_of, tlsf_line, wrong_with}
 use Rattle.tlsf_tool.specs.Faults.{ExplainsKind, ExplainsWords, IsUsage}
 use Rattle.tlsf_tool.specs.Asks.{Asks, Picks}
 
@@ -110,9 +110,11 @@ no_such one text none some = let e : None ≡ Some text = sym none ∙ some in c
 -- the subcommand of a command
 abbrev subcommand_text : Command → Text
 subcommand_text (Report name settings log) = name_text name
-subcommand_text (Follow report log) = name_text (follow_name report)
+subcommand_text (Follow Held log) = codes "leaks"
+subcommand_text (Follow Sums log) = codes "peak"
+subcommand_text (Follow Nothing log) = []
 subcommand_text (Reread (Sites settings) log) = codes "sites"
-subcommand_text (Reread (Timeline settings parts) log) = codes "timeline"
+subcommand_text (Reread (Timeline heap parts) log) = codes "timeline"
 subcommand_text (Reread (Fit step) log) = codes "fit"
 subcommand_text (Size bounds) = codes "size"
 subcommand_text (Save settings log image) = codes "save"
@@ -120,9 +122,11 @@ subcommand_text (Check image) = codes "check"
 
 asked_under : (found : Text × List Row) (command : Command) → MatchesAskFor (Some found) command → found.0 ≡ subcommand_text command
 asked_under found (Report name settings log) asks = asks.0
-asked_under found (Follow report log) asks = asks.0
+asked_under found (Follow Held log) asks = asks.0
+asked_under found (Follow Sums log) asks = asks.0
+asked_under found (Follow Nothing log) asks = absurd asks.0
 asked_under found (Reread (Sites settings) log) asks = asks.0
-asked_under found (Reread (Timeline settings parts) log) asks = asks.0
+asked_under found (Reread (Timeline heap parts) log) asks = asks.0
 asked_under found (Reread (Fit step) log) asks = asks.0
 asked_under found (Size bounds) asks = asks.0
 asked_under found (Save settings log image) asks = asks.0
@@ -143,7 +147,7 @@ module _ (rows : List Row) where
   IsMissing text = MatchBool (bytes_eq text (codes "check")) (first_of (codes "IMAGE") rows ≡ None)
       (MatchBool (bytes_eq text (codes "size")) ((bounds : Bounds) → HasBounds rows bounds → ⊥)
       (MatchBool (bytes_eq text (codes "fit")) (first_of (codes "LOG") rows ≡ None)
-      (MatchBool (bytes_eq text (codes "timeline")) (HasNoParts ⊎ HasNoLog rows)
+      (MatchBool (bytes_eq text (codes "timeline")) (HasNoParts ⊎ (first_of (codes "LOG") rows ≡ None))
       (MatchBool (bytes_eq text (codes "save")) (HasNoLog rows ⊎ (first_of (codes "IMAGE") rows ≡ None))
       (MatchBool (bytes_eq text (codes "sites")) (HasNoLog rows)
       (MatchBool (bytes_eq text (codes "walk")) (HasNoLog rows ⊎ HasNoHeap rows) (HasNoLog rows ⊎ HasTooMuch)))))))
@@ -163,9 +167,10 @@ module _ (rows : List Row) where
   has_all text (Follow Held log) asks (inr much) = much.1 asks.2
   has_all text (Follow Sums log) asks (inl missing) = no_log default_settings log missing asks.2 asks.3
   has_all text (Follow Sums log) asks (inr much) = much.1 asks.2
+  has_all text (Follow Nothing log) asks missing = asks.0
   has_all text (Reread (Sites settings) log) asks missing = no_log settings log missing asks.1 asks.2
-  has_all text (Reread (Timeline settings parts) log) asks (inl never) = never parts asks.2
-  has_all text (Reread (Timeline settings parts) log) asks (inr missing) = no_log settings log missing asks.1 asks.3
+  has_all text (Reread (Timeline heap parts) log) asks (inl never) = never parts asks.2
+  has_all text (Reread (Timeline heap parts) log) asks (inr none) = no_such (first_of (codes "LOG") rows) (string_bytes log) none asks.3
   has_all text (Reread (Fit step) log) asks none = no_such (first_of (codes "LOG") rows) (string_bytes log) none asks.2
   has_all text (Size bounds) asks never = never bounds asks.1
   has_all text (Save settings log image) asks (inl missing) = no_log settings log missing asks.1 asks.2
@@ -179,6 +184,10 @@ module _ (rows : List Row) where
   report_asks_nothing Leaks missing = text_asks_nothing (codes "leaks") (inl missing)
   report_asks_nothing Peak missing = text_asks_nothing (codes "peak") (inl missing)
   report_asks_nothing Walk missing = text_asks_nothing (codes "walk") (inl missing)
+
+  -- a number that is there is given
+  pub given_number : (id : Text) (bits : ℕ) (found : Option ℕ) (n : ℕ) → Picks (HasNumber rows id bits) found → found ≡ Some n → HasNone rows id bits → ⊥
+  given_number id bits found n picks is none = none n (subst (λ (o : Option ℕ). IfSome o (HasNumber rows id bits)) is picks.given)
 
   -- two numbers of one id are one
   one_number : (id : Text) (bits n m : ℕ) → HasNumber rows id bits n → HasNumber rows id bits m → n ≡ m
@@ -195,10 +204,11 @@ module _ (rows : List Row) where
       let S : ℕ → ℕ → ℕ → Settings = λ pool pools records. record { pool = pool; pools = pools; records = records } in
       ap (λ (n : ℕ). S n settings.pools settings.records) pool ∙ ap (λ (n : ℕ). S other.pool n settings.records) pools ∙ ap (λ (n : ℕ). S other.pool other.pools n) records
 
-  pub follow_asks_nothing : (report : LedgerReport) (settings : Settings) → HasNoHeap rows → HasSettings rows settings → (settings ≡ default_settings → ⊥)
-      → AsksNothing (Some (name_text (follow_name report), rows))
-  follow_asks_nothing Held settings without has other = text_asks_nothing (codes "leaks") (inr (without, λ default. other (one_heap settings default_settings has default)))
-  follow_asks_nothing Sums settings without has other = text_asks_nothing (codes "peak") (inr (without, λ default. other (one_heap settings default_settings has default)))
+  pub follow_asks_nothing : (name : Name) (settings : Settings) → HasNoHeap rows → HasSettings rows settings → (settings ≡ default_settings → ⊥)
+      → AsksNothing (Some (name_text name, rows))
+  follow_asks_nothing Leaks settings without has other = text_asks_nothing (codes "leaks") (inr (without, λ default. other (one_heap settings default_settings has default)))
+  follow_asks_nothing Peak settings without has other = text_asks_nothing (codes "peak") (inr (without, λ default. other (one_heap settings default_settings has default)))
+  follow_asks_nothing Walk settings without has other = text_asks_nothing (codes "walk") (inr without)
 
   pub no_heap_read : (text : Text) (result : Bool) → first_of (codes "no-heap") rows ≡ Some text → result ≡ bytes_eq text (codes "true")
       → MatchBool result (HasNoHeap rows) (HasNoHeap rows → ⊥)
@@ -217,7 +227,7 @@ module _ (rows : List Row) where
   pub sites_asks_nothing : HasNoLog rows → AsksNothing (Some (codes "sites", rows))
   sites_asks_nothing missing = text_asks_nothing (codes "sites") missing
 
-  pub timeline_asks_nothing : HasNoParts ⊎ HasNoLog rows → AsksNothing (Some (codes "timeline", rows))
+  pub timeline_asks_nothing : HasNoParts ⊎ (first_of (codes "LOG") rows ≡ None) → AsksNothing (Some (codes "timeline", rows))
   timeline_asks_nothing missing = text_asks_nothing (codes "timeline") missing
 
   pub size_asks_nothing : ((bounds : Bounds) → HasBounds rows bounds → ⊥) → AsksNothing (Some (codes "size", rows))

@@ -13,7 +13,7 @@ use Rattle.clap.specs.declared.builder.value_parser.ValueParser.TheVariants as p
 use Rattle.tlsf_class.specs.Classes.{unit, greatest_size}
 use Rattle.mtrace_replay.specs.declared.settings.Settings.{Settings}
 use Rattle.mtrace_replay.specs.declared.no_heap.report.LedgerReport.{LedgerReport}
-use Rattle.mtrace_replay.specs.declared.no_heap.report.LedgerReport.TheVariants.{Held, Sums}
+use Rattle.mtrace_replay.specs.declared.no_heap.report.LedgerReport.TheVariants.{Held, Sums, Nothing}
 use Rattle.mtrace_replay.specs.declared.size.Bounds.{Bounds}
 use Rattle.tlsf_tool.specs.declared.asked.Command.{Command}
 use Rattle.tlsf_tool.specs.declared.asked.Command.TheVariants.{Report, Follow, Reread, Size, Save, Check}
@@ -71,8 +71,17 @@ great_line = heap_line (codes "1073741808") (codes "65535")
 abbrev pub ledger_line : Text → App
 ledger_line name = with_rule (report_line name) (flag_rule (codes "no-heap"))
 
+-- a subcommand that takes a log, and a heap's settings where one is asked for
+abbrev pub choice_line : Text → App
+choice_line name =
+    with_rule (with_rule (with_rule (with_rule (new_app name)
+    (given_rule (codes "pool") (parser.Unsigned unit greatest_size)))
+    (given_rule (codes "pools") (parser.Signed (pos 1) (pos 8))))
+    (given_rule (codes "records") (parser.Signed (pos 1) (pos 65535))))
+    (word_rule (codes "LOG"))
+
 abbrev pub timeline_line : App
-timeline_line = with_rule (great_line (codes "timeline")) (option_rule (codes "points") (codes "100") (parser.Signed (pos 1) (pos 10000)))
+timeline_line = with_rule (choice_line (codes "timeline")) (option_rule (codes "points") (codes "100") (parser.Signed (pos 1) (pos 10000)))
 
 abbrev pub fit_line : App
 fit_line = with_rule (with_rule (new_app (codes "fit")) (given_rule (codes "step") (parser.Unsigned unit greatest_size))) (word_rule (codes "LOG"))
@@ -125,6 +134,24 @@ abbrev pub HasSettings : List Row → Settings → Type 0
 HasSettings rows settings = HasNumber rows (codes "pool") 64 settings.pool
     × HasNumber rows (codes "pools") 32 settings.pools × HasNumber rows (codes "records") 32 settings.records
 
+-- there is no number of this id
+abbrev pub HasNone : List Row → Text → ℕ → Type 0
+HasNone rows id bits = (n : ℕ) → HasNumber rows id bits n → ⊥
+
+-- the value of this id, or else this number
+abbrev pub HasOr : List Row → Text → (bits other n : ℕ) → Type 0
+HasOr rows id bits other n = HasNumber rows id bits n ⊎ (HasNone rows id bits × (n ≡ other))
+
+-- no setting of a heap is given
+abbrev pub HasNoSetting : List Row → Type 0
+HasNoSetting rows = HasNone rows (codes "pool") 64 × HasNone rows (codes "pools") 32 × HasNone rows (codes "records") 32
+
+-- the heap that is asked for, where a setting of one is given: for each of the others that of the greatest heap is taken
+abbrev pub HasHeap : List Row → Option Settings → Type 0
+HasHeap rows None = HasNoSetting rows
+HasHeap rows (Some settings) = (HasNoSetting rows → ⊥) × HasOr rows (codes "pool") 64 1073741808 settings.pool
+    × HasOr rows (codes "pools") 32 1 settings.pools × HasOr rows (codes "records") 32 65535 settings.records
+
 -- the option is there that asks for no heap
 abbrev pub HasNoHeap : List Row → Type 0
 HasNoHeap rows = first_of (codes "no-heap") rows ≡ Some (codes "true")
@@ -133,10 +160,11 @@ HasNoHeap rows = first_of (codes "no-heap") rows ≡ Some (codes "true")
 abbrev pub default_settings : Settings
 default_settings = record { pool = 16777216; pools = 1; records = 8192 }
 
--- the name of a report without a heap
-abbrev pub follow_name : LedgerReport → Name
-follow_name Held = Leaks
-follow_name Sums = Peak
+-- this subcommand's text is that of a report without a heap; none is of no report
+abbrev pub IsOfReport : LedgerReport → Text → Type 0
+IsOfReport Held text = text ≡ codes "leaks"
+IsOfReport Sums text = text ≡ codes "peak"
+IsOfReport Nothing text = ⊥
 
 -- the value of this id, where there is a number of it
 abbrev pub HasGiven : List Row → Text → Option ℕ → Type 0
@@ -157,12 +185,12 @@ abbrev pub MatchesAskFor : Option (Text × List Row) → Command → Type 0
 MatchesAskFor None command = ⊥
 MatchesAskFor (Some found) (Report name settings log) = (found.0 ≡ name_text name) × (HasNoHeap found.1 → ⊥)
     × HasSettings found.1 settings × (first_of (codes "LOG") found.1 ≡ Some (string_bytes log))
-MatchesAskFor (Some found) (Follow report log) = (found.0 ≡ name_text (follow_name report)) × HasNoHeap found.1
+MatchesAskFor (Some found) (Follow report log) = IsOfReport report found.0 × HasNoHeap found.1
     × HasSettings found.1 default_settings × (first_of (codes "LOG") found.1 ≡ Some (string_bytes log))
 MatchesAskFor (Some found) (Reread (Sites settings) log) = (found.0 ≡ codes "sites")
     × HasSettings found.1 settings × (first_of (codes "LOG") found.1 ≡ Some (string_bytes log))
-MatchesAskFor (Some found) (Reread (Timeline settings parts) log) = (found.0 ≡ codes "timeline")
-    × HasSettings found.1 settings × HasNumber found.1 (codes "points") 32 parts × (first_of (codes "LOG") found.1 ≡ Some (string_bytes log))
+MatchesAskFor (Some found) (Reread (Timeline heap parts) log) = (found.0 ≡ codes "timeline")
+    × HasHeap found.1 heap × HasNumber found.1 (codes "points") 32 parts × (first_of (codes "LOG") found.1 ≡ Some (string_bytes log))
 MatchesAskFor (Some found) (Reread (Fit step) log) = (found.0 ≡ codes "fit") × HasGiven found.1 (codes "step") step × (first_of (codes "LOG") found.1 ≡ Some (string_bytes log))
 MatchesAskFor (Some found) (Size bounds) = (found.0 ≡ codes "size") × HasBounds found.1 bounds
 MatchesAskFor (Some found) (Save settings log image) = (found.0 ≡ codes "save")

@@ -1,8 +1,9 @@
 -- The statuses that the program ends with.
-use Rattle.std.specs.Prelude.{◌≡◌, ◌≤◌, ◌⊎◌, ℕ, List, Result, Ok, Err}
+use Rattle.std.specs.Prelude.{◌≡◌, ◌≤◌, ◌⊎◌, ℕ, List, Option, Some, None, Result, Ok, Err}
 use Rattle.mtrace_log.specs.Shown.{ReaderState, WriterState}
 use Rattle.mtrace_replay.specs.RunSites.{RunsSites}
 use Rattle.mtrace_replay.specs.RunTimeline.{RunsTimeline}
+use Rattle.mtrace_replay.specs.RunServedTimeline.{RunsServedTimeline}
 use Rattle.mtrace_replay.specs.RunFit.{RunsFit}
 use Rattle.mtrace_replay.specs.Saving.{PutsAndFlushes}
 use Rattle.tlsf_tool.specs.declared.asked.Rereading.{Rereading}
@@ -56,7 +57,9 @@ abbrev pub Rereads : {R W : Type 0} → Rereading → (reads : R → ReaderState
     → Result Status RunFault → (reader_old reader_new : R) (writer_old writer_new : W) → Type 0
 Rereads (Sites settings) reads writes outcome reader_old reader_new writer_old writer_new =
     RunsSites settings reads writes outcome reader_old reader_new writer_old writer_new
-Rereads (Timeline settings parts) reads writes outcome reader_old reader_new writer_old writer_new =
+Rereads (Timeline None parts) reads writes outcome reader_old reader_new writer_old writer_new =
+    RunsServedTimeline parts reads writes outcome reader_old reader_new writer_old writer_new
+Rereads (Timeline (Some settings) parts) reads writes outcome reader_old reader_new writer_old writer_new =
     RunsTimeline settings parts reads writes outcome reader_old reader_new writer_old writer_new
 Rereads (Fit step) reads writes outcome reader_old reader_new writer_old writer_new =
     RunsFit step reads writes outcome reader_old reader_new writer_old writer_new

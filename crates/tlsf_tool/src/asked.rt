@@ -26,8 +26,8 @@ pub enum Rereading {
     Sites(Settings),
     /// What is held over the lines of the log. It reads the log twice.
     Timeline {
-        /// The heap that the log is replayed on.
-        settings: Settings,
+        /// The heap that the log is replayed on, where one is asked for.
+        heap: Option<Settings>,
         /// In how many equal parts the log is cut.
         parts: u32,
     },

@@ -2,8 +2,9 @@
 
 ghost use Rattle.std.specs.Prelude.{◌≡◌, IfOk, codes, pos};
 ghost use Rattle.clap.specs.declared.builder.value_parser.ValueParser.TheVariants.{Signed, Unsigned};
+ghost use Rattle.tlsf_class.specs.Classes.{unit, greatest_size};
 ghost use Rattle.clap.specs.Words.{App, app_of, new_app, with_subcommand};
-ghost use Rattle.tlsf_tool.specs.CommandLine.{IsArgOf, IsCommandOf, given_rule, flag_rule, word_rule, heap_line, report_line, ledger_line, great_line, timeline_line, fit_line, size_line, save_line, check_line, bare_line, tlsf_line};
+ghost use Rattle.tlsf_tool.specs.CommandLine.{IsArgOf, IsCommandOf, given_rule, flag_rule, word_rule, heap_line, report_line, ledger_line, great_line, choice_line, timeline_line, fit_line, size_line, save_line, check_line, bare_line, tlsf_line};
 
 use clap::builder::ValueParser;
 use clap::{Arg, ArgAction, Command, value_parser};
@@ -74,10 +75,11 @@ const SITES: Help = Help {
 };
 
 const TIMELINE: Help = Help {
-    about: "Reports what is held over the lines of the log: bytes, blocks, how far they reach, and what is free. LOG is read twice.",
+    about: "Reports what is held over the lines of the log: bytes and blocks. With an option of a heap, also how far they reach there and what is free. LOG is read twice.",
     examples: "Examples:
   tlsf timeline a.log                           what a.log holds, at some 100 of its lines
-  tlsf timeline --points 1000 a.log             the same at some 1000 lines",
+  tlsf timeline --points 1000 a.log             the same at some 1000 lines
+  tlsf timeline --pools 1 a.log                 the same on a heap of the greatest size",
 };
 
 const FIT: Help = Help {
@@ -107,6 +109,21 @@ const CHECK: Help = Help {
   tlsf check a.image                               whether a.image can be loaded
   tlsf save a.log a.image; tlsf check a.image      whether it was written well",
 };
+
+const POOL: &str = "Bytes of each pool, a multiple of 16 from 16 to 1073741808";
+
+const POOLS: &str = "Number of pools, from 1 to 8; together they end at 4294967296 bytes at most";
+
+const RECORDS: &str = "Number of records, one for each block, from the number of pools to 65535";
+
+const CHOSEN_POOL: &str =
+    "On a heap: bytes of each pool, a multiple of 16 from 16 to 1073741808, else 1073741808";
+
+const CHOSEN_POOLS: &str =
+    "On a heap: number of pools, from 1 to 8, else 1; together they end at 4294967296 bytes at most";
+
+const CHOSEN_RECORDS: &str =
+    "On a heap: number of records, one for each block, from the number of pools to 65535, else 65535";
 
 /// The option of this id, whose value the parser takes.
 fn option<'a>(
@@ -176,6 +193,27 @@ fn subcommand<'a>(alloc: Global, name: &'a str, help: Help) -> Command<'a>
         .after_help(help.examples)
 }
 
+/// The option of the bytes of each pool.
+fn pool_option<'a>(alloc: Global, help: &'a str) -> Arg<'a>
+    ensures { IsArgOf (given_rule (codes "pool") (Unsigned unit greatest_size)) result }
+{
+    option(alloc, "pool", "BYTES", bytes(UNIT, GREATEST_SIZE), help)
+}
+
+/// The option of the number of pools.
+fn pools_option<'a>(alloc: Global, help: &'a str) -> Arg<'a>
+    ensures { IsArgOf (given_rule (codes "pools") (Signed (pos 1) (pos 8))) result }
+{
+    option(alloc, "pools", "K", count(8), help)
+}
+
+/// The option of the number of records.
+fn records_option<'a>(alloc: Global, help: &'a str) -> Arg<'a>
+    ensures { IsArgOf (given_rule (codes "records") (Signed (pos 1) (pos 65535))) result }
+{
+    option(alloc, "records", "N", count(65_535), help)
+}
+
 /// A subcommand that takes a heap's settings and a log, with these defaults of a pool's bytes and of the records.
 fn heap_command<'a>(
     alloc: Global,
@@ -186,20 +224,21 @@ fn heap_command<'a>(
 ) -> Result<Command<'a>, AllocError>
     ensures { IfOk result (IsCommandOf (heap_line pool.entry.now records.entry.now name.entry.now)) }
 {
-    let bytes_of_each = "Bytes of each pool, a multiple of 16 from 16 to 1073741808";
-    let number = "Number of pools, from 1 to 8; together they end at 4294967296 bytes at most";
-    let records_of_all = "Number of records, one for each block, from the number of pools to 65535";
     subcommand(alloc, name, help)
-        .arg(option(
-            alloc,
-            "pool",
-            "BYTES",
-            bytes(UNIT, GREATEST_SIZE),
-            bytes_of_each,
-        )
-        .default_value(pool))?
-        .arg(option(alloc, "pools", "K", count(8), number).default_value("1"))?
-        .arg(option(alloc, "records", "N", count(65_535), records_of_all).default_value(records))?
+        .arg(pool_option(alloc, POOL).default_value(pool))?
+        .arg(pools_option(alloc, POOLS).default_value("1"))?
+        .arg(records_option(alloc, RECORDS).default_value(records))?
+        .arg(log_word(alloc))
+}
+
+/// A subcommand that takes a log, and a heap's settings where one is asked for.
+fn choice_command<'a>(alloc: Global, name: &'a str, help: Help) -> Result<Command<'a>, AllocError>
+    ensures { IfOk result (IsCommandOf (choice_line name.entry.now)) }
+{
+    subcommand(alloc, name, help)
+        .arg(pool_option(alloc, CHOSEN_POOL))?
+        .arg(pools_option(alloc, CHOSEN_POOLS))?
+        .arg(records_option(alloc, CHOSEN_RECORDS))?
         .arg(log_word(alloc))
 }
 
@@ -232,7 +271,7 @@ fn timeline_command<'a>(alloc: Global) -> Result<Command<'a>, AllocError>
 {
     let parts =
         "Number of equal parts of the log, from 1 to 10000: a line is told at the end of each";
-    great_command(alloc, "timeline", TIMELINE)?.arg(option(
+    choice_command(alloc, "timeline", TIMELINE)?.arg(option(
         alloc,
         "points",
         "N",

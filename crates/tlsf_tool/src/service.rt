@@ -13,7 +13,7 @@ use arrayvec::ArrayString;
 use mtrace_log::{Again, Failed, Sink, Source, put_all};
 use mtrace_replay::{
     Bounds, LedgerReport, RunFault, Settings, Status, Watch, run_fit, run_leaks, run_ledger,
-    run_peak, run_save, run_sites, run_size, run_timeline, run_walk,
+    run_ledger_timeline, run_peak, run_save, run_sites, run_size, run_timeline, run_walk,
 };
 use std::alloc::Global;
 use std::fmt::Write;
@@ -125,9 +125,13 @@ pub(crate) fn run_again<R: Again, W: Sink, T: Watch>(
 {
     match what {
         Rereading::Sites(settings) => run_sites(alloc, reader, writer, settings),
-        Rereading::Timeline { settings, parts } => {
-            run_timeline(alloc, reader, writer, settings, parts)
+        Rereading::Timeline { heap: None, parts } => {
+            run_ledger_timeline(alloc, reader, writer, parts)
         }
+        Rereading::Timeline {
+            heap: Some(settings),
+            parts,
+        } => run_timeline(alloc, reader, writer, settings, parts),
         Rereading::Fit(step) => run_fit(alloc, reader, writer, step, watch),
     }
 }

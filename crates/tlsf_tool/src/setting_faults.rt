@@ -28,13 +28,15 @@ pub(crate) fn tell_bad_heap(rt: &HostRuntime, status: u8, settings: Settings) {
 /// Tells which setting is bad of what reads its log more than once.
 pub(crate) fn tell_bad_reading(rt: &HostRuntime, status: u8, what: Rereading) {
     match what {
-        Rereading::Sites(settings) | Rereading::Timeline { settings, .. } => {
-            tell_bad_heap(rt, status, settings);
-        }
+        Rereading::Sites(settings)
+        | Rereading::Timeline {
+            heap: Some(settings),
+            ..
+        } => tell_bad_heap(rt, status, settings),
         Rereading::Fit(Some(step)) if status == BAD_SETTINGS => {
             let _ = eprintln!(rt; "tlsf: --step {step} is no multiple of 16");
         }
-        Rereading::Fit(_) => {}
+        Rereading::Timeline { heap: None, .. } | Rereading::Fit(_) => {}
     }
 }
 

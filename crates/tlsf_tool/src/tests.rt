@@ -11,6 +11,7 @@ mod hostile;
 mod images;
 mod log;
 mod no_heap;
+mod no_heap_timeline;
 mod plan;
 mod program;
 mod progress;

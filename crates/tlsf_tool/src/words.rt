@@ -2,7 +2,7 @@
 
 ghost use Rattle.std.specs.Prelude.{◌≡◌, ◌⊎◌, MatchBool, codes, string_bytes, Some, None};
 ghost use Rattle.clap.specs.Words.{first_of, found_of, kind_of, rows_of, subcommand_rows_of};
-ghost use Rattle.tlsf_tool.specs.CommandLine.{HasNumber, HasSettings, HasBounds, HasNoHeap, HasNoLog, default_settings, follow_name, name_text};
+ghost use Rattle.tlsf_tool.specs.CommandLine.{HasNumber, HasOr, HasNoSetting, HasHeap, HasSettings, HasBounds, HasNoHeap, HasNoLog, default_settings, IsOfReport, name_text};
 ghost use Rattle.tlsf_tool.specs.Faults.{ExplainsKind, IsUsage};
 ghost use Rattle.tlsf_tool.specs.Asks.{Picks, Asks, MatchesGive, WordsGive};
 
@@ -13,6 +13,7 @@ use clap::error::ErrorKind;
 use clap::{ArgMatches, Error};
 use mtrace_replay::{Bounds, LedgerReport, RunFault, Settings};
 use std::alloc::Global;
+use tlsf_class::GREATEST_SIZE;
 
 /// Memory was refused.
 const NO_MEMORY: ToolFault = ToolFault::Run(RunFault::OutOfMemory);
@@ -88,6 +89,53 @@ fn asked_sites(alloc: Global, found: &ArgMatches<'_>) -> Result<Command, ToolFau
     Ok(Command::Reread { what, log })
 }
 
+/// The size of this id, in bytes, or else this one.
+fn size_or(found: &ArgMatches<'_>, id: &str, other: u64) -> u64
+    ensures { HasOr (rows_of (found_of found.now)) id.now 64 other result }
+{
+    match size_of(found, id) {
+        Some(size) => size,
+        None => other,
+    }
+}
+
+/// The number of this id, or else this one.
+fn number_or(found: &ArgMatches<'_>, id: &str, other: u32) -> u32
+    ensures { HasOr (rows_of (found_of found.now)) id.now 32 other result }
+{
+    match option_number(found, id) {
+        Some(number) => number,
+        None => other,
+    }
+}
+
+/// Whether a setting of a heap is among a subcommand's matches.
+fn has_setting(found: &ArgMatches<'_>) -> bool
+    ensures { MatchBool result (HasNoSetting (rows_of (found_of found.now)) → ⊥) (HasNoSetting (rows_of (found_of found.now))) }
+{
+    let pool = size_of(found, "pool");
+    let pools = option_number(found, "pools");
+    let records = option_number(found, "records");
+    match (pool, pools, records) {
+        (None, None, None) => false,
+        _ => true,
+    }
+}
+
+/// The heap that a subcommand's matches ask for, where they ask for one.
+fn heap_of(found: &ArgMatches<'_>) -> Option<Settings>
+    ensures { HasHeap (rows_of (found_of found.now)) result }
+{
+    if !has_setting(found) {
+        return None;
+    }
+    Some(Settings {
+        pool: size_or(found, "pool", u64::from(GREATEST_SIZE)),
+        pools: number_or(found, "pools", 1),
+        records: number_or(found, "records", 65_535),
+    })
+}
+
 /// What the matches of the subcommand that tells what is held over the lines ask for.
 fn asked_timeline(alloc: Global, found: &ArgMatches<'_>) -> Result<Command, ToolFault>
     ensures { MatchesGive (Some (codes "timeline", rows_of (found_of found.now))) result }
@@ -95,8 +143,9 @@ fn asked_timeline(alloc: Global, found: &ArgMatches<'_>) -> Result<Command, Tool
     let Some(parts) = option_number(found, "points") else {
         return Err(ToolFault::usage(alloc, NO_COMMAND));
     };
-    let (settings, log) = log_of(alloc, found)?;
-    let what = Rereading::Timeline { settings, parts };
+    let log = word_of(alloc, found, "LOG")?;
+    let heap = heap_of(found);
+    let what = Rereading::Timeline { heap, parts };
     Ok(Command::Reread { what, log })
 }
 
@@ -167,14 +216,16 @@ fn has_no_heap(found: &ArgMatches<'_>) -> bool
     }
 }
 
-/// What the matches of the subcommand ask for of a report without a heap.
+/// What the matches of the subcommand of this name ask for, which is of a report without a heap.
 fn asked_ledger(
     alloc: Global,
+    name: Name,
     report: LedgerReport,
     found: &ArgMatches<'_>,
 ) -> Result<Command, ToolFault>
     requires none { HasNoHeap (rows_of (found_of found.now)) }
-    ensures { MatchesGive (Some (name_text (follow_name report), rows_of (found_of found.now))) result }
+    requires name { IsOfReport report (name_text name) }
+    ensures { MatchesGive (Some (name_text name, rows_of (found_of found.now))) result }
 {
     let (settings, log) = log_of(alloc, found)?;
     if settings != Settings::DEFAULT {
@@ -204,8 +255,8 @@ fn asked_report(alloc: Global, name: Name, found: &ArgMatches<'_>) -> Result<Com
         return asked_on_heap(alloc, name, found);
     }
     match name {
-        Name::Leaks => asked_ledger(alloc, LedgerReport::Held, found),
-        Name::Peak => asked_ledger(alloc, LedgerReport::Sums, found),
+        Name::Leaks => asked_ledger(alloc, name, LedgerReport::Held, found),
+        Name::Peak => asked_ledger(alloc, name, LedgerReport::Sums, found),
         Name::Walk => Err(ToolFault::usage(alloc, NO_COMMAND)),
     }
 }

@@ -91,7 +91,7 @@ fn reports_and_images(rt: HostRuntime) -> Result<(), Fail> {
     Ok(())
 }
 
-/// The greatest heap, which `sites` and `timeline` take where no option is given.
+/// The greatest heap: `sites` takes it where no option is given, and `timeline` takes from it what is not given.
 const GREATEST: Settings = Settings {
     pool: 1_073_741_808,
     pools: 1,
@@ -99,7 +99,7 @@ const GREATEST: Settings = Settings {
 };
 
 /// Words of a log that is read more than once, with what it is read for.
-const AGAIN: [(&[&str], Rereading); 6] = [
+const AGAIN: [(&[&str], Rereading); 8] = [
     (&["tlsf", "sites"], Rereading::Sites(GREATEST)),
     (
         &["tlsf", "sites", "--records", "777", "--pools", "5"],
@@ -112,18 +112,35 @@ const AGAIN: [(&[&str], Rereading); 6] = [
     (
         &["tlsf", "timeline"],
         Rereading::Timeline {
-            settings: GREATEST,
+            heap: None,
             parts: 100,
         },
     ),
     (
         &["tlsf", "timeline", "--pool", "64", "--points", "10000"],
         Rereading::Timeline {
-            settings: Settings {
+            heap: Some(Settings {
                 pool: 64,
                 ..GREATEST
-            },
+            }),
             parts: 10_000,
+        },
+    ),
+    (
+        &["tlsf", "timeline", "--pools", "1"],
+        Rereading::Timeline {
+            heap: Some(GREATEST),
+            parts: 100,
+        },
+    ),
+    (
+        &["tlsf", "timeline", "--records", "777"],
+        Rereading::Timeline {
+            heap: Some(Settings {
+                records: 777,
+                ..GREATEST
+            }),
+            parts: 100,
         },
     ),
     (&["tlsf", "fit"], Rereading::Fit(None)),

@@ -22,7 +22,7 @@ const ROWS: [Row; 10] = [
     Row {
         name: "empty-log",
         what: Rereading::Timeline {
-            settings: SMALL,
+            heap: Some(SMALL),
             parts: 100,
         },
         log: b"",
@@ -32,7 +32,7 @@ const ROWS: [Row; 10] = [
     Row {
         name: "each-line-once",
         what: Rereading::Timeline {
-            settings: SMALL,
+            heap: Some(SMALL),
             parts: 10_000,
         },
         log: b"@ a + 0x10 0x8\n",
@@ -42,7 +42,7 @@ const ROWS: [Row; 10] = [
     Row {
         name: "peak-between",
         what: Rereading::Timeline {
-            settings: SMALL,
+            heap: Some(SMALL),
             parts: 1,
         },
         log: b"+ 0x10 0x64\n+ 0x20 0x8\n- 0x20\n- 0x10\n",
@@ -52,7 +52,7 @@ const ROWS: [Row; 10] = [
     Row {
         name: "peak-at-an-end",
         what: Rereading::Timeline {
-            settings: SMALL,
+            heap: Some(SMALL),
             parts: 2,
         },
         log: b"+ 0x10 0x64\n+ 0x20 0x8\n- 0x20\n- 0x10\n",
@@ -62,7 +62,7 @@ const ROWS: [Row; 10] = [
     Row {
         name: "a-hole",
         what: Rereading::Timeline {
-            settings: SMALL,
+            heap: Some(SMALL),
             parts: 3,
         },
         log: b"+ 0x10 0x64\n+ 0x20 0x8\n- 0x10\n",
@@ -72,7 +72,7 @@ const ROWS: [Row; 10] = [
     Row {
         name: "reach-falls",
         what: Rereading::Timeline {
-            settings: SMALL,
+            heap: Some(SMALL),
             parts: 3,
         },
         log: b"+ 0x10 0x64\n+ 0x20 0x8\n- 0x20\n",
@@ -82,7 +82,7 @@ const ROWS: [Row; 10] = [
     Row {
         name: "all-pools",
         what: Rereading::Timeline {
-            settings: TWO_POOLS,
+            heap: Some(TWO_POOLS),
             parts: 2,
         },
         log: b"+ 0x10 0x40\n+ 0x20 0x40\n",
@@ -92,7 +92,7 @@ const ROWS: [Row; 10] = [
     Row {
         name: "ends-rounded-up",
         what: Rereading::Timeline {
-            settings: SMALL,
+            heap: Some(SMALL),
             parts: 3,
         },
         log: b"= Start\n= Start\n= Start\n= Start\n= Start\n= Start\n= Start\n",
@@ -102,7 +102,7 @@ const ROWS: [Row; 10] = [
     Row {
         name: "refused-is-not-held",
         what: Rereading::Timeline {
-            settings: SMALL,
+            heap: Some(SMALL),
             parts: 1,
         },
         log: b"@ a + 0x10 0x8\nx\n@ b + 0x20 0x800",
@@ -112,7 +112,7 @@ const ROWS: [Row; 10] = [
     Row {
         name: "half-in-front",
         what: Rereading::Timeline {
-            settings: SMALL,
+            heap: Some(SMALL),
             parts: 2,
         },
         log: b"@ a + 0x10 0x8\n@ b < 0x10\n",
@@ -130,7 +130,7 @@ fn rows_of_timelines(rt: HostRuntime) {
 /// and gives it.
 const CASE: Case = Case {
     what: Rereading::Timeline {
-        settings: SMALL,
+        heap: Some(SMALL),
         parts: 2,
     },
     log: b"x\n@ a + 0x10 0x8\n@ b + 0x20 0x8\n- 0x10\n",
@@ -153,7 +153,10 @@ fn writer_of_a_timeline_fails(rt: HostRuntime) {
 fn bad_settings_of_a_timeline(rt: HostRuntime) {
     let bad = Settings { pool: 24, ..SMALL };
     for (settings, parts) in [(bad, 2), (SMALL, 0), (SMALL, 10_001)] {
-        let what = Rereading::Timeline { settings, parts };
+        let what = Rereading::Timeline {
+            heap: Some(settings),
+            parts,
+        };
         expect_bad_settings(&rt, rt.alloc(), what, CASE.log);
     }
 }

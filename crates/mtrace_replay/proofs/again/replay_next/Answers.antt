@@ -1,6 +1,7 @@
 use Rattle.std.proofs.Common.{arith, refl, sym, ◌∙◌, reverse, inl}
 use Rattle.mtrace_log.proofs.CallLemmas.{calls_more, calls_of_line, calls_to_end, calls_to_fault}
-use Rattle.mtrace_replay.proofs.ReplayingLemmas.{going_on, replaying_end, replaying_fault}
+use Rattle.mtrace_replay.specs.Replay.{StandsFor}
+use Rattle.mtrace_replay.proofs.ReplayingLemmas.{followed_on_line, replaying_end, replaying_fault}
 use Rattle.mtrace_replay.proofs.AgainLemmas.{ends_early, failed_in_piece}
 use Rattle.mtrace_replay.proofs.again.replay_next.Goals as goal
 
@@ -14,7 +15,7 @@ returns-in-Ok-None-clause-next g c =
       replaying = tt;
       gave = tt;
       stops = λ settings start many so_far gave up within.
-          ends_early many settings c.args.lines.now c.args.replay.now start (reads c.args.reader.now) (reads c.advance.new.reader)
+          ends_early many (StandsFor c.args.replay.now settings) c.args.lines.now start (reads c.args.reader.now) (reads c.advance.new.reader)
           so_far (omega (arith, up))
           (replaying_end reads settings c.args.lines.now c.advance.new.self c.args.replay.now start c.args.reader.now c.advance.new.reader so_far found.1)
           (calls_to_end reads start.calls c.args.lines.now c.advance.new.self c.args.reader.now c.advance.new.reader _ _ gave.0 c.in-Ok-None.ensures.calls found.0 found.1);
@@ -47,7 +48,7 @@ returns-clause-next g c =
     record {
       counted = fed.counted ∙ sym given.count;
       reached = given.count ∙ given.number;
-      replaying = λ settings start so_far. going_on settings c.args.lines.now c.advance.new.self c.args.replay.now c.feed_lent.new.self
+      replaying = λ settings start so_far. followed_on_line (StandsFor c.args.replay.now settings) (StandsFor c.feed_lent.new.self settings) c.args.lines.now c.advance.new.self
           start (reads c.args.reader.now) (reads c.advance.new.reader) (record { number = c.in-Ok-Some.number; event = c.event.result })
           so_far given (fed.stands settings (reverse so_far.lines) so_far.stands);
       gave = λ start gave.

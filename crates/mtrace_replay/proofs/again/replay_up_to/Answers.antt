@@ -1,12 +1,13 @@
 use Rattle.std.proofs.Common.{arith, refl, ap, ◌∙◌}
 use Rattle.std.proofs.lemmas.Result.{err_from_is_err_and}
 use Rattle.mtrace_replay.specs.declared.totals.Totals.{Totals}
-use Rattle.mtrace_replay.proofs.ReplayingLemmas.{going_on_none, going_on_further}
+use Rattle.mtrace_replay.specs.Replay.{StandsFor}
+use Rattle.mtrace_replay.proofs.ReplayingLemmas.{followed_on_none, followed_on_further}
 use Rattle.mtrace_replay.proofs.again.replay_up_to.Goals as goal
 
 pub loop-init : goal.loop-init
 loop-init g c = record {
-  so_far = λ settings start before. going_on_none settings c.args.lines.now c.args.replay.now start (g.R.Source.shown c.args.reader.now) before;
+  so_far = λ settings start before. followed_on_none (StandsFor c.args.replay.now settings) c.args.lines.now start (g.R.Source.shown c.args.reader.now) before;
   counted = c.requires.counted;
   many = omega (arith, c.requires.counted, ap (λ (totals : Totals). totals.lines) c.totals-counter.ensures.totals);
   none = c.requires.none;
@@ -23,7 +24,7 @@ loop-preserved g c =
     record {
       so_far = λ settings start before.
           let so_far = kept.so_far settings start before in
-          going_on_further settings before.lines c.loop.lines c.replay_next.new.lines c.loop.replay c.replay_next.new.replay start (reads c.loop.reader) (reads c.replay_next.new.reader)
+          followed_on_further (StandsFor c.loop.replay settings) (StandsFor c.replay_next.new.replay settings) before.lines c.loop.lines c.replay_next.new.lines start (reads c.loop.reader) (reads c.replay_next.new.reader)
           so_far (next.replaying settings start so_far.now);
       counted = next.counted;
       many = omega (arith, next.reached, kept.many);

@@ -5,7 +5,7 @@ use Rattle.std.proofs.lemmas.Result.{err_from_is_err_and}
 use Rattle.mtrace_log.specs.Trace.{HasNotFailed}
 use Rattle.mtrace_log.specs.declared.call.Call.{Call}
 use Rattle.mtrace_replay.specs.declared.point.Point.{Point}
-use Rattle.mtrace_replay.specs.Replay.{Replayed}
+use Rattle.mtrace_replay.specs.Replay.{Replayed, StandsFor}
 use Rattle.mtrace_log.specs.Shown.{Bytes}
 use Rattle.mtrace_replay.specs.Again.{HasReadFirst}
 use Rattle.mtrace_replay.specs.Texts.{greatest}
@@ -54,10 +54,11 @@ loop-number-preserved g c =
           let so_far = kept.so_far settings stands in
           let G : List Point → Replayed → Type 0 = λ all now. Gathers settings all c.replay_up_to.new.lines now (reads c.begin.new.self) (reads c.replay_up_to.new.reader) in
           let more = gathers_more settings points point c.loop-number.lines c.replay_up_to.new.lines c.loop-number.replay replay touches (reads c.begin.new.self) (reads c.loop-number.reader) (reads c.replay_up_to.new.reader)
-          so_far (read.replaying settings (reads c.begin.new.self) so_far.now) kept.within c.point_after.ensures.line (c.point_after.ensures.point settings) in
-          subst (λ all. G all c.point_after.new.replay) (sym items) (subst (G (points ++ point ∷ [])) (sym c.point_after.ensures.kept) more);
-      told = lines_more numbers index points point c.push_reserved.new.self.items kept.told items line c.loop-number-test.true;
-      within = within_more c.loop-number.lines.count c.replay_up_to.new.lines.count points point c.push_reserved.new.self.items items kept.within up (omega (arith, line, read.reached));
+          so_far (read.replaying settings (reads c.begin.new.self) so_far.now) kept.within (c.point_after.ensures.line ∙ read.counted) (c.point_after.ensures.point settings) in
+          let all_are : points ++ point ∷ [] ≡ c.push_reserved.new.self.items = sym items in
+          subst (λ all. G all c.point_after.new.replay) all_are (subst (G (points ++ point ∷ [])) (sym c.point_after.ensures.kept) more);
+      told = lines_more (λ (one : Point). one.line) numbers index points point c.push_reserved.new.self.items kept.told items line c.loop-number-test.true;
+      within = within_more (λ (one : Point). one.line) c.loop-number.lines.count c.replay_up_to.new.lines.count points point c.push_reserved.new.self.items items kept.within up (omega (arith, line, read.reached));
       reached = read.reached ∙ sym (greatest_taken numbers index c.requires.rising c.loop-number-test.true) ∙ ap (λ n. greatest (take n numbers)) (let next : suc index ≡ index + 1 = omega arith in next);
       counted = ap (λ (one : Replayed). one.totals.lines) c.point_after.ensures.kept ∙ read.counted;
       none = c.in_ok-replay_up_to.ensures.none;
@@ -79,7 +80,7 @@ returns g c =
       done = λ settings stands.
           let so_far = kept.so_far settings stands in
           let P : Bytes → Type 0 = λ start. HasReadFirst (greatest numbers) start (reads c.loop-number.reader).left so_far.now.lines in
-          let first = read_first settings c.loop-number.lines c.loop-number.replay (reads c.begin.new.self) (reads c.loop-number.reader) so_far.now c.holds_few.ensures in
+          let first = read_first (StandsFor c.loop-number.replay settings) c.loop-number.lines (reads c.begin.new.self) (reads c.loop-number.reader) so_far.now c.holds_few.ensures in
           record {
             again = so_far.now.lines;
             read = subst P began.left (subst (λ n. HasReadFirst n (reads c.begin.new.self).left (reads c.loop-number.reader).left so_far.now.lines) (kept.reached ∙ ap greatest all) first);

@@ -1,8 +1,7 @@
-use Rattle.std.proofs.Common.{rules, arith, ◌≡◌, ◌≢◌, ◌≤◌, ℕ, true, refl}
+use Rattle.std.proofs.Common.{rules, arith, refl}
 use Rattle.std.specs.Prelude.{Ok}
-use Rattle.mtrace_replay.specs.Timeline.{is_bad_parts}
 use Rattle.mtrace_replay.specs.RunTimeline.{TimelineFollows}
-use Rattle.mtrace_replay.proofs.RunsAgain.{again_undone}
+use Rattle.mtrace_replay.proofs.RunsAgain.{again_undone, not_bad}
 use Rattle.mtrace_replay.proofs.timeline.run_timeline.Goals as goal
 
 pub returns-in-Err-BadSettings : goal.returns-in-Err-BadSettings
@@ -14,9 +13,6 @@ pub returns-in-Err-OutOfMemory : goal.returns-in-Err-OutOfMemory
 returns-in-Err-OutOfMemory g c =
     let again = again_undone c.args.settings (λ lines. TimelineFollows c.args.settings c.args.parts lines g.R.Source.shown g.W.Sink.shown) g.R.Source.shown g.W.Sink.shown _ c.args.reader.now c.args.writer.now (refl, refl) (search rules) in
     record { bad_parts = search rules; runs = λ good. again }
-
-not_bad : (parts : ℕ) → parts ≢ 0 → parts ≤ 10000 → is_bad_parts parts ≡ true → ⊥
-not_bad parts some few bad = search rules
 
 pub returns : goal.returns
 returns g c =

@@ -9,6 +9,6 @@ returns-in_default c = record {
   faults = refuses c.usage.result c.usage.ensures (timeline_asks_nothing (rows_of (found_of c.args.found.now)) (inl c.in_default.ensures.other));
 }
 
-pub returns-in_err-settings : goal.returns-in_err-settings
-returns-in_err-settings c =
-    asks_exit c.from_residual.result _ c.from_residual.ensures.1 (λ missing. timeline_asks_nothing (rows_of (found_of c.args.found.now)) (inr missing)) c.in_err-settings.ensures.faults
+pub returns-in_err-log : goal.returns-in_err-log
+returns-in_err-log c =
+    asks_exit c.from_residual.result _ c.from_residual.ensures.1 (λ missing. timeline_asks_nothing (rows_of (found_of c.args.found.now)) (inr missing)) c.in_err-log.ensures.faults

@@ -1,0 +1,162 @@
+//! The run that tells what is held over the lines of a log, without a heap.
+
+ghost use Rattle.std.specs.Prelude.{◌≡◌, ◌<◌, ◌≤◌, List, flat_map, length, IfOk};
+ghost use Rattle.std.specs.List.Sorted.{IsStrictlyIncreasing};
+ghost use Rattle.mtrace_log.specs.Output.{Puts};
+ghost use Rattle.mtrace_replay.specs.Moment.{ReadLine};
+ghost use Rattle.mtrace_replay.specs.Totals.{IsPeak};
+ghost use Rattle.mtrace_replay.specs.Timeline.{AreTold};
+ghost use Rattle.mtrace_replay.specs.Texts.{ledger_point_text, ledger_timeline_text};
+ghost use Rattle.mtrace_replay.specs.Served.{served_history};
+ghost use Rattle.mtrace_replay.specs.ServedTimeline.{ReadsLedgerPoints};
+ghost use Rattle.mtrace_replay.specs.RunServedTimeline.{ServedTimelineFollows, RunsServedTimeline};
+
+use super::again::follow_up_to;
+use super::point::{LedgerPoint, ledger_point};
+use super::replay::{LedgerReplay, LedgerTotals};
+use super::report::LedgerReport;
+use super::run::follow_log;
+use crate::findings::Findings;
+use crate::flush::flush_behind;
+use crate::line_text::{LineText, push_bytes, push_column, push_number};
+use crate::status::{RunFault, Status};
+use crate::timeline::MOST_PARTS;
+use crate::told::tell_lines;
+use arrayvec::ArrayVec;
+use mtrace_log::{Again, Failed, Lines, Sink, put_all};
+use std::alloc::{AllocError, Global};
+
+/// The line of a point.
+fn point_text(point: &LedgerPoint) -> LineText
+    ensures { result.items ≡ ledger_point_text point.now }
+{
+    let mut text = ArrayVec::new();
+    push_number(&mut text, u128::from(point.line));
+    push_column(&mut text, point.bytes);
+    push_column(&mut text, u128::from(point.blocks));
+    push_bytes(&mut text, b"\n");
+    text
+}
+
+/// Puts a line for each point.
+fn put_points<W: Sink>(writer: &mut W, points: &[LedgerPoint]) -> Result<(), Failed>
+    ensures { Puts result (flat_map ledger_point_text points.now) (W.shown writer.old) (W.shown writer.new) }
+{
+    for point in points {
+        put_all(writer, point_text(point).as_slice())?;
+    }
+    Ok(())
+}
+
+/// Puts the points below their words.
+fn put_timeline<W: Sink>(writer: &mut W, points: &[LedgerPoint]) -> Result<(), Failed>
+    ensures { Puts result (ledger_timeline_text points.now) (W.shown writer.old) (W.shown writer.new) }
+{
+    put_all(writer, b"line bytes blocks\n")?;
+    put_points(writer, points)
+}
+
+/// The numbers of the lines that are told, by the sums over all lines.
+///
+/// # Errors
+///
+/// `AllocError` where memory is refused for them.
+fn told_lines(alloc: Global, totals: LedgerTotals, parts: u32) -> Result<Vec<u64>, AllocError>
+    requires some { 0 < parts }
+    ensures told { IfOk result (λ numbers. totals.peak_line ≤ totals.lines → AreTold totals.lines totals.peak_line parts numbers.items) }
+    ensures rising { IfOk result (λ numbers. IsStrictlyIncreasing numbers.items) }
+{
+    let mut numbers = Vec::with_capacity(alloc, parts as usize + 2)?;
+    tell_lines(totals.lines, totals.peak_line, parts, &mut numbers);
+    Ok(numbers)
+}
+
+/// Begins the log again, follows it up to the last of the lines that are told, and answers a point after each of these.
+///
+/// # Errors
+///
+/// `Read` where the reader doesn't begin again, fails, or has fewer lines then. `OutOfMemory` where memory is refused.
+fn read_points<R: Again>(
+    alloc: Global,
+    reader: &mut R,
+    numbers: &[u64],
+) -> Result<Vec<LedgerPoint>, RunFault>
+    requires rising { IsStrictlyIncreasing numbers.now }
+    ensures { ReadsLedgerPoints (λ points. points.items) numbers.now result (R.shown reader.old) (R.shown reader.new) }
+{
+    let Ok(mut points) = Vec::with_capacity(alloc, numbers.len()) else {
+        return Err(RunFault::OutOfMemory);
+    };
+    let Ok(()) = reader.begin() else {
+        return Err(RunFault::Read);
+    };
+    let mut replay = LedgerReplay::new(alloc);
+    let mut lines = Lines::new();
+    let mut findings = Findings::none();
+    for number in numbers {
+        follow_up_to(&mut lines, reader, &mut replay, &mut findings, *number)?;
+        points.push_reserved(ledger_point(&replay));
+    }
+    lines.holds_few();
+    Ok(points)
+}
+
+/// Reads the log again, and puts what was held after the lines that are told. Answers this status.
+fn tell_timeline<R: Again, W: Sink>(
+    alloc: Global,
+    reader: &mut R,
+    writer: &mut W,
+    totals: LedgerTotals,
+    parts: u32,
+    status: Status,
+) -> Result<Status, RunFault>
+    requires some { 0 < parts }
+    ensures answer { IfOk result (λ answered. answered ≡ status) }
+    ensures told { (lines : List ReadLine) → totals.lines ≡ length lines → IsPeak (served_history lines) totals.peak_bytes totals.peak_line
+        → ServedTimelineFollows parts lines R.shown W.shown result reader.old reader.new writer.old writer.new }
+{
+    let Ok(numbers) = told_lines(alloc, totals, parts) else {
+        return Err(RunFault::OutOfMemory);
+    };
+    let points = match read_points(alloc, reader, numbers.as_slice()) {
+        Ok(points) => points,
+        Err(fault) => return Err(fault),
+    };
+    let put = put_timeline(writer, points.as_slice());
+    flush_behind(writer, put, status)
+}
+
+/// Reads a log of mtrace(3) and follows it without a heap, and writes what is wrong with its lines, each as it comes. Then flushes
+/// the writer, reads the log again, and writes what was held over its lines. The log is cut into equal parts, `parts` of them.
+/// There is a point before the first line, after the line of the peak, and after the last line of each part. A point has the bytes
+/// and the blocks held. The writer is flushed once more.
+///
+/// Memory is taken in each reading for the addresses that are held and the locations that are named, and for the points. What the
+/// first reading held is given back before the second one.
+///
+/// # Errors
+///
+/// `BadSettings` where the parts aren't from 1 to 10,000: then nothing is read or written. `Read` where the reader failed, or line
+/// 2^64 would come: then what is wrong with the lines before is written. `Read` comes also where the reader doesn't begin again,
+/// fails then, or has fewer lines then. Then what is wrong with the lines is written, and no point. `OutOfMemory` where memory is
+/// refused: then what is wrong with the lines before is written, and no point. `Write` where the writer answered an error, took no
+/// byte of some, or failed a flush: then a beginning of the text is written.
+pub fn run_ledger_timeline<R: Again, W: Sink>(
+    alloc: Global,
+    reader: &mut R,
+    writer: &mut W,
+    parts: u32,
+) -> Result<Status, RunFault>
+    ensures { RunsServedTimeline parts R.shown W.shown result reader.old reader.new writer.old writer.new }
+{
+    if parts == 0 || parts > MOST_PARTS {
+        return Err(RunFault::BadSettings);
+    }
+    let ended = match follow_log(alloc, reader, writer, LedgerReport::Nothing) {
+        Ok(ended) => ended,
+        Err(fault) => return Err(fault),
+    };
+    let (totals, status) = (ended.replay.totals(), ended.status);
+    drop(ended);
+    tell_timeline(alloc, reader, writer, totals, parts, status)
+}
