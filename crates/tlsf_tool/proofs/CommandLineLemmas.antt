@@ -23,13 +23,14 @@ use Rattle.mtrace_replay.specs.declared.no_heap.report.LedgerReport.TheVariants.
 use Rattle.mtrace_replay.specs.declared.size.Bounds.{Bounds}
 use Rattle.mtrace_replay.specs.declared.status.RunFault.TheVariants.{OutOfMemory}
 use Rattle.tlsf_tool.specs.declared.asked.Command.{Command}
+use Rattle.mtrace_replay.specs.declared.no_heap.report.LedgerReport.TheVariants as ledger
 use Rattle.tlsf_tool.specs.declared.asked.Command.TheVariants.{Report, Follow, Reread, Size, Save, Check}
 use Rattle.tlsf_tool.specs.declared.asked.Rereading.TheVariants.{Sites, Timeline, Fit}
 use Rattle.tlsf_tool.specs.declared.asked.Name.{Name}
 use Rattle.tlsf_tool.specs.declared.asked.Name.TheVariants.{Leaks, Peak, Walk}
 use Rattle.tlsf_tool.specs.declared.asked.ToolFault.{ToolFault}
 use Rattle.tlsf_tool.specs.declared.asked.ToolFault.TheVariants.{Help, Usage, CannotOpen, InputIsOutput, ImageIsOutput, ReadsOnce, ReadsFileOnce, Run}
-use Rattle.tlsf_tool.specs.CommandLine.{IsArgOf, IsCommandOf, given_rule, AskFor, HasNumber, HasNone, HasSettings, HasBounds, HasNoLog, MatchesAskFor, bare_line, report_line, ledger_line, HasNoHeap, default_settings, great_line, timeline_line, fit_line, size_line, save_line, check_line, name_text, texts_of, tlsf_line, wrong_with}
+use Rattle.tlsf_tool.specs.CommandLine.{IsArgOf, IsCommandOf, given_rule, AskFor, HasNumber, HasNone, HasSettings, HasBounds, HasNoLog, MatchesAskFor, bare_line, report_line, ledger_line, HasNoHeap, default_settings, choice_line, timeline_line, fit_line, size_line, save_line, check_line, name_text, texts_of, tlsf_line, wrong_with}
 use Rattle.tlsf_tool.specs.Faults.{ExplainsKind, ExplainsWords, IsUsage}
 use Rattle.tlsf_tool.specs.Asks.{Asks, Picks}
 
@@ -60,10 +61,10 @@ put more a b next is next_is = next_is ∙ ap (λ (x : App). with_subcommand x m
 -- the lines of the subcommands, put to the bare one one after the other
 pub line_of : (bare leaks peak walk sites timeline fit size save last : App) → bare ≡ bare_line → leaks ≡ with_subcommand bare (ledger_line (codes "leaks")).top
     → peak ≡ with_subcommand leaks (ledger_line (codes "peak")).top → walk ≡ with_subcommand peak (report_line (codes "walk")).top
-    → sites ≡ with_subcommand walk (great_line (codes "sites")).top → timeline ≡ with_subcommand sites timeline_line.top → fit ≡ with_subcommand timeline fit_line.top
+    → sites ≡ with_subcommand walk (choice_line (codes "sites")).top → timeline ≡ with_subcommand sites timeline_line.top → fit ≡ with_subcommand timeline fit_line.top
     → size ≡ with_subcommand fit size_line.top → save ≡ with_subcommand size save_line.top → last ≡ with_subcommand save check_line.top → last ≡ tlsf_line
 line_of bare leaks peak walk sites timeline fit size save last bare_is leaks_is peak_is walk_is sites_is timeline_is fit_is size_is save_is last_is =
-    put check_line _ _ last (put save_line _ _ save (put size_line _ _ size (put fit_line _ _ fit (put timeline_line _ _ timeline (put (great_line (codes "sites")) _ _ sites (put (report_line (codes "walk")) _ _ walk (put (ledger_line (codes "peak")) _ _ peak
+    put check_line _ _ last (put save_line _ _ save (put size_line _ _ size (put fit_line _ _ fit (put timeline_line _ _ timeline (put (choice_line (codes "sites")) _ _ sites (put (report_line (codes "walk")) _ _ walk (put (ledger_line (codes "peak")) _ _ peak
     (put (ledger_line (codes "leaks")) _ _ leaks bare_is leaks_is) peak_is) walk_is) sites_is) timeline_is) fit_is) size_is) save_is) last_is
 
 -- ---- numbers
@@ -112,6 +113,7 @@ abbrev subcommand_text : Command → Text
 subcommand_text (Report name settings log) = name_text name
 subcommand_text (Follow Held log) = codes "leaks"
 subcommand_text (Follow Sums log) = codes "peak"
+subcommand_text (Follow ledger.Sites log) = codes "sites"
 subcommand_text (Follow Nothing log) = []
 subcommand_text (Reread (Sites settings) log) = codes "sites"
 subcommand_text (Reread (Timeline heap parts) log) = codes "timeline"
@@ -122,9 +124,10 @@ subcommand_text (Check image) = codes "check"
 
 asked_under : (found : Text × List Row) (command : Command) → MatchesAskFor (Some found) command → found.0 ≡ subcommand_text command
 asked_under found (Report name settings log) asks = asks.0
-asked_under found (Follow Held log) asks = asks.0
-asked_under found (Follow Sums log) asks = asks.0
-asked_under found (Follow Nothing log) asks = absurd asks.0
+asked_under found (Follow Held log) asks = asks.0.0
+asked_under found (Follow Sums log) asks = asks.0.0
+asked_under found (Follow ledger.Sites log) asks = asks.0.0
+asked_under found (Follow Nothing log) asks = absurd asks.0.0
 asked_under found (Reread (Sites settings) log) asks = asks.0
 asked_under found (Reread (Timeline heap parts) log) asks = asks.0
 asked_under found (Reread (Fit step) log) asks = asks.0
@@ -149,7 +152,7 @@ module _ (rows : List Row) where
       (MatchBool (bytes_eq text (codes "fit")) (first_of (codes "LOG") rows ≡ None)
       (MatchBool (bytes_eq text (codes "timeline")) (HasNoParts ⊎ (first_of (codes "LOG") rows ≡ None))
       (MatchBool (bytes_eq text (codes "save")) (HasNoLog rows ⊎ (first_of (codes "IMAGE") rows ≡ None))
-      (MatchBool (bytes_eq text (codes "sites")) (HasNoLog rows)
+      (MatchBool (bytes_eq text (codes "sites")) (first_of (codes "LOG") rows ≡ None)
       (MatchBool (bytes_eq text (codes "walk")) (HasNoLog rows ⊎ HasNoHeap rows) (HasNoLog rows ⊎ HasTooMuch)))))))
 
   no_log : (settings : Settings) (log : String Global) → HasNoLog rows → HasSettings rows settings → first_of (codes "LOG") rows ≡ Some (string_bytes log) → ⊥
@@ -163,12 +166,13 @@ module _ (rows : List Row) where
   has_all text (Report Peak settings log) asks (inr much) = asks.1 much.0
   has_all text (Report Walk settings log) asks (inl missing) = no_log settings log missing asks.2 asks.3
   has_all text (Report Walk settings log) asks (inr without) = asks.1 without
-  has_all text (Follow Held log) asks (inl missing) = no_log default_settings log missing asks.2 asks.3
-  has_all text (Follow Held log) asks (inr much) = much.1 asks.2
-  has_all text (Follow Sums log) asks (inl missing) = no_log default_settings log missing asks.2 asks.3
-  has_all text (Follow Sums log) asks (inr much) = much.1 asks.2
-  has_all text (Follow Nothing log) asks missing = asks.0
-  has_all text (Reread (Sites settings) log) asks missing = no_log settings log missing asks.1 asks.2
+  has_all text (Follow Held log) asks (inl missing) = no_log default_settings log missing asks.0.2 asks.1
+  has_all text (Follow Held log) asks (inr much) = much.1 asks.0.2
+  has_all text (Follow Sums log) asks (inl missing) = no_log default_settings log missing asks.0.2 asks.1
+  has_all text (Follow Sums log) asks (inr much) = much.1 asks.0.2
+  has_all text (Follow ledger.Sites log) asks none = no_such (first_of (codes "LOG") rows) (string_bytes log) none asks.1
+  has_all text (Follow Nothing log) asks missing = asks.0.0
+  has_all text (Reread (Sites settings) log) asks none = no_such (first_of (codes "LOG") rows) (string_bytes log) none asks.2
   has_all text (Reread (Timeline heap parts) log) asks (inl never) = never parts asks.2
   has_all text (Reread (Timeline heap parts) log) asks (inr none) = no_such (first_of (codes "LOG") rows) (string_bytes log) none asks.3
   has_all text (Reread (Fit step) log) asks none = no_such (first_of (codes "LOG") rows) (string_bytes log) none asks.2
@@ -224,7 +228,7 @@ module _ (rows : List Row) where
   pub walk_asks_nothing : HasNoHeap rows → AsksNothing (Some (codes "walk", rows))
   walk_asks_nothing without = text_asks_nothing (codes "walk") (inr without)
 
-  pub sites_asks_nothing : HasNoLog rows → AsksNothing (Some (codes "sites", rows))
+  pub sites_asks_nothing : first_of (codes "LOG") rows ≡ None → AsksNothing (Some (codes "sites", rows))
   sites_asks_nothing missing = text_asks_nothing (codes "sites") missing
 
   pub timeline_asks_nothing : HasNoParts ⊎ (first_of (codes "LOG") rows ≡ None) → AsksNothing (Some (codes "timeline", rows))

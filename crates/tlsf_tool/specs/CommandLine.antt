@@ -14,6 +14,7 @@ use Rattle.tlsf_class.specs.Classes.{unit, greatest_size}
 use Rattle.mtrace_replay.specs.declared.settings.Settings.{Settings}
 use Rattle.mtrace_replay.specs.declared.no_heap.report.LedgerReport.{LedgerReport}
 use Rattle.mtrace_replay.specs.declared.no_heap.report.LedgerReport.TheVariants.{Held, Sums, Nothing}
+use Rattle.mtrace_replay.specs.declared.no_heap.report.LedgerReport.TheVariants as report
 use Rattle.mtrace_replay.specs.declared.size.Bounds.{Bounds}
 use Rattle.tlsf_tool.specs.declared.asked.Command.{Command}
 use Rattle.tlsf_tool.specs.declared.asked.Command.TheVariants.{Report, Follow, Reread, Size, Save, Check}
@@ -64,9 +65,6 @@ abbrev pub report_line : Text → App
 report_line = heap_line (codes "16777216") (codes "8192")
 
 -- the default heap of these is the greatest
-abbrev pub great_line : Text → App
-great_line = heap_line (codes "1073741808") (codes "65535")
-
 -- a report's subcommand that needs no heap
 abbrev pub ledger_line : Text → App
 ledger_line name = with_rule (report_line name) (flag_rule (codes "no-heap"))
@@ -106,7 +104,7 @@ bare_line = on_top (λ s. record s { has_version = true; subcommand_required = t
 
 abbrev pub tlsf_line : App
 tlsf_line = with_subcommand (with_subcommand (with_subcommand (with_subcommand (with_subcommand (with_subcommand (with_subcommand (with_subcommand (with_subcommand bare_line (ledger_line (codes "leaks")).top)
-    (ledger_line (codes "peak")).top) (report_line (codes "walk")).top) (great_line (codes "sites")).top) timeline_line.top) fit_line.top) size_line.top) save_line.top) check_line.top
+    (ledger_line (codes "peak")).top) (report_line (codes "walk")).top) (choice_line (codes "sites")).top) timeline_line.top) fit_line.top) size_line.top) save_line.top) check_line.top
 
 -- an option or a word by this rule, which the subcommand has for itself
 pub record IsArgOf (rule : Rule) (arg : Arg) : Type 0 where
@@ -160,11 +158,16 @@ HasNoHeap rows = first_of (codes "no-heap") rows ≡ Some (codes "true")
 abbrev pub default_settings : Settings
 default_settings = record { pool = 16777216; pools = 1; records = 8192 }
 
--- this subcommand's text is that of a report without a heap; none is of no report
+-- this subcommand's text is that of a report which the option makes without a heap
 abbrev pub IsOfReport : LedgerReport → Text → Type 0
 IsOfReport Held text = text ≡ codes "leaks"
 IsOfReport Sums text = text ≡ codes "peak"
-IsOfReport Nothing text = ⊥
+IsOfReport report text = ⊥
+
+-- the subcommand and its matches ask for this report without a heap: by the option, or by no setting of one
+abbrev pub AskForLedger : LedgerReport → Text × List Row → Type 0
+AskForLedger report.Sites found = (found.0 ≡ codes "sites") × HasNoSetting found.1
+AskForLedger report found = IsOfReport report found.0 × HasNoHeap found.1 × HasSettings found.1 default_settings
 
 -- the value of this id, where there is a number of it
 abbrev pub HasGiven : List Row → Text → Option ℕ → Type 0
@@ -185,10 +188,9 @@ abbrev pub MatchesAskFor : Option (Text × List Row) → Command → Type 0
 MatchesAskFor None command = ⊥
 MatchesAskFor (Some found) (Report name settings log) = (found.0 ≡ name_text name) × (HasNoHeap found.1 → ⊥)
     × HasSettings found.1 settings × (first_of (codes "LOG") found.1 ≡ Some (string_bytes log))
-MatchesAskFor (Some found) (Follow report log) = IsOfReport report found.0 × HasNoHeap found.1
-    × HasSettings found.1 default_settings × (first_of (codes "LOG") found.1 ≡ Some (string_bytes log))
+MatchesAskFor (Some found) (Follow report log) = AskForLedger report found × (first_of (codes "LOG") found.1 ≡ Some (string_bytes log))
 MatchesAskFor (Some found) (Reread (Sites settings) log) = (found.0 ≡ codes "sites")
-    × HasSettings found.1 settings × (first_of (codes "LOG") found.1 ≡ Some (string_bytes log))
+    × HasHeap found.1 (Some settings) × (first_of (codes "LOG") found.1 ≡ Some (string_bytes log))
 MatchesAskFor (Some found) (Reread (Timeline heap parts) log) = (found.0 ≡ codes "timeline")
     × HasHeap found.1 heap × HasNumber found.1 (codes "points") 32 parts × (first_of (codes "LOG") found.1 ≡ Some (string_bytes log))
 MatchesAskFor (Some found) (Reread (Fit step) log) = (found.0 ≡ codes "fit") × HasGiven found.1 (codes "step") step × (first_of (codes "LOG") found.1 ≡ Some (string_bytes log))

@@ -4,7 +4,7 @@ ghost use Rattle.std.specs.Prelude.{◌≡◌, IfOk, codes, pos};
 ghost use Rattle.clap.specs.declared.builder.value_parser.ValueParser.TheVariants.{Signed, Unsigned};
 ghost use Rattle.tlsf_class.specs.Classes.{unit, greatest_size};
 ghost use Rattle.clap.specs.Words.{App, app_of, new_app, with_subcommand};
-ghost use Rattle.tlsf_tool.specs.CommandLine.{IsArgOf, IsCommandOf, given_rule, flag_rule, word_rule, heap_line, report_line, ledger_line, great_line, choice_line, timeline_line, fit_line, size_line, save_line, check_line, bare_line, tlsf_line};
+ghost use Rattle.tlsf_tool.specs.CommandLine.{IsArgOf, IsCommandOf, given_rule, flag_rule, word_rule, heap_line, report_line, ledger_line, choice_line, timeline_line, fit_line, size_line, save_line, check_line, bare_line, tlsf_line};
 
 use clap::builder::ValueParser;
 use clap::{Arg, ArgAction, Command, value_parser};
@@ -68,10 +68,11 @@ const WALK: Help = Help {
 };
 
 const SITES: Help = Help {
-    about: "Reports who holds the memory, at the peak and at the end of the log: blocks and bytes by the location that asked for them. LOG is read twice.",
+    about: "Reports who holds the memory, at the peak and at the end of the log: blocks and bytes by the location that asked for them. On a heap, LOG is read twice.",
     examples: "Examples:
   tlsf sites a.log                              who holds the memory of a.log
-  tlsf sites --pool 65536 --records 500 a.log   the same, where the heap has no more",
+  xz -dc a.log.xz | tlsf sites -                the same of a log that is packed
+  tlsf sites --pool 65536 --records 500 a.log   the same on a heap that has no more",
 };
 
 const TIMELINE: Help = Help {
@@ -171,7 +172,7 @@ fn log_word<'a>(alloc: Global) -> Arg<'a>
     ensures { IsArgOf (word_rule (codes "LOG")) result }
 {
     Arg::new(alloc, "LOG").required(true).help(
-        "File of the log, - for standard input; sites, timeline and fit take no pipe",
+        "File of the log, - for standard input; timeline, fit, and sites on a heap take no pipe",
     )
 }
 
@@ -256,13 +257,6 @@ fn ledger_command<'a>(alloc: Global, name: &'a str, help: Help) -> Result<Comman
     let no_heap =
         "Give each block that is asked for, of any size and any number of them; with no other option";
     report_command(alloc, name, help)?.arg(flag(alloc, "no-heap", no_heap))
-}
-
-/// A subcommand whose default heap is the greatest.
-fn great_command<'a>(alloc: Global, name: &'a str, help: Help) -> Result<Command<'a>, AllocError>
-    ensures { IfOk result (IsCommandOf (great_line name.entry.now)) }
-{
-    heap_command(alloc, name, help, "1073741808", "65535")
 }
 
 /// The subcommand that tells what is held over the lines.
@@ -356,7 +350,7 @@ pub fn tlsf_command<'a>(alloc: Global) -> Result<Command<'a>, AllocError>
     let leaks = with(bare, ledger_command(alloc, "leaks", LEAKS))?;
     let peak = with(leaks, ledger_command(alloc, "peak", PEAK))?;
     let walk = with(peak, report_command(alloc, "walk", WALK))?;
-    let sites = with(walk, great_command(alloc, "sites", SITES))?;
+    let sites = with(walk, choice_command(alloc, "sites", SITES))?;
     let timeline = with(sites, timeline_command(alloc))?;
     let fit = with(timeline, fit_command(alloc))?;
     let size = with(fit, size_command(alloc))?;

@@ -80,15 +80,6 @@ fn log_of(alloc: Global, found: &ArgMatches<'_>) -> Result<(Settings, String), T
     Ok((settings, log))
 }
 
-/// What the matches of the subcommand that tells who holds the memory ask for.
-fn asked_sites(alloc: Global, found: &ArgMatches<'_>) -> Result<Command, ToolFault>
-    ensures { MatchesGive (Some (codes "sites", rows_of (found_of found.now))) result }
-{
-    let (settings, log) = log_of(alloc, found)?;
-    let what = Rereading::Sites(settings);
-    Ok(Command::Reread { what, log })
-}
-
 /// The size of this id, in bytes, or else this one.
 fn size_or(found: &ArgMatches<'_>, id: &str, other: u64) -> u64
     ensures { HasOr (rows_of (found_of found.now)) id.now 64 other result }
@@ -134,6 +125,21 @@ fn heap_of(found: &ArgMatches<'_>) -> Option<Settings>
         pools: number_or(found, "pools", 1),
         records: number_or(found, "records", 65_535),
     })
+}
+
+/// What the matches of the subcommand that tells who holds the memory ask for.
+fn asked_sites(alloc: Global, found: &ArgMatches<'_>) -> Result<Command, ToolFault>
+    ensures { MatchesGive (Some (codes "sites", rows_of (found_of found.now))) result }
+{
+    let log = word_of(alloc, found, "LOG")?;
+    let Some(settings) = heap_of(found) else {
+        return Ok(Command::Follow {
+            report: LedgerReport::Sites,
+            log,
+        });
+    };
+    let what = Rereading::Sites(settings);
+    Ok(Command::Reread { what, log })
 }
 
 /// What the matches of the subcommand that tells what is held over the lines ask for.

@@ -2,6 +2,6 @@ use Rattle.clap.specs.Words.{found_of, rows_of}
 use Rattle.tlsf_tool.proofs.CommandLineLemmas.{asks_exit, sites_asks_nothing}
 use Rattle.tlsf_tool.proofs.words.asked_sites.Goals as goal
 
-pub returns-in_err-settings : goal.returns-in_err-settings
-returns-in_err-settings c =
-    asks_exit c.from_residual.result _ c.from_residual.ensures.1 (sites_asks_nothing (rows_of (found_of c.args.found.now))) c.in_err-settings.ensures.faults
+pub returns-in_err-log : goal.returns-in_err-log
+returns-in_err-log c =
+    asks_exit c.from_residual.result _ c.from_residual.ensures.1 (sites_asks_nothing (rows_of (found_of c.args.found.now))) c.in_err-log.ensures.faults
