@@ -1,7 +1,7 @@
 /* Parts of tlsf_parts.h: their bytes as constant expressions beside the definitions, what each call
  * refuses, and random programs that stay within random limits, in memory of just the bytes told.
  *
- *     parts [CALLS]    the calls of the random programs: 2,000,000 without it */
+ *     parts [CALLS]    the calls of the random programs: without it 2,000,000, or as built */
 #include <stdlib.h>
 #include <string.h>
 
@@ -9,6 +9,9 @@
 #include "tlsf_heap.h"
 #include "tlsf_parts.h"
 
+#ifndef CALLS
+#define CALLS 2000000
+#endif
 enum { CLASSES = 704, VALUES = 100000, SLOTS = 300, MOST_BLOCKS = 60, STEPS = 20000 };
 
 static uint64_t state = 88172645463325252u;
@@ -405,7 +408,7 @@ static bool program(void)
 
 int main(int words, char **word)
 {
-    uint64_t wanted = words > 1 ? strtoull(word[1], NULL, 10) : 2000000;
+    uint64_t wanted = words > 1 ? strtoull(word[1], NULL, 10) : CALLS;
     bool good = true;
     bytes();
     bad_parts();
