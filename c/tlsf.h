@@ -155,6 +155,40 @@ size_t tlsf_size_records(uint32_t records);
  * where no heap is enough (this call isn't Conte's). */
 size_t tlsf_sure_bytes(uint32_t blocks, size_t bytes, size_t largest);
 
+/* The last two as constant expressions of numbers, for the size of a static array. TLSF_CLASS_SIZE is
+ * the lowest size of the first class whose blocks all hold `units` bytes, which is a multiple of 16
+ * (these macros aren't Conte's). */
+#define TLSF_SIZE_RECORDS(records) (TLSF_CONTROL_BYTES + 1704u + 16u * (size_t)(records))
+#define TLSF_SURE_BYTES(blocks, bytes, largest) \
+    ((largest) > 0 && (largest) < 1073741808 && (bytes) < 1073741808 && (blocks) <= 32766 \
+             && TLSF_CLASS_SIZE(TLSF_WITH_FRONT(largest)) <= 1056964608u \
+             && TLSF_SURE_POOL(blocks, bytes, largest) <= 1073741808u \
+         ? TLSF_SIZE_RECORDS(2u * (blocks) + 3u) + 16u \
+               + (size_t)TLSF_SURE_POOL(blocks, bytes, largest) \
+         : 0u)
+#define TLSF_SURE_POOL(blocks, bytes, largest) \
+    ((uint64_t)(bytes) + (uint64_t)(blocks) * 16u + 16u \
+     + ((uint64_t)(blocks) + 1u) * (TLSF_CLASS_SIZE(TLSF_WITH_FRONT(largest)) - 16u))
+#define TLSF_WITH_FRONT(bytes) (((uint64_t)(bytes) + 23u) / 16u * 16u)
+#define TLSF_CLASS_SIZE(units) \
+    (((units) + TLSF_CLASS_STEP(units) - 1u) & ~(TLSF_CLASS_STEP(units) - 1u))
+/* The distance between two classes around `units` bytes: 16, and twice that for each of the powers of two
+ * from 2^10 to 2^29 that they reach. */
+#define TLSF_CLASS_STEP(units) \
+    ((uint64_t)16 \
+     << (TLSF_HAS(units, 10) + TLSF_HAS(units, 11) + TLSF_HAS(units, 12) + TLSF_HAS(units, 13) \
+         + TLSF_HAS(units, 14) + TLSF_HAS(units, 15) + TLSF_HAS(units, 16) + TLSF_HAS(units, 17) \
+         + TLSF_HAS(units, 18) + TLSF_HAS(units, 19) + TLSF_HAS(units, 20) + TLSF_HAS(units, 21) \
+         + TLSF_HAS(units, 22) + TLSF_HAS(units, 23) + TLSF_HAS(units, 24) + TLSF_HAS(units, 25) \
+         + TLSF_HAS(units, 26) + TLSF_HAS(units, 27) + TLSF_HAS(units, 28) + TLSF_HAS(units, 29)))
+#define TLSF_HAS(units, power) ((units) >= (uint64_t)1 << (power))
+/* What a heap takes in front of its table. */
+#if UINTPTR_MAX > 0xffffffff
+#define TLSF_CONTROL_BYTES ((size_t)392)
+#else
+#define TLSF_CONTROL_BYTES ((size_t)248)
+#endif
+
 /* Calls the walker with each block of the pool, live or free, in order of address. A null pointer
  * stands for a walker that prints. Blocks are read 64 at a time, each time from the end of the
  * block read last. So the walker may allocate and free. For each 64 blocks the pool's whole chain

@@ -50,6 +50,7 @@ struct control {
 #define FRONT_BITS 42u
 
 typedef char scrambling_is_undone[SCRAMBLE * UNSCRAMBLE == 1u ? 1 : -1];
+typedef char control_is_told[sizeof(struct control) == TLSF_CONTROL_BYTES ? 1 : -1];
 
 /* Eight bytes are copied by __builtin_memcpy: a load and a store, also where -ffreestanding takes
  * the compiler's own memcpy away. */

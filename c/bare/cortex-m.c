@@ -41,8 +41,10 @@ void caught(const uint32_t *frame)
     off(1);
 }
 __attribute__((naked)) static void trap(void) { __asm__("mov r0, sp\n\tb caught"); }
+/* SysTick's handler, where a program has one. */
+void tick(void) __attribute__((weak, alias("trap")));
 
 /* Behind the stack's end, which cortex-m.ld puts in front. */
 __attribute__((section(".vectors"), used)) static void (*const vectors[15])(void) = {
-    reset, trap, trap, trap, trap, trap, 0, 0, 0, 0, trap, trap, 0, trap, trap,
+    reset, trap, trap, trap, trap, trap, 0, 0, 0, 0, trap, trap, 0, trap, tick,
 };

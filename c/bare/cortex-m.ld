@@ -1,8 +1,9 @@
-/* Where a program for Cortex-M lies. What is marked BOARD is of QEMU's machine `mps2-an385`. */
+/* Where a program for Cortex-M lies. What is marked BOARD is of QEMU's machine `mps2-an385`. For
+ * `microbit` c/Makefile tells less flash and RAM. */
 MEMORY
 {
-    CODE (rx) : ORIGIN = 0x00000000, LENGTH = 4M  /* BOARD: its flash */
-    RAM (rwx) : ORIGIN = 0x20000000, LENGTH = 4M  /* BOARD: its RAM */
+    CODE (rx) : ORIGIN = 0x00000000, LENGTH = DEFINED(flash_bytes) ? flash_bytes : 4M  /* BOARD: its flash */
+    RAM (rwx) : ORIGIN = 0x20000000, LENGTH = DEFINED(ram_bytes) ? ram_bytes : 4M  /* BOARD: its RAM */
 }
 ENTRY(reset)
 

@@ -8,10 +8,16 @@
 #include "tlsf.h"
 #include "tlsf_heap.h"
 
-enum { RECORDS = 400, BLOCKS = 150, CALLS = 200000, POOL = 1 << 16 };
+#ifdef MICROBIT /* 16 KB of RAM, with the stack */
+enum { RECORDS = 24, BLOCKS = 9, POOL = 1536, MEMORY = 3072, MOST = 120, LARGE = 400, ALIGN = 64 };
+#else
+enum { RECORDS = 400, BLOCKS = 150, POOL = 1 << 16, MEMORY = 1 << 17, MOST = 600, LARGE = 5000, ALIGN = 1024 };
+#endif
+enum { CALLS = 200000 };
 
 static _Alignas(16) unsigned char array[POOL], table[TLSF_HEAP_TABLE_BYTES(RECORDS)];
-static _Alignas(16) unsigned char second_table[TLSF_HEAP_TABLE_BYTES(RECORDS)], memory[1 << 17];
+/* The table of a heap that is loaded, and then memory for the calls of tlsf.h. */
+static _Alignas(16) unsigned char memory[MEMORY];
 static unsigned char image[TLSF_HEAP_IMAGE_BYTES(RECORDS)];
 static tlsf_heap_row rows[RECORDS], second_rows[RECORDS];
 static uint32_t state = 1;
@@ -76,9 +82,9 @@ static bool serves(tlsf_heap *heap)
             }
             sizes[k] = 0;
         } else {
-            uint32_t bytes = 1 + below(600);
+            uint32_t bytes = 1 + below(MOST);
             bool is_aligned = call % 4 == 0;
-            enum tlsf_status status = is_aligned ? tlsf_heap_memalign(heap, 256, bytes, &blocks[k])
+            enum tlsf_status status = is_aligned ? tlsf_heap_memalign(heap, ALIGN / 4, bytes, &blocks[k])
                                                  : tlsf_heap_malloc(heap, bytes, &blocks[k]);
             if (status == TLSF_OK) {
                 sizes[k] = bytes;
@@ -95,7 +101,7 @@ static bool comes_back(tlsf_heap *heap)
     tlsf_heap second = {0};
     uint64_t bytes = 0, count = 0, second_count = 1;
     if (tlsf_heap_save(heap, image, sizeof image, &bytes) != TLSF_OK
-        || tlsf_heap_load_in(second_table, sizeof second_table, image, bytes, &second) != TLSF_OK
+        || tlsf_heap_load_in(memory, sizeof memory, image, bytes, &second) != TLSF_OK
         || tlsf_heap_walk(heap, 0, 0, rows, RECORDS, &count) != TLSF_OK
         || tlsf_heap_walk(&second, 0, 0, second_rows, RECORDS, &second_count) != TLSF_OK) {
         return false;
@@ -114,12 +120,12 @@ static bool serves_by_pointer(void)
 {
     tlsf_t tlsf = tlsf_create_with_pool(memory, sizeof memory);
     unsigned char *first = (unsigned char *)tlsf_malloc(tlsf, 100);
-    unsigned char *second = (unsigned char *)tlsf_memalign(tlsf, 1024, 100);
-    if (first == NULL || second == NULL || (uintptr_t)second % 1024 != 0) {
+    unsigned char *second = (unsigned char *)tlsf_memalign(tlsf, ALIGN, 100);
+    if (first == NULL || second == NULL || (uintptr_t)second % ALIGN != 0) {
         return false;
     }
     fill(first, 100, 7);
-    first = (unsigned char *)tlsf_realloc(tlsf, first, 5000);
+    first = (unsigned char *)tlsf_realloc(tlsf, first, LARGE);
     bool same = first != NULL && is_filled(first, 100, 7);
     tlsf_free(tlsf, second);
     tlsf_free(tlsf, first);
