@@ -1,13 +1,17 @@
 /* What tests/c compares between targets: a million random calls over ten heaps. `between make FILE`
  * writes a line for each heap, with a number made of all that its calls and walks answered, and puts
- * an image of each into FILE. `between load FILE` makes the heaps of these images, and goes on. */
+ * an image of each into FILE. `between load FILE` makes the heaps of these images, and goes on. A program
+ * for a board gets these two words as it is built, as MODE and IMAGES. */
 #include <stdio.h>
 #include <stdlib.h>
 #include <string.h>
 
 #include "tlsf_heap.h"
 
-enum { HEAPS = 10, CALLS = 100000, RECORDS = 700, BLOCKS = 300, IMAGE = TLSF_HEAP_IMAGE_BYTES(RECORDS) };
+#ifndef CALLS
+#define CALLS 100000
+#endif
+enum { HEAPS = 10, RECORDS = 700, BLOCKS = 300, IMAGE = TLSF_HEAP_IMAGE_BYTES(RECORDS) };
 
 static unsigned char image[IMAGE];
 static tlsf_heap_row rows[RECORDS];
@@ -128,12 +132,30 @@ static int load(FILE *file)
     return 0;
 }
 
-int main(int argc, char **argv)
+static int between(const char *mode, const char *images)
 {
-    if (argc != 3) {
-        return 2;
-    }
-    FILE *file = fopen(argv[2], strcmp(argv[1], "make") == 0 ? "wb" : "rb");
-    int status = file == NULL ? 2 : strcmp(argv[1], "make") == 0 ? make(file) : load(file);
+    bool makes = strcmp(mode, "make") == 0;
+    FILE *file = fopen(images, makes ? "wb" : "rb");
+    int status = file == NULL ? 2 : makes ? make(file) : load(file);
     return file != NULL && fclose(file) != 0 ? 2 : status;
 }
+
+#ifdef MODE
+#ifdef __arm__
+/* Files by way of QEMU, of newlib's own. An exception ends the program. */
+void initialise_monitor_handles(void);
+void trapped(uint64_t kind, uint64_t instruction);
+void trapped(uint64_t kind, uint64_t instruction) { (void)kind, (void)instruction; }
+#else
+static void initialise_monitor_handles(void) {}
+#endif
+
+int main(void)
+{
+    initialise_monitor_handles();
+    int status = between(MODE, IMAGES);
+    return fflush(stdout) != 0 ? 2 : status;
+}
+#else
+int main(int argc, char **argv) { return argc != 3 ? 2 : between(argv[1], argv[2]); }
+#endif
