@@ -17,6 +17,10 @@ use Rattle.mtrace_replay.specs.Totals.{is_served, is_refused, is_refusal, Measur
 use Rattle.mtrace_replay.specs.Step.{found}
 use Rattle.mtrace_replay.specs.RunServed.{AreServedTotals}
 use Rattle.mtrace_replay.specs.declared.totals.Totals.{Totals}
+use Rattle.mtrace_replay.specs.declared.point.Point.{Point}
+use Rattle.mtrace_replay.specs.declared.no_heap.point.LedgerPoint.{LedgerPoint}
+use Rattle.mtrace_replay.specs.Timeline.{IsPoint}
+use Rattle.mtrace_replay.specs.ServedTimeline.{IsLedgerPoint}
 use Rattle.mtrace_replay.specs.declared.no_heap.replay.LedgerTotals.{LedgerTotals}
 use Rattle.mtrace_replay.specs.Texts.{total_size}
 use Rattle.mtrace_replay.specs.Served.{no_heap, unplaced, served, all_served, served_moment, served_moments, without_places}
@@ -345,3 +349,21 @@ sums_alike start past totals sums are told =
       not_later _ (map plain past) totals.peak_bytes sums.peak_bytes totals.peak_line sums.peak_line peak told.peak,
     ) in
     λ i. record { lines = lines i; served = served i; live_bytes = bytes i; live_blocks = blocks i; peak_bytes = most i; peak_line = line i }
+
+-- ---- the points
+
+-- where no line is refused, none of the first ones is
+pub none_refused_before : (start : Bare) (later past : List ReadLine) → count_by is_refused (moments start (later ++ past)) ≡ 0 → count_by is_refused (moments start past) ≡ 0
+none_refused_before start [] past none = none
+none_refused_before start (line ∷ later) past none =
+    let before = moments start (later ++ past) in
+    let last = next_moment start line (later ++ past) before in
+    let counted : count_by is_refused (last ∷ before) ≡ 0 = sym (ap (count_by is_refused) (moments-line start line (later ++ past))) ∙ none in
+    none_refused_before start later past (omega (arith, counted, count-cons is_refused last before))
+
+pub points_alike : (start : Bare) (past : List Moment) (point : Point) (other : LedgerPoint) → IsPoint start past point → IsLedgerPoint (map plain past) other
+    → (other.bytes ≡ point.bytes) × (other.blocks ≡ point.blocks)
+points_alike start past point other is told = (
+  measure_is_one bytes_in (map plain past) other.bytes point.bytes told.bytes (bytes_on past point.bytes is.bytes),
+  measure_is_one blocks_in (map plain past) other.blocks point.blocks told.blocks (blocks_on past point.blocks is.blocks),
+)

@@ -23,6 +23,8 @@ ghost use Rattle.mtrace_replay.specs.Totals.{AreTotals, IsMost};
 ghost use Rattle.mtrace_replay.specs.declared.no_heap.replay.LedgerTotals.{LedgerTotals};
 ghost use Rattle.mtrace_replay.specs.Served.{served_history, served_diagnostics, without_places};
 ghost use Rattle.mtrace_replay.specs.RunServed.{AreServedTotals};
+ghost use Rattle.mtrace_replay.specs.declared.no_heap.point.LedgerPoint.{LedgerPoint};
+ghost use Rattle.mtrace_replay.specs.ServedTimeline.{IsLedgerPoint, IsPointOfLines};
 ghost use Rattle.mtrace_replay.specs.declared.point.Point.{Point};
 ghost use Rattle.mtrace_replay.specs.Timeline.{AreTold, IsPoint};
 
@@ -98,14 +100,18 @@ pub fn one_totals()
 pub fn one_timeline()
     ensures told { (lines peak parts : ℕ) (one other : List ℕ) → AreTold lines peak parts one → AreTold lines peak parts other → one ≡ other }
     ensures points { (start : Bare) (past : List Moment) (one other : Point) → IsPoint start past one → IsPoint start past other → one.line ≡ other.line → one ≡ other }
+    ensures ledger_points { (past : List Moment) (one other : LedgerPoint) → IsLedgerPoint past one → IsLedgerPoint past other → one.line ≡ other.line → one ≡ other }
 {}
 
 /// Where no line of a log is refused, a run without a heap tells what one with a heap does: the same is wrong with the lines,
-/// the same is held, and the sums are the same.
+/// the same is held, and the sums are the same. So are bytes and blocks after the first lines, as many as a timeline tells of.
 pub fn unrefused_is_served()
     ensures diagnostics { (settings : Settings) (lines : List ReadLine) → refusals settings lines ≡ 0 → served_diagnostics lines ≡ diagnostics settings lines }
     ensures held { (settings : Settings) (lines : List ReadLine) (all other : List Given) → refusals settings lines ≡ 0
         → AreHeld all (history settings lines) → AreHeld other (served_history lines) → entries_of other ≡ entries_of all }
     ensures sums { (settings : Settings) (lines : List ReadLine) (totals : Totals) (sums : LedgerTotals) → refusals settings lines ≡ 0
         → AreTotals (started settings) (history settings lines) totals → AreServedTotals (served_history lines) sums → sums ≡ without_places totals }
+    ensures points { (settings : Settings) (lines : List ReadLine) (many : ℕ) (point : Point) (other : LedgerPoint) → refusals settings lines ≡ 0
+        → IsPoint (started settings) (history settings (take many lines)) point → IsPointOfLines (take many lines) other
+        → (other.bytes ≡ point.bytes) × (other.blocks ≡ point.blocks) }
 {}

@@ -22,3 +22,9 @@ returns-clause-points c = λ start past one other first second same. (
     let free = first.free ∙ sym second.free in
     let largest = first.largest ∙ sym second.largest in
     λ i. record { line = same i; bytes = bytes i; blocks = blocks i; reach = reach i; free = free i; largest = largest i })
+
+pub returns-clause-ledger_points : goal.returns-clause-ledger_points
+returns-clause-ledger_points c = λ past one other first second same. (
+    let bytes = measure_is_one _ past one.bytes other.bytes first.bytes second.bytes in
+    let blocks = measure_is_one _ past one.blocks other.blocks first.blocks second.blocks in
+    λ i. record { line = same i; bytes = bytes i; blocks = blocks i })

@@ -1,11 +1,15 @@
-use Rattle.std.proofs.Common.{List, ◌++◌, length, map, reverse, ap, ◌∙◌, subst}
+use Rattle.std.proofs.Common.{◌≡◌, ℕ, List, ◌++◌, length, map, take, drop, reverse, sym, ap, ◌∙◌, subst}
+use Rattle.std.specs.Prelude.{count_by}
+use Rattle.std.proofs.lemmas.List.{reverse-append, take-append-drop}
 use Rattle.mtrace_replay.specs.declared.diagnostic.Diagnostic.{Diagnostic}
 use Rattle.mtrace_replay.specs.Started.{started}
-use Rattle.mtrace_replay.specs.Moment.{Moment, half}
-use Rattle.mtrace_replay.specs.History.{history, notes, pending, AreHeld, entries_of}
+use Rattle.mtrace_replay.specs.Moment.{ReadLine, Moment, half}
+use Rattle.mtrace_replay.specs.History.{history, moments, notes, pending, AreHeld, entries_of}
+use Rattle.mtrace_replay.specs.Totals.{is_refused}
 use Rattle.mtrace_replay.specs.RunServed.{AreServedTotals}
+use Rattle.mtrace_replay.specs.ServedTimeline.{IsLedgerPoint}
 use Rattle.mtrace_replay.proofs.SortedLemmas.{one_list}
-use Rattle.mtrace_replay.proofs.UnrefusedLemmas.{plain, served_alike, notes_plain, unplaced_all, held_unplaced, entries_unplaced_all, sums_alike}
+use Rattle.mtrace_replay.proofs.UnrefusedLemmas.{plain, served_alike, notes_plain, unplaced_all, held_unplaced, entries_unplaced_all, sums_alike, none_refused_before, points_alike}
 use Rattle.mtrace_replay.proofs.laws.unrefused_is_served.Goals as goal
 
 pub returns-clause-diagnostics : goal.returns-clause-diagnostics
@@ -21,3 +25,15 @@ returns-clause-held c = λ settings lines all other none is as_well.
 pub returns-clause-sums : goal.returns-clause-sums
 returns-clause-sums c = λ settings lines totals sums none are told.
     sums_alike (started settings) (history settings lines) totals sums are (subst (λ (past : List Moment). AreServedTotals past sums) (served_alike (started settings) (reverse lines) none) told)
+
+-- the lines are the first ones, and those behind them
+cut : (many : ℕ) (lines : List ReadLine) → reverse (drop many lines) ++ reverse (take many lines) ≡ reverse lines
+cut many lines = sym (reverse-append (take many lines) (drop many lines)) ∙ ap reverse (take-append-drop many lines)
+
+pub returns-clause-points : goal.returns-clause-points
+returns-clause-points c = λ settings lines many point other none is told.
+    let first = take many lines in
+    let whole = subst (λ (past : List ReadLine). count_by is_refused (moments (started settings) past) ≡ 0) (sym (cut many lines)) none in
+    let before = none_refused_before (started settings) (reverse (drop many lines)) (reverse first) whole in
+    points_alike (started settings) (history settings first) point other is
+    (subst (λ (past : List Moment). IsLedgerPoint past other) (served_alike (started settings) (reverse first) before) told)
