@@ -324,7 +324,7 @@ drop_plain zero past = refl
 drop_plain (suc n) [] = refl
 drop_plain (suc n) (one ∷ past) = drop_plain n past
 
-first_plain : (k : ℕ) (past : List Moment) → first_moments k (map plain past) ≡ map plain (first_moments k past)
+pub first_plain : (k : ℕ) (past : List Moment) → first_moments k (map plain past) ≡ map plain (first_moments k past)
 first_plain k past = ap (λ n. drop (n - k) (map plain past)) (length_plain past) ∙ drop_plain (length past - k) past
 
 peak_plain : (past : List Moment) (bytes line : ℕ) → IsPeak past bytes line → IsPeak (map plain past) bytes line

@@ -19,7 +19,7 @@ ghost use Rattle.mtrace_replay.specs.Held.{IsHeldUnder};
 ghost use Rattle.mtrace_replay.specs.Entry.{Entry};
 ghost use Rattle.mtrace_replay.specs.Sites.{Site, AreSites};
 ghost use Rattle.mtrace_replay.specs.declared.totals.Totals.{Totals};
-ghost use Rattle.mtrace_replay.specs.Totals.{AreTotals, IsMost};
+ghost use Rattle.mtrace_replay.specs.Totals.{first_moments, AreTotals, IsMost};
 ghost use Rattle.mtrace_replay.specs.declared.no_heap.replay.LedgerTotals.{LedgerTotals};
 ghost use Rattle.mtrace_replay.specs.Served.{served_history, served_diagnostics, without_places};
 ghost use Rattle.mtrace_replay.specs.RunServed.{AreServedTotals};
@@ -104,11 +104,14 @@ pub fn one_timeline()
 {}
 
 /// Where no line of a log is refused, a run without a heap tells what one with a heap does: the same is wrong with the lines,
-/// the same is held, and the sums are the same. So are bytes and blocks after the first lines, as many as a timeline tells of.
+/// the same is held, at the end and after the first lines, and the sums are the same. So the sites are the same (`one_list_of_sites`),
+/// and so are bytes and blocks after the first lines, as many as a timeline tells of.
 pub fn unrefused_is_served()
     ensures diagnostics { (settings : Settings) (lines : List ReadLine) → refusals settings lines ≡ 0 → served_diagnostics lines ≡ diagnostics settings lines }
     ensures held { (settings : Settings) (lines : List ReadLine) (all other : List Given) → refusals settings lines ≡ 0
         → AreHeld all (history settings lines) → AreHeld other (served_history lines) → entries_of other ≡ entries_of all }
+    ensures first { (settings : Settings) (lines : List ReadLine) (many : ℕ) (all other : List Given) → refusals settings lines ≡ 0
+        → AreHeld all (first_moments many (history settings lines)) → AreHeld other (first_moments many (served_history lines)) → entries_of other ≡ entries_of all }
     ensures sums { (settings : Settings) (lines : List ReadLine) (totals : Totals) (sums : LedgerTotals) → refusals settings lines ≡ 0
         → AreTotals (started settings) (history settings lines) totals → AreServedTotals (served_history lines) sums → sums ≡ without_places totals }
     ensures points { (settings : Settings) (lines : List ReadLine) (many : ℕ) (point : Point) (other : LedgerPoint) → refusals settings lines ≡ 0

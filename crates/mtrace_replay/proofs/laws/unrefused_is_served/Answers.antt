@@ -5,11 +5,11 @@ use Rattle.mtrace_replay.specs.declared.diagnostic.Diagnostic.{Diagnostic}
 use Rattle.mtrace_replay.specs.Started.{started}
 use Rattle.mtrace_replay.specs.Moment.{ReadLine, Moment, half}
 use Rattle.mtrace_replay.specs.History.{history, moments, notes, pending, AreHeld, entries_of}
-use Rattle.mtrace_replay.specs.Totals.{is_refused}
+use Rattle.mtrace_replay.specs.Totals.{is_refused, first_moments}
 use Rattle.mtrace_replay.specs.RunServed.{AreServedTotals}
 use Rattle.mtrace_replay.specs.ServedTimeline.{IsLedgerPoint}
 use Rattle.mtrace_replay.proofs.SortedLemmas.{one_list}
-use Rattle.mtrace_replay.proofs.UnrefusedLemmas.{plain, served_alike, notes_plain, unplaced_all, held_unplaced, entries_unplaced_all, sums_alike, none_refused_before, points_alike}
+use Rattle.mtrace_replay.proofs.UnrefusedLemmas.{plain, served_alike, notes_plain, first_plain, unplaced_all, held_unplaced, entries_unplaced_all, sums_alike, none_refused_before, points_alike}
 use Rattle.mtrace_replay.proofs.laws.unrefused_is_served.Goals as goal
 
 pub returns-clause-diagnostics : goal.returns-clause-diagnostics
@@ -21,6 +21,13 @@ pub returns-clause-held : goal.returns-clause-held
 returns-clause-held c = λ settings lines all other none is as_well.
     let served = subst (λ (past : List Moment). AreHeld other past) (served_alike (started settings) (reverse lines) none) as_well in
     ap entries_of (one_list (map plain (history settings lines)) other (unplaced_all all) served (held_unplaced all (history settings lines) is)) ∙ entries_unplaced_all all
+
+pub returns-clause-first : goal.returns-clause-first
+returns-clause-first c = λ settings lines many all other none is as_well.
+    let past = history settings lines in
+    let alike = ap (first_moments many) (served_alike (started settings) (reverse lines) none) ∙ first_plain many past in
+    let served = subst (λ (past : List Moment). AreHeld other past) alike as_well in
+    ap entries_of (one_list (map plain (first_moments many past)) other (unplaced_all all) served (held_unplaced all (first_moments many past) is)) ∙ entries_unplaced_all all
 
 pub returns-clause-sums : goal.returns-clause-sums
 returns-clause-sums c = λ settings lines totals sums none are told.
