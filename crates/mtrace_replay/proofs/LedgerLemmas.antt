@@ -1,5 +1,5 @@
 -- A ledger's entries in order of address, against its map.
-use Rattle.std.proofs.Common.{cond, Bool, true, false, Option, Some, None, is_some, ◌≡◌, ℕ, zero, suc, ◌+◌, ◌*◌, ◌^◌, ◌<◌, ◌≤◌, List, [], ◌∷◌, length, map, slice_index_or, sum_by, ◌⊎◌, inl, inr, refl, sym, ap, ◌∙◌, subst, arith, Less}
+use Rattle.std.proofs.Common.{cond, Bool, true, false, Option, Some, None, is_some, ◌≡◌, ℕ, suc, ◌+◌, ◌*◌, ◌^◌, ◌<◌, ◌≤◌, List, [], ◌∷◌, length, map, slice_index_or, sum_by, ◌⊎◌, inl, inr, refl, sym, ap, ◌∙◌, arith, Less}
 use Rattle.std.specs.Prelude.{◌==◌, nat_lt, nat_eq, slice_get, option_map, Result, Ok, Err, OnErr}
 use Rattle.std.specs.Option.{IsSome}
 use Rattle.std.specs.List.{All}
@@ -8,11 +8,11 @@ use Rattle.std.specs.List.Sorted.{IsPermutation, IsStrictlySortedBy, IsStrictlyI
 use Rattle.std.specs.Ordering.{nat_cmp}
 use Rattle.std.proofs.lemmas.Map.Keys.{IsStrictlyIncreasing-from_sorted}
 use Rattle.std.specs.List.{IsDistinct}
-use Rattle.std.specs.Option.{unwrap_or, MatchOption}
-use Rattle.std.specs.Map.{lookup, remove_entry, set_value, keys_of, values_of}
+use Rattle.std.specs.Option.{unwrap_or}
+use Rattle.std.specs.Map.{lookup, remove_entry, keys_of, values_of}
 use Rattle.std.proofs.lemmas.List.Sums.{sum_by-cons}
-use Rattle.std.proofs.lemmas.Map.Entries.{sum_by_values_permutation, sum_by-remove_entry, sum_by-set_value}
-use Rattle.std.proofs.lemmas.Map.Views.{All-map-IsPermutation, All-map-remove_entry, All-values-set_value}
+use Rattle.std.proofs.lemmas.Map.Entries.{sum_by_values_permutation, sum_by-remove_entry}
+use Rattle.std.proofs.lemmas.Map.Views.{All-map-IsPermutation, All-map-remove_entry}
 use Rattle.std.proofs.lemmas.Bool.{cases_eq, false≢true, cond-false, eq-eqb, ne_eqb}
 use Rattle.std.proofs.lemmas.Bool.Decides.{nat_tests}
 use Rattle.mtrace_replay.specs.Entry.{Entry}

@@ -1,5 +1,5 @@
 -- What a ledger held at the mark stays, whatever is held later.
-use Rattle.std.proofs.Common.{◌≡◌, ℕ, zero, suc, ◌+◌, ◌^◌, ◌<◌, ◌≤◌, List, [], ◌∷◌, length, map, sum_by, Option, None, Some, nat_eq, refl, sym, ap, ◌∙◌, subst, arith}
+use Rattle.std.proofs.Common.{◌≡◌, ℕ, zero, suc, ◌+◌, ◌^◌, ◌<◌, ◌≤◌, List, [], ◌∷◌, length, sum_by, Option, None, Some, nat_eq, refl, sym, ap, ◌∙◌, subst, arith}
 use Rattle.std.specs.Prelude.{option_map}
 use Rattle.std.specs.Option.{unwrap_or, MatchOption, IfSome}
 use Rattle.std.specs.List.{All, IsDistinct}
@@ -81,7 +81,7 @@ module _ (locations : List (List ℕ)) (old new : List (ℕ × Kept)) (bytes : �
   rest_some was there set middle changes left is =
       let rest = remove_entry (nat_eq key) old in
       let one : (measure : Kept → ℕ) → sum_by measure (values_of rest) + measure was ≡ sum_by measure (values_of old) = (λ measure.
-          omega (arith, sum_by-remove_entry measure (nat_eq key) old, ap (λ o. unwrap_or (option_map measure o) 0) there)) in
+      omega (arith, sum_by-remove_entry measure (nat_eq key) old, ap (λ o. unwrap_or (option_map measure o) 0) there)) in
       record {
         rest = values_of rest;
         shared = shared-less locations old rest (nat_eq key) was there (IsPermutation-refl rest) before middle shared changes;
@@ -133,6 +133,7 @@ module _ (locations : List (List ℕ)) (old new : List (ℕ × Kept)) (h : Kept)
   pub few_bytes : (whole : ℕ) → IsLedger locations old whole → length old < 2 ^ 63 → (bytes < 2 ^ 127) × ((now_at shares (slot_of h.location)).bytes < 2 ^ 127)
   few_bytes whole keeps few =
       let small = is_small locations old whole keeps few in
-      let fewer = rest.fewer (λ kept. kept.size) in
-      (omega (arith, rest.summed, fewer, keeps.bytes_are, small),
-      omega (arith, rest.shared.bytes (slot_of h.location), in_slot-most locations (λ kept. kept.size) (slot_of h.location) rest.rest, fewer, keeps.bytes_are, small))
+      let fewer = rest.fewer (λ kept. kept.size) in (
+        omega (arith, rest.summed, fewer, keeps.bytes_are, small),
+        omega (arith, rest.shared.bytes (slot_of h.location), in_slot-most locations (λ kept. kept.size) (slot_of h.location) rest.rest, fewer, keeps.bytes_are, small),
+      )

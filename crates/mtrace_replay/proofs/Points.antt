@@ -4,7 +4,7 @@ use Rattle.std.specs.List.{All}
 use Rattle.std.specs.List.Sorted.{IsStrictlyIncreasing}
 use Rattle.std.proofs.Math.ListN.{get_or}
 use Rattle.std.proofs.Math.Seq.{take-suc}
-use Rattle.std.proofs.lemmas.List.{take-append-le, take_all, length-reverse, map-append}
+use Rattle.std.proofs.lemmas.List.{take-append-le, take_all, map-append}
 use Rattle.std.proofs.lemmas.List.Elements.{All-append}
 use Rattle.mtrace_log.specs.Progress.{Progress}
 use Rattle.mtrace_replay.specs.declared.point.Point.{Point}
@@ -16,7 +16,7 @@ use Rattle.mtrace_replay.specs.Replay.{Replayed, StandsFor, touched}
 use Rattle.mtrace_log.specs.Shown.{ReaderState}
 use Rattle.mtrace_replay.specs.Replaying.{IsFollowed, IsFollowedOn, IsReplaying, GoesOn}
 use Rattle.mtrace_replay.specs.Texts.{greatest}
-use Rattle.mtrace_replay.specs.Timeline.{IsPoint, lines_of}
+use Rattle.mtrace_replay.specs.Timeline.{IsPoint}
 use Rattle.mtrace_replay.proofs.RowLemmas.{greatest-append}
 
 -- the lines so far were read, and the points are of the first of them

@@ -11,7 +11,6 @@ use Rattle.mtrace_log.specs.declared.line.ReadFault.TheVariants.{ReaderFailed}
 use Rattle.mtrace_log.proofs.Writing.{Wrote-nothing, Wrote-append, Begins-after}
 use Rattle.mtrace_replay.specs.declared.status.Status.{Status}
 use Rattle.mtrace_replay.specs.declared.status.Status.TheVariants.{Clean, Found}
-use Rattle.mtrace_replay.specs.declared.no_heap.replay.LedgerTotals.{LedgerTotals}
 use Rattle.mtrace_replay.specs.declared.no_heap.report.LedgerReport.{LedgerReport}
 use Rattle.mtrace_replay.specs.declared.no_heap.report.LedgerReport.TheVariants as report
 use Rattle.mtrace_replay.specs.declared.no_heap.prepared.Prepared.{Prepared}
@@ -162,9 +161,11 @@ following_write report old new replay_old replay_new had_diagnostics start befor
     record {
       lines = now.lines;
       unused = new.held;
-      begun = inl (line_read new.stage start.left (to_come old before.left) (to_come new after.left) now.lines line.event given.taken now.read,
-          subst (λ (text : List ℕ). Begins writer_start writer_new text) (sym (notes-more was line.event))
-          (Begins-after writer_start writer_old writer_new (served_notes was) (diagnostics_text (added_served line.event (reverse was))) under.wrote begins.begun));
+      begun = inl (
+        line_read new.stage start.left (to_come old before.left) (to_come new after.left) now.lines line.event given.taken now.read,
+        subst (λ (text : List ℕ). Begins writer_start writer_new text) (sym (notes-more was line.event))
+            (Begins-after writer_start writer_old writer_new (served_notes was) (diagnostics_text (added_served line.event (reverse was))) under.wrote begins.begun),
+      );
     }
 
 -- the end of the log

@@ -1,26 +1,21 @@
 -- What locations hold by their slots, against what is kept.
-use Rattle.std.proofs.Common.{cond, Bool, true, false, Option, Some, None, is_some, ◌≡◌, ℕ, zero, suc, ◌+◌, ◌-◌, ◌<◌, ◌≤◌, List, [], ◌∷◌, length, map, slice_index_or, sum_by, ◌⊎◌, inl, inr, refl, sym, ap, ◌∙◌, subst, arith}
-use Rattle.std.specs.Prelude.{◌==◌, nat_eq, slice_get, option_map, if◌then◌else◌}
+use Rattle.std.proofs.Common.{cond, Bool, true, false, Option, Some, None, is_some, ◌≡◌, ℕ, suc, ◌+◌, ◌-◌, ◌<◌, ◌≤◌, List, [], ◌∷◌, length, slice_index_or, sum_by, inl, inr, refl, sym, ap, ◌∙◌, arith}
+use Rattle.std.specs.Prelude.{◌==◌, slice_get, option_map, if◌then◌else◌}
 use Rattle.std.specs.Option.{IsSome, unwrap_or}
-use Rattle.std.specs.List.{All, AllByRecursion, IsDistinct}
+use Rattle.std.specs.List.{All}
 use Rattle.std.specs.List.Sorted.{IsPermutation}
-use Rattle.std.proofs.lemmas.List.Sorted.{IsPermutation-refl}
-use Rattle.std.specs.Map.{lookup, remove_entry, set_value, values_of}
-use Rattle.std.specs.Cmp.Lexicographic.{pointwise}
+use Rattle.std.specs.Map.{lookup, remove_entry, values_of}
 use Rattle.std.proofs.lemmas.List.Sums.{sum_by-cons}
 use Rattle.std.proofs.lemmas.Map.Entries.{sum_by_values_permutation, sum_by-remove_entry}
 use Rattle.std.proofs.lemmas.Bool.{cases_eq, cases_lt, false≢true, eq-eqb, ne_eqb}
 use Rattle.std.proofs.lemmas.List.{get_or_past}
 use Rattle.std.proofs.lemmas.Option.{slice_get_past, slice_get_within, slice_get-get_or}
-use Rattle.mtrace_replay.specs.Entry.{Entry}
-use Rattle.mtrace_replay.specs.Sites.{Origin, Site, weigh, blocks_at, bytes_at, AreTallied}
 use Rattle.mtrace_replay.specs.declared.no_heap.ledger.Kept.{Kept}
 use Rattle.mtrace_replay.specs.declared.amount.Amount.{Amount}
 use Rattle.mtrace_replay.specs.declared.no_heap.shares.Share.{Share}
-use Rattle.mtrace_replay.specs.Locations.{Extends, location_of, HasLocation}
-use Rattle.mtrace_replay.specs.Shares.{ByLocation, no_share, nothing, amount_more, amount_less, now_at, marked_at, Changes, KeepsShares, Marks, origins, with_site, sites_by, sites_of}
-use Rattle.mtrace_replay.specs.Ledger.{entry_of, put_in_order, in_order, IsKept, slot_of, in_slot, AreShared}
-use Rattle.mtrace_replay.proofs.SiteLemmas.Origins.{weigh-add}
+use Rattle.mtrace_replay.specs.Locations.{Extends, HasLocation}
+use Rattle.mtrace_replay.specs.Shares.{ByLocation, no_share, nothing, amount_more, amount_less, now_at, Changes, KeepsShares, Marks}
+use Rattle.mtrace_replay.specs.Ledger.{slot_of, in_slot, AreShared}
 
 -- ---- what is kept in a slot
 
@@ -46,11 +41,11 @@ module _ (get : Amount → ℕ) (measure : Kept → ℕ) (before : ByLocation) (
       → get (if slot_of h.location == slot then amount else now_at before slot) ≡ (if slot_of h.location == slot then measure h else 0) + in_slot measure slot all
   amount-more is slot = elim (cases_eq (slot_of h.location) slot) [
     | inl same ↦
-      ap (λ b. get (cond b amount (now_at before slot))) (eq-eqb (slot_of h.location) slot same) ∙ is ∙ ap (λ s. get (now_at before s) + measure h) same
-      ∙ omega (arith, shared slot, ap (λ b. cond b (measure h) 0) (eq-eqb (slot_of h.location) slot same))
+        ap (λ b. get (cond b amount (now_at before slot))) (eq-eqb (slot_of h.location) slot same) ∙ is ∙ ap (λ s. get (now_at before s) + measure h) same
+        ∙ omega (arith, shared slot, ap (λ b. cond b (measure h) 0) (eq-eqb (slot_of h.location) slot same))
     | inr other ↦
-      ap (λ b. get (cond b amount (now_at before slot))) (ne_eqb (slot_of h.location) slot other)
-      ∙ omega (arith, shared slot, ap (λ b. cond b (measure h) 0) (ne_eqb (slot_of h.location) slot other))
+        ap (λ b. get (cond b amount (now_at before slot))) (ne_eqb (slot_of h.location) slot other)
+        ∙ omega (arith, shared slot, ap (λ b. cond b (measure h) 0) (ne_eqb (slot_of h.location) slot other))
   ]
 
   -- at the slot of what is kept no more
@@ -58,11 +53,11 @@ module _ (get : Amount → ℕ) (measure : Kept → ℕ) (before : ByLocation) (
       → get (if slot_of h.location == slot then amount else now_at before slot) + (if slot_of h.location == slot then measure h else 0) ≡ in_slot measure slot all
   amount-less is slot = elim (cases_eq (slot_of h.location) slot) [
     | inl same ↦
-      let now : get (if slot_of h.location == slot then amount else now_at before slot) ≡ get amount = ap (λ b. get (cond b amount (now_at before slot))) (eq-eqb (slot_of h.location) slot same) in
-      omega (arith, now, is, ap (λ s. get (now_at before s)) same, shared slot, ap (λ b. cond b (measure h) 0) (eq-eqb (slot_of h.location) slot same))
+        let now : get (if slot_of h.location == slot then amount else now_at before slot) ≡ get amount = ap (λ b. get (cond b amount (now_at before slot))) (eq-eqb (slot_of h.location) slot same) in
+        omega (arith, now, is, ap (λ s. get (now_at before s)) same, shared slot, ap (λ b. cond b (measure h) 0) (eq-eqb (slot_of h.location) slot same))
     | inr other ↦
-      let now : get (if slot_of h.location == slot then amount else now_at before slot) ≡ get (now_at before slot) = ap (λ b. get (cond b amount (now_at before slot))) (ne_eqb (slot_of h.location) slot other) in
-      omega (arith, now, shared slot, ap (λ b. cond b (measure h) 0) (ne_eqb (slot_of h.location) slot other))
+        let now : get (if slot_of h.location == slot then amount else now_at before slot) ≡ get (now_at before slot) = ap (λ b. get (cond b amount (now_at before slot))) (ne_eqb (slot_of h.location) slot other) in
+        omega (arith, now, shared slot, ap (λ b. cond b (measure h) 0) (ne_eqb (slot_of h.location) slot other))
   ]
 
 abbrev count_one : Kept → ℕ
@@ -165,9 +160,9 @@ longer : (locations new : List (List ℕ)) → Extends locations new → length 
 longer locations new extends = elim (cases_lt (length new) (length locations)) [
   | inr few ↦ few
   | inl more ↦
-    let last = length new in
-    let is = slice_get-get_or locations last [] more in
-    absurd (false≢true (sym (ap is_some (slice_get_past new last (omega arith))) ∙ ap is_some (extends last (slice_index_or locations last []) is)))
+      let last = length new in
+      let is = slice_get-get_or locations last [] more in
+      absurd (false≢true (sym (ap is_some (slice_get_past new last (omega arith))) ∙ ap is_some (extends last (slice_index_or locations last []) is)))
 ]
 
 pub shared-longer : (locations new : List (List ℕ)) → Extends locations new → (all : List Kept) (shares : ByLocation) → AreShared locations shares all → AreShared new shares all

@@ -1,5 +1,5 @@
 -- The sites of locations by their slots are those of the entries.
-use Rattle.std.proofs.Common.{cond, Bool, true, false, Option, Some, None, is_some, ◌≡◌, ℕ, zero, suc, ◌+◌, ◌<◌, ◌≤◌, List, [], ◌∷◌, length, map, slice_index_or, sum_by, ◌⊎◌, inl, inr, refl, sym, ap, ◌∙◌, subst, arith}
+use Rattle.std.proofs.Common.{cond, Bool, true, false, Option, Some, None, is_some, ◌≡◌, ℕ, zero, suc, ◌+◌, ◌<◌, ◌≤◌, List, [], ◌∷◌, length, map, sum_by, refl, sym, ap, ◌∙◌, arith}
 use Rattle.std.specs.Prelude.{◌==◌, nat_eq, nat_lt, slice_get, if◌then◌else◌}
 use Rattle.std.specs.Option.{IsSome}
 use Rattle.std.specs.List.{All, AllByRecursion, IsDistinct}
@@ -7,17 +7,17 @@ use Rattle.std.specs.Map.{values_of}
 use Rattle.std.specs.Ordering.{is_eq}
 use Rattle.std.specs.Cmp.Lexicographic.{pointwise}
 use Rattle.std.proofs.lemmas.List.Sums.{sum_by-cons}
-use Rattle.std.proofs.lemmas.Bool.{cases_eq, false≢true, eq-eqb, ne_eqb, eqb-true}
+use Rattle.std.proofs.lemmas.Bool.{false≢true, eq-eqb, ne_eqb, eqb-true}
 use Rattle.std.proofs.lemmas.Bool.Decides.{Decides-eqb}
 use Rattle.std.proofs.lemmas.Slice.Eq.{slice_eq-Decides}
 use Rattle.mtrace_replay.specs.Entry.{Entry}
-use Rattle.mtrace_replay.specs.Sites.{Origin, origin_cmp, Site, weigh, blocks_at, bytes_at, AreTallied}
+use Rattle.mtrace_replay.specs.Sites.{Origin, origin_cmp, Site, weigh, AreTallied}
 use Rattle.mtrace_replay.specs.declared.no_heap.ledger.Kept.{Kept}
 use Rattle.mtrace_replay.specs.declared.amount.Amount.{Amount}
 use Rattle.mtrace_replay.specs.Locations.{Extends, location_of, HasLocation}
 use Rattle.mtrace_replay.specs.Shares.{ByLocation, nothing, now_at, origins, with_site, sites_by, sites_of}
 use Rattle.mtrace_replay.specs.Ledger.{entry_of, put_in_order, in_order, slot_of, in_slot, AreShared}
-use Rattle.mtrace_replay.proofs.SiteLemmas.Origins.{origin_same, is_eq-Equal, bool_cases, weigh-add}
+use Rattle.mtrace_replay.proofs.SiteLemmas.Origins.{origin_same, is_eq-Equal, weigh-add}
 
 -- ---- the list stays where amounts stay
 
@@ -227,8 +227,13 @@ module _ (p : Origin) (locations : List (List ℕ)) (m : Entry → ℕ) (measure
   in_entries [] = refl
   in_entries (one ∷ more) =
       let first : weigh p (location_of locations one.1.location) (m (entry_of locations one)) ≡ weigh p (location_of locations one.1.location) (measure one.1) = ap (weigh p (location_of locations one.1.location)) (same one) in
-      omega (arith, sum_by-put (λ e. weigh p e.at (m e)) (entry_of locations one) (in_order (map (entry_of locations) more)), first, in_entries more,
-      sum_by-cons (λ (h : Kept). weigh p (location_of locations h.location) (measure h)) one.1 (values_of more))
+      omega (
+        arith,
+        sum_by-put (λ e. weigh p e.at (m e)) (entry_of locations one) (in_order (map (entry_of locations) more)),
+        first,
+        in_entries more,
+        sum_by-cons (λ (h : Kept). weigh p (location_of locations h.location) (measure h)) one.1 (values_of more),
+      )
 
 -- no block, no byte
 no_bytes : (slot : ℕ) (all : List Kept) → in_slot (λ kept. 1) slot all ≡ 0 → in_slot (λ kept. kept.size) slot all ≡ 0

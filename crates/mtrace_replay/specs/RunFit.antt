@@ -56,7 +56,7 @@ TellsSizes zero step peak most many sure whole times text =
     × (text ≡ fitted_lines (enough_records most) (fitted verdicts) sure)
 TellsSizes (suc more) step peak most many sure whole times text = (times ≡ 0) × (text ≡ untried_lines ++ refused_line (suc more))
 
--- The text of how large a pool a log needs, which began again so many times. It has the peak and the most addresses held, on the
+-- The text of how large a pool a log needs, which began again this many times. It has the peak and the most addresses held, on the
 -- greatest pool, and what is told of the sizes. The pool that is always enough is told by the most addresses, the most bytes in
 -- their blocks, and the greatest class size that a served line asks for.
 pub record TellsFit (step : Option ℕ) (lines : List ReadLine) (whole : Bytes) (times : ℕ) (text : List ℕ) : Type 0 where
@@ -76,7 +76,7 @@ abbrev pub is_beginning : Call → Bool
 is_beginning Began = true
 is_beginning call = false
 
--- calls were made: none of them failed, and so many began the text again
+-- calls were made: none of them failed, and this many began the text again
 pub record HasBegun (times : ℕ) (old new : List Call) : Type 0 where
   pub more : List Call
   pub none_failed : AllByRecursion (λ call. call ≢ Failed) more

@@ -1,5 +1,5 @@
 -- What is held over the lines of a log, without a heap: its points, and what a call leaves that reads a log again for them.
-use Rattle.std.specs.Prelude.{◌≡◌, ◌≢◌, ◌⊎◌, ℕ, ◌≤◌, List, map, take, Result, Err, IfErr, IfOk, OnOk, IsErrOf}
+use Rattle.std.specs.Prelude.{◌≡◌, ◌⊎◌, ℕ, ◌≤◌, List, map, Result, IfErr, IfOk, OnOk, IsErrOf}
 use Rattle.std.specs.List.{All}
 use Rattle.mtrace_log.specs.Shown.{Bytes, ReaderState}
 use Rattle.mtrace_log.specs.Trace.{HasNotFailed}

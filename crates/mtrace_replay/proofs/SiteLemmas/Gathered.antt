@@ -5,10 +5,10 @@ use Rattle.std.specs.List.{AllByRecursion, sum_by}
 use Rattle.std.specs.Ordering.{is_eq, is_lt}
 use Rattle.std.specs.declared.cmp.Ordering.TheVariants.{Less}
 use Rattle.std.proofs.lemmas.List.Sums.{sum_by-cons}
-use Rattle.mtrace_replay.specs.Sites.{Origin, origin_cmp, Site, weigh, blocks_at, bytes_at, IsSiteOf}
+use Rattle.mtrace_replay.specs.Sites.{Origin, origin_cmp, Site, weigh}
 use Rattle.mtrace_replay.specs.Gather.{own, joined, is_same, onto, gather, Ordered, Rising}
 use Rattle.mtrace_replay.specs.Entry.{Entry}
-use Rattle.mtrace_replay.proofs.SiteLemmas.Origins.{origin_total, origin_same, is_eq-Equal, below_other, bool_cases, weigh-add, weigh-self, weigh-same, weigh-other, weigh-below, weigh-above}
+use Rattle.mtrace_replay.proofs.SiteLemmas.Origins.{origin_total, origin_same, is_eq-Equal, below_other, bool_cases, weigh-add, weigh-same, weigh-other, weigh-below}
 
 pub onto-same : (e : Entry) (s : Site) (ss : List Site) → is_same s e ≡ true → onto e (s ∷ ss) ≡ joined s e ∷ ss
 onto-same e s ss is = ap (λ t. cond t (joined s e ∷ ss) (own e ∷ (s ∷ ss))) is

@@ -12,11 +12,11 @@ ghost use Rattle.mtrace_replay.specs.Prepared.{HasNamed, prepared_text};
 use super::ledger::{Ledger, Seen};
 use super::prepared::Prepared;
 use super::replay::{LedgerReplay, LedgerTotals};
-use crate::location_text::put_location;
 use crate::line_text::{
     LineText, push_address, push_bytes, push_number, push_number_line, push_wide_pair_line,
     wide_total_text,
 };
+use crate::location_text::put_location;
 use crate::sections::put_both;
 use arrayvec::ArrayVec;
 use mtrace_log::{Addr, Failed, LONGEST_ADDRESS, Sink, put_all};

@@ -1,8 +1,5 @@
-use Rattle.std.proofs.Common.{rules, ◌≡◌, List, ◌∷◌, subst, ◌∙◌, inl, inr}
-use Rattle.std.specs.Prelude.{Result, Ok, Err}
-use Rattle.mtrace_log.specs.Trace.{HasTaken, FlushWasAsked, flushed}
+use Rattle.std.proofs.Common.{rules, subst, ◌∙◌}
 use Rattle.mtrace_log.specs.declared.failed.Failed.{Failed as Failure}
-use Rattle.mtrace_log.specs.declared.call.Call.{Call}
 use Rattle.mtrace_log.specs.Output.{Wrote}
 use Rattle.mtrace_replay.specs.declared.report.Report.{Report}
 use Rattle.mtrace_replay.specs.Run.{end_text}
@@ -11,7 +8,6 @@ use Rattle.mtrace_log.proofs.TraceLemmas.{moved_then_append, failed_after}
 use Rattle.mtrace_replay.proofs.RunLemmas.{report_all, ends_at, report_write}
 use Rattle.mtrace_replay.proofs.RunLemmas.{flush_asked}
 use Rattle.mtrace_replay.proofs.run.replay_log.Goals as goal
-
 
 -- the log has ended, and all was written
 pub returns-in-Ok-finish-clause-ran : goal.returns-in-Ok-finish-clause-ran

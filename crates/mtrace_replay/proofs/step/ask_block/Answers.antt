@@ -1,5 +1,5 @@
 -- Both requests for a block.
-use Rattle.std.proofs.Common.{◌∙◌, arith}
+use Rattle.std.proofs.Common.{arith}
 use Rattle.std.proofs.lemmas.Result.{IfOk-weaker, on_err_weaker}
 use Rattle.mtrace_replay.proofs.step.ask_block.Goals as goal
 

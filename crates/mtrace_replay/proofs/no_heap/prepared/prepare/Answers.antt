@@ -1,7 +1,6 @@
 -- The sites are those of what was held at the peak, and of what is held.
 use Rattle.std.proofs.Common.{List, sym, subst}
-use Rattle.mtrace_replay.specs.Entry.{Entry}
-use Rattle.mtrace_replay.specs.Sites.{Site, AreSites, AreTallied}
+use Rattle.mtrace_replay.specs.Sites.{Site, AreTallied}
 use Rattle.mtrace_replay.proofs.no_heap.prepared.prepare.Goals as goal
 
 pub returns-in_ok-end-in-Sites-clause-named : goal.returns-in_ok-end-in-Sites-clause-named

@@ -1,4 +1,4 @@
-use Rattle.std.proofs.Common.{refl, ◌∙◌, subst}
+use Rattle.std.proofs.Common.{◌∙◌, subst}
 use Rattle.mtrace_log.specs.declared.call.Call.TheVariants.{Took, Flushed}
 use Rattle.mtrace_log.proofs.TraceLemmas.{moved_then_append, failed_after}
 use Rattle.mtrace_replay.specs.Prepared.{IsOf}

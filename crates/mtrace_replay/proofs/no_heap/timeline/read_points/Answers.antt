@@ -1,5 +1,5 @@
 use Rattle.std.specs.List.{All}
-use Rattle.std.proofs.Common.{◌≡◌, ◌+◌, ◌≤◌, ℕ, suc, List, [], ◌∷◌, ◌++◌, map, take, refl, sym, ap, subst, ◌∙◌, arith, inl, inr, reverse}
+use Rattle.std.proofs.Common.{◌≡◌, ◌+◌, ◌≤◌, ℕ, suc, List, [], ◌∷◌, ◌++◌, map, take, sym, ap, subst, ◌∙◌, arith, inl, inr, reverse}
 use Rattle.std.specs.Prelude.{Err}
 use Rattle.std.proofs.Math.ListN.{get_or}
 use Rattle.std.proofs.lemmas.List.{take_all}
@@ -9,14 +9,14 @@ use Rattle.mtrace_log.specs.Trace.{HasNotFailed}
 use Rattle.mtrace_log.specs.declared.call.Call.{Call}
 use Rattle.mtrace_log.specs.declared.call.Call.TheVariants.{Gave}
 use Rattle.mtrace_log.proofs.TraceLemmas.{moved_none}
-use Rattle.mtrace_log.specs.Shown.{Bytes, ReaderState}
+use Rattle.mtrace_log.specs.Shown.{Bytes}
 use Rattle.mtrace_replay.specs.declared.no_heap.point.LedgerPoint.{LedgerPoint}
 use Rattle.mtrace_replay.specs.Again.{HasReadFirst}
 use Rattle.mtrace_replay.specs.Replaying.{HasGivenSo}
 use Rattle.mtrace_replay.specs.Served.{IsServed}
 use Rattle.mtrace_replay.specs.ServedTimeline.{IsPointOfLines}
 use Rattle.mtrace_replay.specs.Texts.{greatest}
-use Rattle.mtrace_replay.proofs.ReplayingLemmas.{no_line, followed_start}
+use Rattle.mtrace_replay.proofs.ReplayingLemmas.{followed_start}
 use Rattle.mtrace_replay.proofs.AgainLemmas.{read_first, other_result}
 use Rattle.mtrace_replay.proofs.Points.{HasGathered, greatest_taken, up_to_next, gathered_more, lines_more, within_more}
 use Rattle.mtrace_replay.proofs.TriedLemmas.{fails_again}

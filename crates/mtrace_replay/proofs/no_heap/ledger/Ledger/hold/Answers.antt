@@ -1,5 +1,5 @@
 -- The map gains the address, and so do the entries and the share of its location.
-use Rattle.std.proofs.Common.{◌+◌, ◌∙◌, refl, sym, ap, subst, Some, cond, arith, nat_eq}
+use Rattle.std.proofs.Common.{◌+◌, ◌∙◌, refl, sym, ap, subst, Some, cond, arith}
 use Rattle.std.specs.Prelude.{◌==◌}
 use Rattle.std.specs.Map.{values_of}
 use Rattle.mtrace_replay.specs.declared.no_heap.ledger.Kept.{Kept}
@@ -12,9 +12,10 @@ use Rattle.mtrace_replay.proofs.no_heap.ledger.Ledger.hold.Goals as goal
 
 pub invariant_of-self : goal.invariant_of-self
 invariant_of-self c =
-    let new = c.number_at.new.self in
-    (still_keeps c.self.inside.locations new c.number_at.ensures.others c.self.inside.held.entries c.self.inside.bytes c.self.invariant.0,
-    shared-longer c.self.inside.locations new c.number_at.ensures.others (values_of c.self.inside.held.entries) c.self.inside.shares c.self.invariant.1)
+    let new = c.number_at.new.self in (
+      still_keeps c.self.inside.locations new c.number_at.ensures.others c.self.inside.held.entries c.self.inside.bytes c.self.invariant.0,
+      shared-longer c.self.inside.locations new c.number_at.ensures.others (values_of c.self.inside.held.entries) c.self.inside.shares c.self.invariant.1,
+    )
 
 pub returns-in_err-location-clause-unchanged : goal.returns-in_err-location-clause-unchanged
 returns-in_err-location-clause-unchanged c =
@@ -23,9 +24,10 @@ returns-in_err-location-clause-unchanged c =
     (record { now = λ slot. refl; marked = λ slot. refl; mark = refl }) ∙ c.self.view_is)
 
 pub invariant_of-self-in_err-cover : goal.invariant_of-self-in_err-cover
-invariant_of-self-in_err-cover c =
-    (keeps_now c.self.inside.locations c.number_at.new.self c.number_at.ensures.others c.self.inside.held.entries c.self.inside.bytes c.self.inside.shares c.cover.new.self c.cover.ensures.kept c.self.invariant,
-    shared_now c.self.inside.locations c.number_at.new.self c.number_at.ensures.others c.self.inside.held.entries c.self.inside.bytes c.self.inside.shares c.cover.new.self c.cover.ensures.kept c.self.invariant)
+invariant_of-self-in_err-cover c = (
+  keeps_now c.self.inside.locations c.number_at.new.self c.number_at.ensures.others c.self.inside.held.entries c.self.inside.bytes c.self.inside.shares c.cover.new.self c.cover.ensures.kept c.self.invariant,
+  shared_now c.self.inside.locations c.number_at.new.self c.number_at.ensures.others c.self.inside.held.entries c.self.inside.bytes c.self.inside.shares c.cover.new.self c.cover.ensures.kept c.self.invariant,
+)
 
 pub returns-in_err-cover-clause-unchanged : goal.returns-in_err-cover-clause-unchanged
 returns-in_err-cover-clause-unchanged c =
@@ -36,9 +38,10 @@ returns-in_err-cover-clause-unchanged c =
 pub invariant_of-self-in_err-before : goal.invariant_of-self-in_err-before
 invariant_of-self-in_err-before c =
     let new = c.number_at.new.self in
-    subst (λ held. IsLedger new held c.self.inside.bytes × AreShared new c.cover.new.self (values_of held)) (sym c.in_err-before.ensures.err)
-    (keeps_now c.self.inside.locations c.number_at.new.self c.number_at.ensures.others c.self.inside.held.entries c.self.inside.bytes c.self.inside.shares c.cover.new.self c.cover.ensures.kept c.self.invariant,
-    shared_now c.self.inside.locations c.number_at.new.self c.number_at.ensures.others c.self.inside.held.entries c.self.inside.bytes c.self.inside.shares c.cover.new.self c.cover.ensures.kept c.self.invariant)
+    subst (λ held. IsLedger new held c.self.inside.bytes × AreShared new c.cover.new.self (values_of held)) (sym c.in_err-before.ensures.err) (
+      keeps_now c.self.inside.locations c.number_at.new.self c.number_at.ensures.others c.self.inside.held.entries c.self.inside.bytes c.self.inside.shares c.cover.new.self c.cover.ensures.kept c.self.invariant,
+      shared_now c.self.inside.locations c.number_at.new.self c.number_at.ensures.others c.self.inside.held.entries c.self.inside.bytes c.self.inside.shares c.cover.new.self c.cover.ensures.kept c.self.invariant,
+    )
 
 pub returns-in_err-before-clause-unchanged : goal.returns-in_err-before-clause-unchanged
 returns-in_err-before-clause-unchanged c =

@@ -1,5 +1,5 @@
 -- The map loses the address, and so do the entries and the share of its location.
-use Rattle.std.proofs.Common.{nat_eq, ◌∙◌, sym, ap, is_some, None, arith, subst, refl}
+use Rattle.std.proofs.Common.{nat_eq, ◌∙◌, sym, ap, is_some, None, arith}
 use Rattle.mtrace_replay.specs.Ledger.{LedgerState}
 use Rattle.mtrace_replay.proofs.LedgerLemmas.{tells, changes_at, is_within, less}
 use Rattle.mtrace_replay.proofs.LedgerPeak.{peak_stays}
@@ -40,11 +40,12 @@ overflow_sub-self c =
 pub invariant_of-self-2 : goal.invariant_of-self-2
 invariant_of-self-2 c =
     let there = sym c.remove.ensures.value ∙ c.in-Some.is in
-    let within = is_within c.self.inside.locations c.self.inside.held.entries c.self.inside.bytes c.self.invariant.0 (nat_eq c.value.result) c.in-Some.held there in
-    (less c.self.inside.locations c.self.inside.held.entries c.remove.new.self.entries c.self.inside.bytes _ c.self.invariant.0 (nat_eq c.value.result) c.in-Some.held
-    there c.remove.ensures.entries c.remove.ensures.unique (omega (arith, within, c.from.ensures)),
-    shared-less c.self.inside.locations c.self.inside.held.entries c.remove.new.self.entries (nat_eq c.value.result) c.in-Some.held there c.remove.ensures.entries
-    c.self.inside.shares c.take.new.self c.self.invariant.1 (rw (sym c.slot_of.ensures) c.take.ensures))
+    let within = is_within c.self.inside.locations c.self.inside.held.entries c.self.inside.bytes c.self.invariant.0 (nat_eq c.value.result) c.in-Some.held there in (
+      less c.self.inside.locations c.self.inside.held.entries c.remove.new.self.entries c.self.inside.bytes _ c.self.invariant.0 (nat_eq c.value.result) c.in-Some.held
+          there c.remove.ensures.entries c.remove.ensures.unique (omega (arith, within, c.from.ensures)),
+      shared-less c.self.inside.locations c.self.inside.held.entries c.remove.new.self.entries (nat_eq c.value.result) c.in-Some.held there c.remove.ensures.entries
+          c.self.inside.shares c.take.new.self c.self.invariant.1 (rw (sym c.slot_of.ensures) c.take.ensures),
+    )
 
 pub returns-clause-was : goal.returns-clause-was
 returns-clause-was c =

@@ -1,5 +1,5 @@
 -- What is held at the mark is what is held now.
-use Rattle.std.proofs.Common.{slice_index_or, sym, subst}
+use Rattle.std.proofs.Common.{sym, subst}
 use Rattle.std.specs.Map.{values_of}
 use Rattle.mtrace_replay.specs.Ledger.{LedgerState}
 use Rattle.mtrace_replay.specs.Sites.{AreTallied}
@@ -11,9 +11,10 @@ use Rattle.mtrace_replay.proofs.no_heap.ledger.Ledger.set_mark.Goals as goal
 
 pub invariant_of-self : goal.invariant_of-self
 invariant_of-self c =
-    let all = values_of c.self.inside.held.entries in
-    (c.self.invariant.0,
-    shared-marked c.self.inside.locations c.args.line all c.self.inside.shares c.set_mark.new.self (λ k d within. (c.self.invariant.0.kept k d within).location) c.self.invariant.1 c.set_mark.ensures)
+    let all = values_of c.self.inside.held.entries in (
+      c.self.invariant.0,
+      shared-marked c.self.inside.locations c.args.line all c.self.inside.shares c.set_mark.new.self (λ k d within. (c.self.invariant.0.kept k d within).location) c.self.invariant.1 c.set_mark.ensures,
+    )
 
 pub returns-clause-at_peak : goal.returns-clause-at_peak
 returns-clause-at_peak c =

@@ -1,6 +1,5 @@
 -- The sites by slot, sorted, are those of the entries.
 use Rattle.std.proofs.Common.{◌≡◌, ℕ, List, reverse, refl, sym, subst}
-use Rattle.std.specs.List.{AllByRecursion}
 use Rattle.std.specs.List.Sorted.{IsPermutation}
 use Rattle.std.proofs.lemmas.List.Sorted.{IsPermutation-reverse, IsPermutation-sym, IsPermutation-trans}
 use Rattle.mtrace_replay.specs.Entry.{Entry}

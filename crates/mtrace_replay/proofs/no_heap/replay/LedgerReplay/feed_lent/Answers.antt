@@ -50,10 +50,10 @@ returns c =
     record {
       stands = λ past. subst (λ (before : Standing). IsServed before past → IsServed new (event ∷ past)) c.self.view_is
           (λ stands.
-              let held = held_on old middle past event stands (subst H next c.in_ok-is_given.ensures.held) c.keeps_order.ensures in
-              let count = ap (λ n. n + c.from.result) stands.served_are ∙ ap (λ n. count_by is_served (served_moments past) + n) one
-              ∙ served_on old middle past event stands (subst H next c.in_ok-is_given.ensures.held) c.keeps_order.ensures in
-              raised old middle new past event stands held (next ∙ omega (arith, stands.lines_are)) refl refl refl c.in_ok-is_given.ensures.peak.at_peak c.raise_peak.ensures count c.old_address-next.ensures);
+          let held = held_on old middle past event stands (subst H next c.in_ok-is_given.ensures.held) c.keeps_order.ensures in
+          let count = ap (λ n. n + c.from.result) stands.served_are ∙ ap (λ n. count_by is_served (served_moments past) + n) one
+          ∙ served_on old middle past event stands (subst H next c.in_ok-is_given.ensures.held) c.keeps_order.ensures in
+          raised old middle new past event stands held (next ∙ omega (arith, stands.lines_are)) refl refl refl c.in_ok-is_given.ensures.peak.at_peak c.raise_peak.ensures count c.old_address-next.ensures);
       told = λ past. subst (λ (before : Standing). IsServed before past → c.put_half.new.findings ≡ added_served event past) c.self.view_is
           (λ stands. told_on old middle past event stands (subst H next c.in_ok-is_given.ensures.held) c.keeps_order.ensures c.put_half.new.findings
           (c.put_half.ensures ∙ ap (λ (all : List Diagnostic). all ++ c.outcome.new.findings) c.half_before-half.ensures
