@@ -719,6 +719,26 @@ static void each_byte_in_front(void)
     expect(kept && tlsf_block_size(one) == 40, "and the block is kept");
 }
 
+/* A size and a slot take 42 bits of a front before it is scrambled. A bit above them, in each place:
+ * no call takes the pointer for its block. */
+static void each_bit_too_many(void)
+{
+    tlsf_t tlsf = tlsf_create_with_pool(memory, sizeof memory);
+    unsigned char *one = (unsigned char *)tlsf_malloc(tlsf, 40);
+    bool told = true;
+    for (unsigned bit = 42; bit < 64; bit++) {
+        uint64_t whole, front;
+        memcpy(&whole, one - 8, 8);
+        front = whole + ((uint64_t)1 << bit) * 0x9e3779b97f4a7c15u;
+        memcpy(one - 8, &front, 8);
+        told = told && tlsf_block_size(one) == 0 && tlsf_live_size(tlsf, one) == 0
+               && tlsf_check(tlsf) == -1;
+        memcpy(one - 8, &whole, 8);
+    }
+    expect(told && tlsf_block_size(one) == 40 && tlsf_check(tlsf) == 0,
+           "each bit too many in front of a block is told");
+}
+
 /* A byte behind a block is the next one's front. */
 static void overruns(void)
 {
@@ -1256,6 +1276,7 @@ int main(void)
     forged_fronts();
     other_fronts();
     each_byte_in_front();
+    each_bit_too_many();
     overruns();
     refused_requests();
     refused_once();
