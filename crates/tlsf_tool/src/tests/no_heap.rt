@@ -126,6 +126,12 @@ fn words_without_a_heap(rt: HostRuntime) -> Result<(), Fail> {
         sums,
         Some((LedgerReport::Sums, String::from_str(alloc, "-")?)),
     );
+    let sites = asked(alloc, &["tlsf", "sites", "-"])?;
+    expect_eq(
+        &rt,
+        sites,
+        Some((LedgerReport::Sites, String::from_str(alloc, "-")?)),
+    );
     Ok(())
 }
 

@@ -91,7 +91,7 @@ fn reports_and_images(rt: HostRuntime) -> Result<(), Fail> {
     Ok(())
 }
 
-/// The greatest heap: `sites` takes it where no option is given, and `timeline` takes from it what is not given.
+/// The greatest heap: `sites` and `timeline` take from it what is not given, where an option of a heap is.
 const GREATEST: Settings = Settings {
     pool: 1_073_741_808,
     pools: 1,
@@ -100,7 +100,10 @@ const GREATEST: Settings = Settings {
 
 /// Words of a log that is read more than once, with what it is read for.
 const AGAIN: [(&[&str], Rereading); 8] = [
-    (&["tlsf", "sites"], Rereading::Sites(GREATEST)),
+    (
+        &["tlsf", "sites", "--pools", "1"],
+        Rereading::Sites(GREATEST),
+    ),
     (
         &["tlsf", "sites", "--records", "777", "--pools", "5"],
         Rereading::Sites(Settings {
