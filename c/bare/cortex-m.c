@@ -1,6 +1,6 @@
 /* The start of a program without a system, for Cortex-M: what the processor reads first, and what C
- * wants before main. What is marked BOARD is of QEMU's machine `mps2-an385`: here, in console.h, and in
- * cortex-m.ld. Not proved. */
+ * wants before main. What is marked BOARD is of QEMU's machines `mps2-an385` and `mps2-an386`: here, in
+ * console.h, and in cortex-m.ld. Not proved. */
 #include <stdint.h>
 
 #include "console.h"
@@ -23,6 +23,10 @@ static void off(int status)
 
 void reset(void)
 {
+#ifdef __ARM_FP /* the floating-point unit is on: CPACR */
+    *(volatile uint32_t *)0xe000ed88 |= 0xf00000;
+    __asm__ volatile("dsb\n\tisb");
+#endif
     const uint32_t *from = data_from;
     for (uint32_t *at = data; at < data_end; at++) {
         *at = *from++;
