@@ -1,5 +1,5 @@
-/* For a test on a board without a system: the C library writes on the console of c/bare. */
-#include "../../c/bare/console.h"
+/* The C library writes on the console of the board, where a program takes its printf. Not proved. */
+#include "console.h"
 
 int _write(int file, const char *text, int length);
 void trapped(uint64_t kind, uint64_t instruction);
