@@ -1,5 +1,5 @@
 /* The console of the board. What is marked BOARD is of QEMU's machine `virt` for 64-bit ARM and for
- * RISC-V, of `mps2-an385` for Cortex-M, and of `microbit`. Not proved.
+ * RISC-V, of `mps2-an385` and `mps2-an386` for Cortex-M, and of `microbit`. Not proved.
  *
  * For another board these have to be changed:
  *

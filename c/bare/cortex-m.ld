@@ -1,5 +1,5 @@
-/* Where a program for Cortex-M lies. What is marked BOARD is of QEMU's machine `mps2-an385`. For
- * `microbit` c/Makefile tells less flash and RAM. */
+/* Where a program for Cortex-M lies. What is marked BOARD is of QEMU's machines `mps2-an385` and
+ * `mps2-an386`. For `microbit` c/Makefile tells less flash and RAM. */
 MEMORY
 {
     CODE (rx) : ORIGIN = 0x00000000, LENGTH = DEFINED(flash_bytes) ? flash_bytes : 4M  /* BOARD: its flash */

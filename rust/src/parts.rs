@@ -132,7 +132,8 @@ impl<'m> Parts<'m> {
 
     /// A block for this layout: where it begins, where in it the layout's alignment is, and its heap.
     fn allocate(&self, layout: Layout) -> Option<(NonNull<u8>, NonNull<u8>, &Heap<'m>)> {
-        let room = layout.size().max(1) + layout.align().max(16) - 16;
+        let more = layout.align().saturating_sub(16);
+        let room = layout.size().max(1).saturating_add(more);
         let serves = |part: &&PartHeap| part.told.largest as usize >= room;
         let part = match self.parts.iter().flatten().find(serves) {
             Some(part) => part,
