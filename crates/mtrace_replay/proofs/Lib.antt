@@ -1,6 +1,8 @@
 mod AgainLemmas
 mod ArrangeLemmas
 mod AskedBlock
+mod CallersBySlot
+mod CallsLemmas
 mod DiagnosticLemmas
 mod EnoughBlocks
 mod EnoughRecords
@@ -25,6 +27,7 @@ mod ReplayingLemmas
 mod PlanLemmas
 mod Points
 mod RowLemmas
+mod RowsBySlot
 mod RunLemmas
 mod RunsAgain
 pub mod SaveLemmas
