@@ -25,8 +25,7 @@ fn hold(ledger: &mut Ledger, entry: &Entry<LentLocation<'_>>) -> Result<(), Allo
     let Some(lent) = &entry.at else {
         return ledger.hold(entry.addr, entry.size, entry.line, None);
     };
-    let kept = lent.keep();
-    ledger.hold(entry.addr, entry.size, entry.line, Some(kept.bytes()))
+    ledger.hold(entry.addr, entry.size, entry.line, Some(lent.bytes()))
 }
 
 /// `+ address size`, or `* address align size`: holds the address, unless it is held. Answers whether it does.
@@ -81,8 +80,7 @@ fn replace(
     let Some(lent) = &entry.at else {
         return ledger.replace(old, entry.addr, entry.size, entry.line, None);
     };
-    let kept = lent.keep();
-    ledger.replace(old, entry.addr, entry.size, entry.line, Some(kept.bytes()))
+    ledger.replace(old, entry.addr, entry.size, entry.line, Some(lent.bytes()))
 }
 
 /// Whether the address is another one than the old one, and held.

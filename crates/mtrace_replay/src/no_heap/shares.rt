@@ -121,13 +121,12 @@ impl Shares {
         ensures count { Counts slot count self.old self.new }
         ensures total { self.new.total ≡ total }
     {
-        let before = self.all[slot].at_mark(self.mark);
-        self.all[slot] = Share {
-            now,
-            before,
-            changed: self.mark,
-            count,
-        };
+        let mark = self.mark;
+        let share = &mut self.all[slot];
+        share.before = share.at_mark(mark);
+        share.now = now;
+        share.changed = mark;
+        share.count = count;
         self.total = total;
     }
 
@@ -141,14 +140,14 @@ impl Shares {
         ensures count { Counts slot (count_more (count_at self.old slot) size) self.old self.new }
         ensures total { self.new.total ≡ count_more self.old.total size }
     {
-        let share = self.all[slot];
+        let (now, count) = (self.all[slot].now, self.all[slot].count);
         self.change(
             slot,
             Amount {
-                blocks: share.now.blocks + 1,
-                bytes: share.now.bytes + u128::from(size),
+                blocks: now.blocks + 1,
+                bytes: now.bytes + u128::from(size),
             },
-            share.count.with_call(size),
+            count.with_call(size),
             self.total.with_call(size),
         );
     }
@@ -161,14 +160,14 @@ impl Shares {
         ensures amount { Changes slot (amount_less (now_at self.old slot) size) self.old self.new }
         ensures counts { KeepsCounts self.old self.new }
     {
-        let share = self.all[slot];
+        let (now, count) = (self.all[slot].now, self.all[slot].count);
         self.change(
             slot,
             Amount {
-                blocks: share.now.blocks - 1,
-                bytes: share.now.bytes - u128::from(size),
+                blocks: now.blocks - 1,
+                bytes: now.bytes - u128::from(size),
             },
-            share.count,
+            count,
             self.total,
         );
     }
