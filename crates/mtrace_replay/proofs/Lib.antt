@@ -1,6 +1,7 @@
 mod AgainLemmas
 mod ArrangeLemmas
 mod AskedBlock
+mod CallerRows
 mod CallersBySlot
 mod CallsLemmas
 mod DiagnosticLemmas
