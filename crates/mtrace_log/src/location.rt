@@ -125,6 +125,13 @@ impl<'a> LentLocation<'a> {
         Some((LentLocation { text }, rest))
     }
 
+    /// Its bytes, where they lie.
+    pub fn bytes(&self) -> &[u8]
+        ensures { result.now ≡ self.now }
+    {
+        self.text
+    }
+
     /// The location, kept.
     pub fn keep(&self) -> Location
         ensures { result ≡ self.now }

@@ -1,7 +1,7 @@
 -- A ledger's entries in order of address, against its map.
-use Rattle.std.proofs.Common.{cond, Bool, true, false, Option, Some, None, is_some, ◌≡◌, ℕ, suc, ◌+◌, ◌*◌, ◌^◌, ◌<◌, ◌≤◌, List, [], ◌∷◌, length, map, slice_index_or, sum_by, ◌⊎◌, inl, inr, refl, sym, ap, ◌∙◌, arith, Less}
+use Rattle.std.proofs.Common.{cond, Bool, true, false, Option, Some, None, is_some, ◌≡◌, ℕ, suc, ◌+◌, ◌*◌, ◌^◌, ◌<◌, ◌≤◌, List, [], ◌∷◌, length, map, slice_index_or, sum_by, ◌⊎◌, inl, inr, refl, sym, ap, ◌∙◌, subst, arith, Less}
 use Rattle.std.specs.Prelude.{◌==◌, nat_lt, nat_eq, slice_get, option_map, Result, Ok, Err, OnErr}
-use Rattle.std.specs.Option.{IsSome}
+use Rattle.std.specs.Option.{IsSome, IfSome}
 use Rattle.std.specs.List.{All}
 use Rattle.std.specs.List.{AllByRecursion}
 use Rattle.std.specs.List.Sorted.{IsPermutation, IsStrictlySortedBy, IsStrictlyIncreasing}
@@ -12,7 +12,7 @@ use Rattle.std.specs.Option.{unwrap_or}
 use Rattle.std.specs.Map.{lookup, remove_entry, keys_of, values_of}
 use Rattle.std.proofs.lemmas.List.Sums.{sum_by-cons}
 use Rattle.std.proofs.lemmas.Map.Entries.{sum_by_values_permutation, sum_by-remove_entry}
-use Rattle.std.proofs.lemmas.Map.Views.{All-map-IsPermutation, All-map-remove_entry}
+use Rattle.std.proofs.lemmas.Map.Views.{All-map-IsPermutation, All-map-remove_entry, IfSome-lookup_from_All}
 use Rattle.std.proofs.lemmas.Bool.{cases_eq, false≢true, cond-false, eq-eqb, ne_eqb}
 use Rattle.std.proofs.lemmas.Bool.Decides.{nat_tests}
 use Rattle.mtrace_replay.specs.Entry.{Entry}
@@ -152,6 +152,11 @@ module _ (locations : List (List ℕ)) where
           ∙ sym (ap (λ b. cond b (option_map (λ h. entry_of locations (address, h)) w) (held_at now q)) (ne_eqb address q (λ is. other (same ∙ is))))
 
   -- what a look-up in the map tells
+  pub tells_what : (old : List (ℕ × Kept)) (now : List Entry) → all_in_order locations old ≡ now → (key address : ℕ) → key ≡ address → (o : Option Kept) → o ≡ lookup (nat_eq key) old
+      → option_map (λ h. entry_of locations (address, h)) o ≡ held_at now address
+  tells_what old now view key address same o is =
+      ap (option_map (λ h. entry_of locations (address, h))) (is ∙ ap (λ a. lookup (nat_eq a) old) same) ∙ sym (found locations old address) ∙ ap (λ all. held_at all address) view
+
   pub tells : (old : List (ℕ × Kept)) (now : List Entry) → all_in_order locations old ≡ now → (key address : ℕ) → key ≡ address → (o : Option Kept) → o ≡ lookup (nat_eq key) old
       → is_some o ≡ is_some (held_at now address)
   tells old now view key address same o is =
@@ -187,6 +192,10 @@ module _ (locations : List (List ℕ)) where
 
   pub is_small : (held : List (ℕ × Kept)) (bytes : ℕ) → IsLedger locations held bytes → length held < 2 ^ 63 → bytes < 2 ^ 127
   is_small held bytes keeps few = let most = sum_small held keeps.kept in omega (arith, most, few, keeps.bytes_are)
+
+-- what a look-up finds is kept
+pub kept_there : (locations : List (List ℕ)) (held : List (ℕ × Kept)) (test : ℕ → Bool) (h : Kept) → lookup test held ≡ Some h → All (IsKept locations) (values_of held) → IsKept locations h
+kept_there locations held test h is all = subst (λ o. IfSome o (IsKept locations)) is (IfSome-lookup_from_All (IsKept locations) test held all)
 
 -- with more locations
 pub still_keeps : (locations new : List (List ℕ)) → Extends locations new → (held : List (ℕ × Kept)) (bytes : ℕ) → IsLedger locations held bytes → IsLedger new held bytes

@@ -1,6 +1,9 @@
 mod AgainLemmas
 mod ArrangeLemmas
 mod AskedBlock
+mod CallerRows
+mod CallersBySlot
+mod CallsLemmas
 mod DiagnosticLemmas
 mod EnoughBlocks
 mod EnoughRecords
@@ -25,6 +28,7 @@ mod ReplayingLemmas
 mod PlanLemmas
 mod Points
 mod RowLemmas
+mod RowsBySlot
 mod RunLemmas
 mod RunsAgain
 pub mod SaveLemmas

@@ -11,8 +11,11 @@ use Rattle.mtrace_replay.specs.Step.{found}
 use Rattle.mtrace_replay.specs.Totals.{is_served, first_moments, Measures, IsPeak, bytes_in, blocks_in}
 use Rattle.mtrace_replay.specs.Texts.{total_size}
 use Rattle.mtrace_replay.specs.Ledger.{held_at}
-use Rattle.mtrace_replay.specs.Served.{unplaced, all_served, served_moment, served_moments, found_in, Standing, IsServed, IsAtPeak, RaisesPeak, added_served}
+use Rattle.mtrace_replay.specs.Calls.{no_calls}
+use Rattle.mtrace_replay.specs.Callers.{with_call, with_temporary, calls_in, temporary_in, AreCounted}
+use Rattle.mtrace_replay.specs.Served.{CountsAct, unplaced, all_served, served_moment, served_moments, found_in, Standing, IsServed, IsAtPeak, RaisesPeak, added_served}
 use Rattle.tlsf_heap.proofs.Counts.{count-cons}
+use Rattle.mtrace_replay.proofs.CallsLemmas.{adds}
 use Rattle.mtrace_replay.proofs.FoundLemmas.{found_is_held, held_as_found, none_held}
 use Rattle.std.proofs.lemmas.List.{length-map}
 use Rattle.std.proofs.lemmas.Bool.{cases_Bool}
@@ -43,7 +46,7 @@ length-served (line ∷ past) = ap suc (length-served past)
 
 -- nothing is held, nor was
 abbrev pub none_yet : Standing
-none_yet = record { all = []; lines = 0; served = 0; peak_bytes = 0; peak_line = 0; peak_blocks = 0; at_peak = []; pending = None }
+none_yet = record { all = []; lines = 0; served = 0; peak_bytes = 0; peak_line = 0; peak_blocks = 0; at_peak = []; called = record { callers = []; total = no_calls }; pending = None }
 
 pub none_served : IsServed none_yet []
 unfolding served_moments
@@ -59,6 +62,7 @@ none_served = record {
         subst (λ (all : List Given). AreTallied (entries_of all) []) (one_list [] [] all none_held held)
         (record { one = λ p. omega arith; blocks = λ p. refl; bytes = λ p. refl });
   };
+  called = record { calls_are = λ p. refl; bytes_are = λ p. refl; temporary_are = λ p. refl; total = refl };
 }
 
 module _ (old new : Standing) (past : List ReadLine) (line : ReadLine) (stands : IsServed old past)
@@ -93,6 +97,19 @@ module _ (old new : Standing) (past : List ReadLine) (line : ReadLine) (stands :
   served_on =
       ap (λ (planned : Plan). count_by is_served (served_moments past) + (if is_some (all_served planned).given then 1 else 0)) plan_is
       ∙ omega (arith, count-cons is_served (served_moment (length past) line (pending past) (held (served_moments past))) (served_moments past))
+
+  -- what the line adds to the calls
+  pub called_on : CountsAct (old.lines + 1) (plan (old.lines + 1) line old.pending (found_in old.all)).act old.all old.called new.called
+      → AreCounted (calls_in (served_moments (line ∷ past))) (temporary_in (line ∷ past) (served_moments (line ∷ past))) new.called
+  unfolding served_moments
+  called_on counts =
+      let number : old.lines + 1 ≡ suc (length past) = omega (arith, stands.lines_are) in
+      let its : CountsAct (suc (length past)) (plan (suc (length past)) line (pending past) (found_in old.all)).act old.all old.called new.called =
+      subst (λ p. CountsAct (suc (length past)) (plan (suc (length past)) line p (found_in old.all)).act old.all old.called new.called) stands.pending_is
+      (subst (λ n. CountsAct n (plan n line old.pending (found_in old.all)).act old.all old.called new.called) number counts) in
+      subst (λ look. AreCounted (with_call (all_served (plan (suc (length past)) line (pending past) look)).given (calls_in (served_moments past)))
+      (with_temporary (length past) line look (temporary_in past (served_moments past))) new.called) look_is
+      (adds (calls_in (served_moments past)) (temporary_in past (served_moments past)) old.called new.called stands.called (length past) old.all line (pending past) its)
 
   -- what the line adds to what is wrong
   pub told_on : (diagnostics : List Diagnostic) → diagnostics ≡ (if is_new line then [] else half old.lines old.pending) ++ (all_served (plan (old.lines + 1) line old.pending (found_in old.all))).diagnostics
@@ -158,8 +175,8 @@ module _ (old middle new : Standing) (past : List ReadLine) (line : ReadLine) (s
         sites = λ all held. subst (λ (sites : List Site). AreTallied (entries_of all) sites) (sym sites_are) (stands.at_peak.sites all held);
       })
 
-  pub raised : middle.served ≡ count_by is_served (served_moments (line ∷ past)) → middle.pending ≡ old_address line → IsServed new (line ∷ past)
-  raised served pending_is = record {
+  pub raised : AreCounted (calls_in now) (temporary_in (line ∷ past) now) middle.called → middle.served ≡ count_by is_served (served_moments (line ∷ past)) → middle.pending ≡ old_address line → IsServed new (line ∷ past)
+  raised called served pending_is = record {
     lines_are = raises.lines ∙ lines;
     served_are = raises.served ∙ served;
     pending_is = raises.pending ∙ pending_is;
@@ -169,4 +186,5 @@ module _ (old middle new : Standing) (past : List ReadLine) (line : ReadLine) (s
       | inl more ↦ at_new more
       | inr less ↦ at_old less
     ];
+    called = subst (AreCounted (calls_in now) (temporary_in (line ∷ past) now)) (sym raises.called) called;
   }

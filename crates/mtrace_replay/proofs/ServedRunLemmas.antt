@@ -15,7 +15,7 @@ use Rattle.mtrace_replay.specs.declared.no_heap.report.LedgerReport.{LedgerRepor
 use Rattle.mtrace_replay.specs.declared.no_heap.report.LedgerReport.TheVariants as report
 use Rattle.mtrace_replay.specs.declared.no_heap.prepared.Prepared.{Prepared}
 use Rattle.mtrace_replay.specs.declared.no_heap.prepared.Prepared.TheVariants as prepared
-use Rattle.mtrace_replay.specs.Prepared.{IsOf, HasNamed, prepared_text}
+use Rattle.mtrace_replay.specs.Prepared.{IsOf, AreHeldSites, HasNamed, held_text, prepared_text}
 use Rattle.mtrace_replay.specs.Entry.{Entry}
 use Rattle.mtrace_replay.specs.Sites.{Site, AreSites}
 use Rattle.mtrace_replay.specs.Totals.{bytes_in, first_moments}
@@ -26,7 +26,7 @@ use Rattle.mtrace_replay.specs.Texts.{diagnostics_text, leaks_report, both_secti
 use Rattle.mtrace_replay.specs.Run.{has_some}
 use Rattle.mtrace_replay.specs.Replaying.{IsFollowed}
 use Rattle.mtrace_replay.specs.Served.{unplaced, served_moment, served_moments, served_history, added_served, Standing, IsServed, totals_of}
-use Rattle.mtrace_replay.specs.RunServed.{served_notes, whole_served, AreServedTotals, TellsServed, ReportsServed, EndsServed, StopsServedAtRead, StopsServedAtWrite, StopsForMemory, served_end, LineServed, LineServedInPart, HasServed}
+use Rattle.mtrace_replay.specs.RunServed.{served_notes, whole_served, AreServedTotals, TellsServedSites, TellsServed, ReportsServed, EndsServed, StopsServedAtRead, StopsServedAtWrite, StopsForMemory, served_end, LineServed, LineServedInPart, HasServed}
 use Rattle.mtrace_replay.proofs.ReplayingLemmas.{prepend_nothing, no_line, followed_start, followed_line, followed_end, followed_fault, line_read, reverse-more}
 use Rattle.mtrace_replay.proofs.RunLemmas.{diagnostics_text-append, some_diagnostic-append, status-is}
 use Rattle.mtrace_replay.proofs.ServedLemmas.{length-served, entries_unplaced}
@@ -135,16 +135,27 @@ module _ (replay : Standing) (lines : List ReadLine) (stands : IsServed replay (
       ∙ ap (λ n. both_sections replay.peak_line (length peak_all) (total_size (entries_of peak_all)) peak n (total_size replay.all) end) (sym (length-map replay.all unplaced))
       ∙ ap (λ (all : List Entry). both_sections replay.peak_line (length peak_all) (total_size (entries_of peak_all)) peak (length given_of) (total_size all) end) (sym (entries_unplaced replay.all))
 
+  held_tells : (peak end : List Site) → AreHeldSites replay peak end → TellsServedSites lines (held_text replay peak end)
+  held_tells peak end named = record {
+    totals = totals_of replay;
+    summed = summed;
+    at_peak = record { all = peak_all; held = stands.at_peak.blocks.held; sites = peak; are = named.0 (entries_of peak_all) (stands.at_peak.sites peak_all stands.at_peak.blocks.held) };
+    at_end = record { all = given_of; held = stands.held; sites = end; are = subst (λ (all : List Entry). AreSites all end) (sym (entries_unplaced replay.all)) named.1 };
+    text_is = sections_are peak end;
+  }
+
   -- the text of a report for which memory was taken
   pub prepared_tells : (report : LedgerReport) (prepared : Prepared) → IsOf report prepared → HasNamed replay prepared → TellsServed report lines (prepared_text replay prepared)
   prepared_tells report.Held (prepared.Held addresses) is named = record { all = given_of; held = stands.held; text_is = ap leaks_report (sym (entries_unplaced replay.all)) }
   prepared_tells report.Sums prepared.Sums is named = record { totals = totals_of replay; summed = summed; text_is = refl }
-  prepared_tells report.Sites (prepared.Sites peak end) is named = record {
-    totals = totals_of replay;
-    summed = summed;
-    at_peak = record { all = peak_all; held = stands.at_peak.blocks.held; sites = peak.items; are = named.0 (entries_of peak_all) (stands.at_peak.sites peak_all stands.at_peak.blocks.held) };
-    at_end = record { all = given_of; held = stands.held; sites = end.items; are = subst (λ (all : List Entry). AreSites all end.items) (sym (entries_unplaced replay.all)) named.1 };
-    text_is = sections_are peak.items end.items;
+  prepared_tells report.Sites (prepared.Sites peak end) is named = held_tells peak.items end.items named
+  prepared_tells report.Callers (prepared.Callers peak end callers) is named = record {
+    held = held_text replay peak.items end.items;
+    tells = held_tells peak.items end.items named.0;
+    total = replay.called.total;
+    callers = callers.items;
+    calls_are = record { total_is = stands.called.total; callers_are = named.1 _ _ stands.called };
+    text_is = refl;
   }
   prepared_tells report.Nothing prepared.Nothing is named = refl
   prepared_tells report prepared is named = absurd is

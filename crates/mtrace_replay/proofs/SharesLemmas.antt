@@ -14,12 +14,13 @@ use Rattle.mtrace_replay.specs.declared.no_heap.ledger.Kept.{Kept}
 use Rattle.mtrace_replay.specs.declared.amount.Amount.{Amount}
 use Rattle.mtrace_replay.specs.declared.no_heap.shares.Share.{Share}
 use Rattle.mtrace_replay.specs.Locations.{Extends, HasLocation}
-use Rattle.mtrace_replay.specs.Shares.{ByLocation, no_share, nothing, amount_more, amount_less, now_at, Changes, KeepsShares, Marks}
-use Rattle.mtrace_replay.specs.Ledger.{slot_of, in_slot, AreShared}
+use Rattle.mtrace_replay.specs.Shares.{ByLocation, no_share, nothing, amount_more, amount_less, now_at, marked_at, count_at, Changes, KeepsCounts, KeepsShares, Marks}
+use Rattle.mtrace_replay.specs.declared.no_heap.count.Count.{Count}
+use Rattle.mtrace_replay.specs.Ledger.{slot_of, in_slot, AreShared, AreCalled}
 
 -- ---- what is kept in a slot
 
-abbrev in_its_slot : (Kept → ℕ) → ℕ → Kept → ℕ
+abbrev pub in_its_slot : (Kept → ℕ) → ℕ → Kept → ℕ
 in_its_slot measure slot kept = if slot_of kept.location == slot then measure kept else 0
 
 module _ (measure : Kept → ℕ) (slot : ℕ) where
@@ -60,7 +61,7 @@ module _ (get : Amount → ℕ) (measure : Kept → ℕ) (before : ByLocation) (
         omega (arith, now, shared slot, ap (λ b. cond b (measure h) 0) (ne_eqb (slot_of h.location) slot other))
   ]
 
-abbrev count_one : Kept → ℕ
+abbrev pub count_one : Kept → ℕ
 count_one kept = 1
 
 abbrev size_of : Kept → ℕ
@@ -105,12 +106,16 @@ module _ (locations : List (List ℕ)) where
         beyond = λ slot above. changes.marked slot ∙ shared.beyond slot above;
       }
 
-  pub shared-kept : (all : List Kept) (before after : ByLocation) → AreShared locations before all → KeepsShares before after → AreShared locations after all
-  shared-kept all before after shared kept = record {
-    blocks = λ slot. ap (λ (a : Amount). a.blocks) (kept.now slot) ∙ shared.blocks slot;
-    bytes = λ slot. ap (λ (a : Amount). a.bytes) (kept.now slot) ∙ shared.bytes slot;
-    beyond = λ slot above. kept.marked slot ∙ shared.beyond slot above;
+  pub shared-same : (all : List Kept) (before after : ByLocation) → AreShared locations before all → ((slot : ℕ) → now_at after slot ≡ now_at before slot)
+      → ((slot : ℕ) → marked_at after slot ≡ marked_at before slot) → AreShared locations after all
+  shared-same all before after shared now marked = record {
+    blocks = λ slot. ap (λ (a : Amount). a.blocks) (now slot) ∙ shared.blocks slot;
+    bytes = λ slot. ap (λ (a : Amount). a.bytes) (now slot) ∙ shared.bytes slot;
+    beyond = λ slot above. marked slot ∙ shared.beyond slot above;
   }
+
+  pub shared-kept : (all : List Kept) (before after : ByLocation) → AreShared locations before all → KeepsShares before after → AreShared locations after all
+  shared-kept all before after shared kept = shared-same all before after shared kept.now kept.marked
 
   -- no more in a slot than in all
   pub in_slot-most : (measure : Kept → ℕ) (slot : ℕ) (all : List Kept) → in_slot measure slot all ≤ sum_by measure all
@@ -123,7 +128,7 @@ module _ (locations : List (List ℕ)) where
       least false = omega arith
 
   -- no slot behind those of the locations has any
-  slot_within : (h : Kept) → HasLocation locations h.location → slot_of h.location ≤ length locations
+  pub slot_within : (h : Kept) → HasLocation locations h.location → slot_of h.location ≤ length locations
   slot_within h there = by h.location refl
     where
       by : (p : Option ℕ) → h.location ≡ p → slot_of p ≤ length locations
@@ -156,7 +161,7 @@ module _ (locations : List (List ℕ)) where
           (λ i. record { blocks = x i; bytes = y i })
 
 -- there are more locations
-longer : (locations new : List (List ℕ)) → Extends locations new → length locations ≤ length new
+pub longer : (locations new : List (List ℕ)) → Extends locations new → length locations ≤ length new
 longer locations new extends = elim (cases_lt (length new) (length locations)) [
   | inr few ↦ few
   | inl more ↦
@@ -178,3 +183,22 @@ slot_there shares slot some = elim (cases_lt slot (length shares.all)) [
   | inl within ↦ within
   | inr past ↦ absurd (omega (arith, some, ap (λ (share : Share). share.now.blocks) (get_or_past shares.all slot no_share past)))
 ]
+
+-- each location has what it had, and asked for what it asked for
+pub called-kept : (locations : List (List ℕ)) (many : ℕ) (before after : ByLocation) → AreCalled locations before many → ((slot : ℕ) → now_at after slot ≡ now_at before slot)
+    → KeepsCounts before after → AreCalled locations after many
+called-kept locations many before after called now counts = record {
+  held = λ slot. rw (now slot, counts.now slot) (called.held slot);
+  total = rw counts.total called.total;
+  words = λ slot. rw (counts.now slot) (called.words slot);
+  beyond = λ slot above. ap (λ (count : Count). count.calls) (counts.now slot) ∙ called.beyond slot above;
+}
+
+-- there are more locations
+pub called-longer : (locations new : List (List ℕ)) → Extends locations new → (many : ℕ) (shares : ByLocation) → AreCalled locations shares many → AreCalled new shares many
+called-longer locations new extends many shares called = record {
+  held = called.held;
+  total = called.total;
+  words = called.words;
+  beyond = λ slot above. called.beyond slot (omega (arith, above, longer locations new extends));
+}

@@ -4,3 +4,5 @@ pub mod Gathered
 pub mod Exact
 pub mod Sorting
 pub mod OneList
+pub mod CallerOrder
+pub mod OneEach

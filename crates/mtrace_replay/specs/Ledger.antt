@@ -7,7 +7,8 @@ use Rattle.mtrace_replay.specs.Locations.{location_of, HasLocation}
 use Rattle.mtrace_replay.specs.Sites.{Site, AreTallied}
 use Rattle.mtrace_replay.specs.declared.no_heap.shares.When.{When}
 use Rattle.mtrace_replay.specs.declared.no_heap.shares.When.TheVariants.{Peak, End}
-use Rattle.mtrace_replay.specs.Shares.{ByLocation, nothing, amount_less, now_at, marked_at, Changes}
+use Rattle.mtrace_replay.specs.Calls.{Called}
+use Rattle.mtrace_replay.specs.Shares.{ByLocation, nothing, amount_less, now_at, marked_at, count_at, Changes, KeepsCounts, IsOfWords}
 use Rattle.mtrace_replay.specs.declared.no_heap.ledger.Kept.{Kept}
 
 -- the entry of an address, by what is kept for it
@@ -54,6 +55,14 @@ pub record AreShared (locations : List (List ℕ)) (shares : ByLocation) (all : 
   pub bytes : (slot : ℕ) → (now_at shares slot).bytes ≡ in_slot (λ kept. kept.size) slot all
   pub beyond : (slot : ℕ) → length locations < slot → marked_at shares slot ≡ nothing
 
+-- Each call's block is held, or it was released: by the very next line, where the call is temporary. So many addresses are held. No
+-- location that isn't there was named.
+pub record AreCalled (locations : List (List ℕ)) (shares : ByLocation) (many : ℕ) : Type 0 where
+  pub held : (slot : ℕ) → (now_at shares slot).blocks + (count_at shares slot).temporary ≤ (count_at shares slot).calls
+  pub total : many + shares.total.temporary ≤ shares.total.calls
+  pub words : (slot : ℕ) → IsOfWords (count_at shares slot)
+  pub beyond : (slot : ℕ) → length locations < slot → (count_at shares slot).calls ≡ 0
+
 -- what is kept is counted, in the share of its location and in the sum of bytes
 pub record IsCounted (kept : Kept) (shares : ByLocation) (sum : ℕ) : Type 0 where
   pub slot : slot_of kept.location < length shares.all
@@ -64,13 +73,14 @@ pub record IsCounted (kept : Kept) (shares : ByLocation) (sum : ℕ) : Type 0 wh
 -- what is kept is counted no more
 abbrev pub Forgets : Option Kept → (old new : ByLocation) (sum left : ℕ) → Type 0
 Forgets None old new sum left = (new ≡ old) × (left ≡ sum)
-Forgets (Some kept) old new sum left = Changes (slot_of kept.location) (amount_less (now_at old (slot_of kept.location)) kept.size) old new × (left + kept.size ≡ sum)
+Forgets (Some kept) old new sum left = Changes (slot_of kept.location) (amount_less (now_at old (slot_of kept.location)) kept.size) old new × (left + kept.size ≡ sum) × KeepsCounts old new
 
--- what is held in order of address, the sites at the mark, and the mark
+-- what is held in order of address, the sites at the mark, the mark, and who asked so far
 pub record LedgerState : Type 0 where
   pub all : List Entry
   pub at_peak : List Site
   pub mark : ℕ
+  pub called : Called
 
 -- the mark is the same, and so are the sites at it
 pub record KeepsPeak (old new : LedgerState) : Type 0 where

@@ -2,6 +2,8 @@ pub mod Again
 pub mod Appends
 pub mod Arrange
 pub mod Asked
+pub mod Callers
+pub mod Calls
 pub mod Compare
 pub mod Enough
 pub mod Entry

@@ -11,7 +11,7 @@ use Rattle.mtrace_replay.specs.declared.status.RunFault.{RunFault}
 use Rattle.mtrace_replay.specs.declared.status.RunFault.TheVariants.{Read, Write, OutOfMemory}
 use Rattle.mtrace_replay.specs.declared.no_heap.replay.LedgerTotals.{LedgerTotals}
 use Rattle.mtrace_replay.specs.declared.no_heap.report.LedgerReport.{LedgerReport}
-use Rattle.mtrace_replay.specs.declared.no_heap.report.LedgerReport.TheVariants.{Held, Sums, Sites, Nothing}
+use Rattle.mtrace_replay.specs.declared.no_heap.report.LedgerReport.TheVariants.{Held, Sums, Sites, Callers, Nothing}
 use Rattle.mtrace_replay.specs.declared.no_heap.run.EndedLedger.{EndedLedger}
 use Rattle.mtrace_replay.specs.declared.no_heap.run.Stop.{Stop}
 use Rattle.mtrace_replay.specs.declared.no_heap.run.Stop.TheVariants.{Reader, Writer, Memory}
@@ -19,7 +19,10 @@ use Rattle.mtrace_replay.specs.Moment.{ReadLine, Given, Moment, half}
 use Rattle.mtrace_replay.specs.History.{notes, AreHeld, entries_of}
 use Rattle.mtrace_replay.specs.Totals.{is_served, first_moments, Measures, IsPeak, bytes_in, blocks_in}
 use Rattle.mtrace_replay.specs.RunSites.{HeldSites, sections_of}
-use Rattle.mtrace_replay.specs.Texts.{diagnostics_text, leaks_report, ledger_peak_report, clean_or_found}
+use Rattle.mtrace_replay.specs.Texts.{diagnostics_text, leaks_report, ledger_peak_report, callers_text, clean_or_found}
+use Rattle.mtrace_replay.specs.declared.no_heap.count.Count.{Count}
+use Rattle.mtrace_replay.specs.Calls.{Caller}
+use Rattle.mtrace_replay.specs.Callers.{calls_in, temporary_in, AreCallers, all_of}
 use Rattle.mtrace_replay.specs.Served.{served_history, served_diagnostics, added_served, Standing, IsServed}
 use Rattle.mtrace_replay.specs.Run.{with_unused, FailedInPiece, IsPastLastNumber, has_some}
 
@@ -55,11 +58,26 @@ pub record TellsServedSites (lines : List ReadLine) (text : List ℕ) : Type 0 w
   pub at_end : HeldSites (served_history lines)
   pub text_is : text ≡ sections_of totals.peak_line at_peak at_end
 
+-- who asked over these lines: all calls together, and the callers
+pub record AreCallsOf (lines : List ReadLine) (total : Count) (callers : List Caller) : Type 0 where
+  pub total_is : total ≡ all_of (calls_in (served_history lines)) (temporary_in (reverse lines) (served_history lines))
+  pub callers_are : AreCallers (calls_in (served_history lines)) (temporary_in (reverse lines) (served_history lines)) callers
+
+-- the text of who holds the memory, and then of who asked over the log
+pub record TellsServedCallers (lines : List ReadLine) (text : List ℕ) : Type 0 where
+  pub held : List ℕ
+  pub tells : TellsServedSites lines held
+  pub total : Count
+  pub callers : List Caller
+  pub calls_are : AreCallsOf lines total callers
+  pub text_is : text ≡ held ++ callers_text total callers
+
 -- the text of a report of these lines
 abbrev pub TellsServed : LedgerReport → (lines : List ReadLine) (text : List ℕ) → Type 0
 TellsServed Held lines text = TellsHeld lines text
 TellsServed Sums lines text = TellsSums lines text
 TellsServed Sites lines text = TellsServedSites lines text
+TellsServed Callers lines text = TellsServedCallers lines text
 TellsServed Nothing lines text = text ≡ []
 
 -- all diagnostics of the lines, and then a text

@@ -12,6 +12,8 @@ use Rattle.mtrace_replay.specs.declared.no_heap.replay.LedgerTotals.{LedgerTotal
 use Rattle.mtrace_replay.specs.declared.totals.Totals.{Totals}
 use Rattle.mtrace_replay.specs.Texts.{total_size}
 use Rattle.mtrace_replay.specs.Sites.{Site, AreTallied}
+use Rattle.mtrace_replay.specs.Calls.{Called, CountsMore, CountsReleased}
+use Rattle.mtrace_replay.specs.Callers.{calls_in, temporary_in, AreCounted}
 use Rattle.mtrace_replay.specs.Ledger.{held_at, LedgerState, KeepsPeak}
 
 -- what stands in each moment in the place of a heap
@@ -54,16 +56,25 @@ served_diagnostics lines = notes (served_history lines) ++ half (length lines) (
 abbrev pub found_in : List Entry → ℕ → Option Given
 found_in all address = option_map unplaced (held_at all address)
 
--- What a line does, or a part of it, as its plan says, and whether a block is given. Where memory is refused what is held stays.
-pub record Serves {E : Type 0} (planned : Plan) (diagnostics : List Diagnostic) (result : Result Bool E) (old new : LedgerState) : Type 0 where
+-- what an act of the line of this number adds to the calls
+abbrev pub CountsAct : ℕ → Act → List Entry → (old new : Called) → Type 0
+CountsAct number idle all old new = new ≡ old
+CountsAct number (give entry align) all old new = CountsMore entry.at 1 entry.size 0 old new
+CountsAct number (take address place) all old new = CountsReleased (Some number) (held_at all address) old new
+CountsAct number (move from place entry) all old new = CountsMore entry.at 1 entry.size 0 old new
+
+-- What the line of this number does, or a part of it, as its plan says, and whether a block is given. Where memory is refused what is
+-- held stays.
+pub record Serves {E : Type 0} (number : ℕ) (planned : Plan) (diagnostics : List Diagnostic) (result : Result Bool E) (old new : LedgerState) : Type 0 where
   pub held : OnOk result ((address : ℕ) → found_in new.all address ≡ held_after (all_served planned) (found_in old.all) address)
   pub peak : OnOk result (KeepsPeak old new)
+  pub called : OnOk result (CountsAct number planned.act old.all old.called new.called)
   pub diagnostics_are : OnOk result (diagnostics ≡ (all_served planned).diagnostics)
   pub given : IfOk result (λ given. given ≡ is_some (all_served planned).given)
   pub unchanged : OnErr result (new ≡ old)
 
 -- a replay without a heap: what is held in order of address, how many lines there were and how many were served, the greatest
--- sum of bytes with its line, its number of blocks and its sites, and the address of the last line where that is `<`
+-- sum of bytes with its line, its number of blocks and its sites, who asked, and the address of the last line where that is `<`
 pub record Standing : Type 0 where
   pub all : List Entry
   pub lines : ℕ
@@ -72,6 +83,7 @@ pub record Standing : Type 0 where
   pub peak_line : ℕ
   pub peak_blocks : ℕ
   pub at_peak : List Site
+  pub called : Called
   pub pending : Option ℕ
 
 -- what was held after these moments, those up to the peak
@@ -87,6 +99,7 @@ pub record IsServed (replay : Standing) (past : List ReadLine) : Type 0 where
   pub held : AreHeld (map unplaced replay.all) (served_moments past)
   pub peak : IsPeak (served_moments past) replay.peak_bytes replay.peak_line
   pub at_peak : IsAtPeak replay (first_moments replay.peak_line (served_moments past))
+  pub called : AreCounted (calls_in (served_moments past)) (temporary_in past (served_moments past)) replay.called
 
 -- the diagnostics that one more line adds
 abbrev pub added_served : ReadLine → List ReadLine → List Diagnostic
@@ -127,6 +140,7 @@ pub record RaisesPeak (old new : Standing) : Type 0 where
   pub lines : new.lines ≡ old.lines
   pub served : new.served ≡ old.served
   pub pending : new.pending ≡ old.pending
+  pub called : new.called ≡ old.called
   pub bytes : new.peak_bytes ≡ (if nat_lt old.peak_bytes (total_size old.all) then total_size old.all else old.peak_bytes)
   pub line : new.peak_line ≡ (if nat_lt old.peak_bytes (total_size old.all) then old.lines else old.peak_line)
   pub blocks : new.peak_blocks ≡ (if nat_lt old.peak_bytes (total_size old.all) then length old.all else old.peak_blocks)

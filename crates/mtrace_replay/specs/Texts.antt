@@ -15,6 +15,8 @@ use Rattle.mtrace_replay.specs.declared.report.Report.TheVariants.{Leaks, Peak, 
 use Rattle.mtrace_replay.specs.declared.point.Point.{Point}
 use Rattle.mtrace_replay.specs.declared.totals.Totals.{Totals}
 use Rattle.mtrace_replay.specs.Started.{Bare}
+use Rattle.mtrace_replay.specs.Calls.{Caller}
+use Rattle.mtrace_replay.specs.declared.no_heap.count.Count.{Count}
 use Rattle.mtrace_replay.specs.Sites.{Site}
 use Rattle.mtrace_replay.specs.declared.fitted.Fitted.{Fitted}
 use Rattle.mtrace_replay.specs.declared.diagnostic.Diagnostic.{Diagnostic}
@@ -164,6 +166,19 @@ end_words = codes "Held at the end"
 abbrev pub both_sections : (peak_line peak_blocks peak_bytes : ℕ) → List Site → (end_blocks end_bytes : ℕ) → List Site → List ℕ
 both_sections peak_line peak_blocks peak_bytes peak_sites end_blocks end_bytes end_sites =
     section (peak_words peak_line) peak_blocks peak_bytes peak_sites ++ section end_words end_blocks end_bytes end_sites
+
+-- `B bytes in C calls, T temporary at LOCATION`, one line
+abbrev pub caller_text : Caller → List ℕ
+caller_text caller = decimal caller.bytes ++ codes " bytes in " ++ decimal caller.calls ++ codes " calls, " ++ decimal caller.temporary ++ codes " temporary" ++ at_text caller.at ++ newline ∷ []
+
+-- `Asked over the log: C calls, B bytes, T temporary.`, one line
+abbrev pub calls_line : Count → List ℕ
+calls_line total =
+    codes "Asked over the log: " ++ decimal total.calls ++ codes " calls, " ++ decimal total.bytes ++ codes " bytes, " ++ decimal total.temporary ++ codes " temporary." ++ newline ∷ []
+
+-- all calls together, and then a line for each caller
+abbrev pub callers_text : Count → List Caller → List ℕ
+callers_text total callers = calls_line total ++ flat_map caller_text callers
 
 -- a number between its words, one line
 abbrev pub count_line : List ℕ → ℕ → List ℕ → List ℕ

@@ -6,6 +6,7 @@ mod again;
 mod amount;
 mod arrange;
 mod asked;
+mod caller;
 mod diagnostic;
 mod entry;
 mod findings;

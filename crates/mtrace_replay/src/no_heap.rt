@@ -1,6 +1,7 @@
 //! A log replayed without a heap: what is held, of any number of blocks.
 
 mod again;
+pub(crate) mod count;
 pub(crate) mod ledger;
 mod line;
 mod locations;

@@ -1,12 +1,14 @@
-//! What is held, by its sites, as it is put.
+//! What is held, by its sites, and who asked, as it is put.
 
 ghost use Rattle.std.specs.Prelude.{◌≡◌, ◌++◌, flat_map, decimal, codes};
 ghost use Rattle.mtrace_log.specs.Output.{Puts};
-ghost use Rattle.mtrace_replay.specs.Texts.{site_text, section, both_sections};
+ghost use Rattle.mtrace_replay.specs.Texts.{site_text, section, both_sections, caller_text, calls_line, callers_text};
 
 use crate::amount::Amount;
+use crate::caller::Caller;
 use crate::line_text::{LineText, peak_words, push_bytes, push_number, section_text};
 use crate::location_text::put_location;
+use crate::no_heap::count::Count;
 use crate::site::Site;
 use arrayvec::ArrayVec;
 use mtrace_log::{Failed, Sink, put_all};
@@ -74,4 +76,65 @@ pub(crate) fn put_both<W: Sink>(
         peak_sites,
     )?;
     put_section(writer, b"Held at the end", end_sum, end_sites)
+}
+
+/// The front of the line of a caller, up to its location.
+fn caller_front(calls: u64, bytes: u128, temporary: u64) -> LineText
+    ensures { result.items ≡ decimal bytes ++ codes " bytes in " ++ decimal calls ++ codes " calls, " ++ decimal temporary ++ codes " temporary" }
+{
+    let mut text = ArrayVec::new();
+    push_number(&mut text, bytes);
+    push_bytes(&mut text, b" bytes in ");
+    push_number(&mut text, u128::from(calls));
+    push_bytes(&mut text, b" calls, ");
+    push_number(&mut text, u128::from(temporary));
+    push_bytes(&mut text, b" temporary");
+    text
+}
+
+/// Puts the line of a caller.
+fn put_caller<W: Sink>(writer: &mut W, caller: &Caller<'_>) -> Result<(), Failed>
+    ensures { Puts result (caller_text caller.now) (W.shown writer.old) (W.shown writer.new) }
+{
+    let front = caller_front(caller.calls, caller.bytes, caller.temporary);
+    put_all(writer, front.as_slice())?;
+    put_location(writer, caller.at)?;
+    put_all(writer, b"\n")
+}
+
+/// Puts a line for each caller.
+fn put_caller_lines<W: Sink>(writer: &mut W, callers: &[Caller<'_>]) -> Result<(), Failed>
+    ensures { Puts result (flat_map caller_text callers.now) (W.shown writer.old) (W.shown writer.new) }
+{
+    for caller in callers {
+        put_caller(writer, caller)?;
+    }
+    Ok(())
+}
+
+/// The line above the callers: all calls together.
+fn calls_text(total: Count) -> LineText
+    ensures { result.items ≡ calls_line total }
+{
+    let mut text = ArrayVec::new();
+    push_bytes(&mut text, b"Asked over the log: ");
+    push_number(&mut text, u128::from(total.calls));
+    push_bytes(&mut text, b" calls, ");
+    push_number(&mut text, total.bytes);
+    push_bytes(&mut text, b" bytes, ");
+    push_number(&mut text, u128::from(total.temporary));
+    push_bytes(&mut text, b" temporary.\n");
+    text
+}
+
+/// Puts who asked: all calls together, and a line for each caller.
+pub(crate) fn put_callers<W: Sink>(
+    writer: &mut W,
+    total: Count,
+    callers: &[Caller<'_>],
+) -> Result<(), Failed>
+    ensures { Puts result (callers_text total callers.now) (W.shown writer.old) (W.shown writer.new) }
+{
+    put_all(writer, calls_text(total).as_slice())?;
+    put_caller_lines(writer, callers)
 }

@@ -18,7 +18,7 @@ use Rattle.clap.specs.declared.error.kind.ErrorKind.TheVariants as kind
 use Rattle.clap.proofs.OnLiterals.{clap_on_literals}
 use Rattle.clap.proofs.WalkLemmas.{one_text-rows}
 use Rattle.mtrace_replay.specs.declared.settings.Settings.{Settings}
-use Rattle.mtrace_replay.specs.declared.no_heap.report.LedgerReport.TheVariants.{Held, Sums, Nothing}
+use Rattle.mtrace_replay.specs.declared.no_heap.report.LedgerReport.TheVariants.{Held, Sums, Callers, Nothing}
 use Rattle.mtrace_replay.specs.declared.size.Bounds.{Bounds}
 use Rattle.mtrace_replay.specs.declared.status.RunFault.TheVariants.{OutOfMemory}
 use Rattle.tlsf_tool.specs.declared.asked.Command.{Command}
@@ -29,7 +29,7 @@ use Rattle.tlsf_tool.specs.declared.asked.Name.{Name}
 use Rattle.tlsf_tool.specs.declared.asked.Name.TheVariants.{Leaks, Peak, Walk}
 use Rattle.tlsf_tool.specs.declared.asked.ToolFault.{ToolFault}
 use Rattle.tlsf_tool.specs.declared.asked.ToolFault.TheVariants.{Help, Usage, CannotOpen, InputIsOutput, ImageIsOutput, ReadsOnce, ReadsFileOnce, Run}
-use Rattle.tlsf_tool.specs.CommandLine.{IsArgOf, IsCommandOf, given_rule, AskFor, HasNumber, HasNone, HasSettings, HasBounds, HasNoLog, MatchesAskFor, bare_line, report_line, ledger_line, HasNoHeap, default_settings, choice_line, timeline_line, fit_line, size_line, save_line, check_line, name_text, texts_of, tlsf_line, wrong_with}
+use Rattle.tlsf_tool.specs.CommandLine.{IsArgOf, IsCommandOf, given_rule, AskFor, HasNumber, HasNone, HasSettings, HasBounds, HasNoLog, HasNoSetting, HasFlag, HasCalls, MatchesAskFor, bare_line, report_line, ledger_line, HasNoHeap, default_settings, sites_line, timeline_line, fit_line, size_line, save_line, check_line, name_text, texts_of, tlsf_line, wrong_with}
 use Rattle.tlsf_tool.specs.Faults.{ExplainsKind, ExplainsWords, IsUsage}
 use Rattle.tlsf_tool.specs.Asks.{Asks, Picks}
 
@@ -60,10 +60,10 @@ put more a b next is next_is = next_is ∙ ap (λ (x : App). with_subcommand x m
 -- the lines of the subcommands, put to the bare one one after the other
 pub line_of : (bare leaks peak walk sites timeline fit size save last : App) → bare ≡ bare_line → leaks ≡ with_subcommand bare (ledger_line (codes "leaks")).top
     → peak ≡ with_subcommand leaks (ledger_line (codes "peak")).top → walk ≡ with_subcommand peak (report_line (codes "walk")).top
-    → sites ≡ with_subcommand walk (choice_line (codes "sites")).top → timeline ≡ with_subcommand sites timeline_line.top → fit ≡ with_subcommand timeline fit_line.top
+    → sites ≡ with_subcommand walk sites_line.top → timeline ≡ with_subcommand sites timeline_line.top → fit ≡ with_subcommand timeline fit_line.top
     → size ≡ with_subcommand fit size_line.top → save ≡ with_subcommand size save_line.top → last ≡ with_subcommand save check_line.top → last ≡ tlsf_line
 line_of bare leaks peak walk sites timeline fit size save last bare_is leaks_is peak_is walk_is sites_is timeline_is fit_is size_is save_is last_is =
-    put check_line _ _ last (put save_line _ _ save (put size_line _ _ size (put fit_line _ _ fit (put timeline_line _ _ timeline (put (choice_line (codes "sites")) _ _ sites (put (report_line (codes "walk")) _ _ walk (put (ledger_line (codes "peak")) _ _ peak
+    put check_line _ _ last (put save_line _ _ save (put size_line _ _ size (put fit_line _ _ fit (put timeline_line _ _ timeline (put sites_line _ _ sites (put (report_line (codes "walk")) _ _ walk (put (ledger_line (codes "peak")) _ _ peak
     (put (ledger_line (codes "leaks")) _ _ leaks bare_is leaks_is) peak_is) walk_is) sites_is) timeline_is) fit_is) size_is) save_is) last_is
 
 -- ---- numbers
@@ -113,6 +113,7 @@ subcommand_text (Report name settings log) = name_text name
 subcommand_text (Follow Held log) = codes "leaks"
 subcommand_text (Follow Sums log) = codes "peak"
 subcommand_text (Follow ledger.Sites log) = codes "sites"
+subcommand_text (Follow Callers log) = codes "sites"
 subcommand_text (Follow Nothing log) = []
 subcommand_text (Reread (Sites settings) log) = codes "sites"
 subcommand_text (Reread (Timeline heap parts) log) = codes "timeline"
@@ -126,6 +127,7 @@ asked_under found (Report name settings log) asks = asks.0
 asked_under found (Follow Held log) asks = asks.0.0
 asked_under found (Follow Sums log) asks = asks.0.0
 asked_under found (Follow ledger.Sites log) asks = asks.0.0
+asked_under found (Follow Callers log) asks = asks.0.0
 asked_under found (Follow Nothing log) asks = absurd asks.0.0
 asked_under found (Reread (Sites settings) log) asks = asks.0
 asked_under found (Reread (Timeline heap parts) log) asks = asks.0
@@ -144,6 +146,10 @@ module _ (rows : List Row) where
   abbrev HasTooMuch : Type 0
   HasTooMuch = HasNoHeap rows × (HasSettings rows default_settings → ⊥)
 
+  -- who asks is asked for, and there is a setting of a heap beside that
+  abbrev pub HasCallsOnHeap : Type 0
+  HasCallsOnHeap = HasCalls rows × (HasNoSetting rows → ⊥)
+
   -- what the subcommand of this text needs is missing: its settings, its log, its bounds or its image; or it has too much
   abbrev IsMissing : Text → Type 0
   IsMissing text = MatchBool (bytes_eq text (codes "check")) (first_of (codes "IMAGE") rows ≡ None)
@@ -151,7 +157,7 @@ module _ (rows : List Row) where
       (MatchBool (bytes_eq text (codes "fit")) (first_of (codes "LOG") rows ≡ None)
       (MatchBool (bytes_eq text (codes "timeline")) (HasNoParts ⊎ (first_of (codes "LOG") rows ≡ None))
       (MatchBool (bytes_eq text (codes "save")) (HasNoLog rows ⊎ (first_of (codes "IMAGE") rows ≡ None))
-      (MatchBool (bytes_eq text (codes "sites")) (first_of (codes "LOG") rows ≡ None)
+      (MatchBool (bytes_eq text (codes "sites")) ((first_of (codes "LOG") rows ≡ None) ⊎ HasCallsOnHeap)
       (MatchBool (bytes_eq text (codes "walk")) (HasNoLog rows ⊎ HasNoHeap rows) (HasNoLog rows ⊎ HasTooMuch)))))))
 
   no_log : (settings : Settings) (log : String Global) → HasNoLog rows → HasSettings rows settings → first_of (codes "LOG") rows ≡ Some (string_bytes log) → ⊥
@@ -169,9 +175,13 @@ module _ (rows : List Row) where
   has_all text (Follow Held log) asks (inr much) = much.1 asks.0.2
   has_all text (Follow Sums log) asks (inl missing) = no_log default_settings log missing asks.0.2 asks.1
   has_all text (Follow Sums log) asks (inr much) = much.1 asks.0.2
-  has_all text (Follow ledger.Sites log) asks none = no_such (first_of (codes "LOG") rows) (string_bytes log) none asks.1
+  has_all text (Follow ledger.Sites log) asks (inl none) = no_such (first_of (codes "LOG") rows) (string_bytes log) none asks.1
+  has_all text (Follow ledger.Sites log) asks (inr much) = asks.0.2 much.0
+  has_all text (Follow Callers log) asks (inl none) = no_such (first_of (codes "LOG") rows) (string_bytes log) none asks.1
+  has_all text (Follow Callers log) asks (inr much) = much.1 asks.0.1
   has_all text (Follow Nothing log) asks missing = asks.0.0
-  has_all text (Reread (Sites settings) log) asks none = no_such (first_of (codes "LOG") rows) (string_bytes log) none asks.2
+  has_all text (Reread (Sites settings) log) asks (inl none) = no_such (first_of (codes "LOG") rows) (string_bytes log) none asks.3
+  has_all text (Reread (Sites settings) log) asks (inr much) = asks.2 much.0
   has_all text (Reread (Timeline heap parts) log) asks (inl never) = never parts asks.2
   has_all text (Reread (Timeline heap parts) log) asks (inr none) = no_such (first_of (codes "LOG") rows) (string_bytes log) none asks.3
   has_all text (Reread (Fit step) log) asks none = no_such (first_of (codes "LOG") rows) (string_bytes log) none asks.2
@@ -213,21 +223,21 @@ module _ (rows : List Row) where
   follow_asks_nothing Peak settings without has other = text_asks_nothing (codes "peak") (inr (without, λ default. other (one_heap settings default_settings has default)))
   follow_asks_nothing Walk settings without has other = text_asks_nothing (codes "walk") (inr without)
 
-  pub no_heap_read : (text : Text) (result : Bool) → first_of (codes "no-heap") rows ≡ Some text → result ≡ bytes_eq text (codes "true")
-      → MatchBool result (HasNoHeap rows) (HasNoHeap rows → ⊥)
-  no_heap_read text true is eq = is ∙ ap (λ (t : Text). Some t) ((bytes_eq-Decides text (codes "true")).0 (sym eq))
-  no_heap_read text false is eq = λ has.
+  pub flag_read : (id text : Text) (result : Bool) → first_of id rows ≡ Some text → result ≡ bytes_eq text (codes "true")
+      → MatchBool result (HasFlag id rows) (HasFlag id rows → ⊥)
+  flag_read id text true is eq = is ∙ ap (λ (t : Text). Some t) ((bytes_eq-Decides text (codes "true")).0 (sym eq))
+  flag_read id text false is eq = λ has.
       let same : Some text ≡ Some (codes "true") = sym is ∙ has in
       let text_is : text ≡ codes "true" = cc in
       false≢true (eq ∙ (bytes_eq-Decides text (codes "true")).1 text_is)
 
-  pub no_heap_missing : first_of (codes "no-heap") rows ≡ None → HasNoHeap rows → ⊥
-  no_heap_missing none has = no_such (first_of (codes "no-heap") rows) (codes "true") none has
+  pub flag_missing : (id : Text) → first_of id rows ≡ None → HasFlag id rows → ⊥
+  flag_missing id none has = no_such (first_of id rows) (codes "true") none has
 
   pub walk_asks_nothing : HasNoHeap rows → AsksNothing (Some (codes "walk", rows))
   walk_asks_nothing without = text_asks_nothing (codes "walk") (inr without)
 
-  pub sites_asks_nothing : first_of (codes "LOG") rows ≡ None → AsksNothing (Some (codes "sites", rows))
+  pub sites_asks_nothing : (first_of (codes "LOG") rows ≡ None) ⊎ HasCallsOnHeap → AsksNothing (Some (codes "sites", rows))
   sites_asks_nothing missing = text_asks_nothing (codes "sites") missing
 
   pub timeline_asks_nothing : HasNoParts ⊎ (first_of (codes "LOG") rows ≡ None) → AsksNothing (Some (codes "timeline", rows))

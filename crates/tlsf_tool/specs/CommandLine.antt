@@ -78,6 +78,10 @@ choice_line name =
     (given_rule (codes "records") (parser.Signed (pos 1) (pos 65535))))
     (word_rule (codes "LOG"))
 
+-- who holds the memory, and who asks for it where the option says so
+abbrev pub sites_line : App
+sites_line = with_rule (choice_line (codes "sites")) (flag_rule (codes "calls"))
+
 abbrev pub timeline_line : App
 timeline_line = with_rule (choice_line (codes "timeline")) (option_rule (codes "points") (codes "100") (parser.Signed (pos 1) (pos 10000)))
 
@@ -104,7 +108,7 @@ bare_line = on_top (λ s. record s { has_version = true; subcommand_required = t
 
 abbrev pub tlsf_line : App
 tlsf_line = with_subcommand (with_subcommand (with_subcommand (with_subcommand (with_subcommand (with_subcommand (with_subcommand (with_subcommand (with_subcommand bare_line (ledger_line (codes "leaks")).top)
-    (ledger_line (codes "peak")).top) (report_line (codes "walk")).top) (choice_line (codes "sites")).top) timeline_line.top) fit_line.top) size_line.top) save_line.top) check_line.top
+    (ledger_line (codes "peak")).top) (report_line (codes "walk")).top) sites_line.top) timeline_line.top) fit_line.top) size_line.top) save_line.top) check_line.top
 
 -- an option or a word by this rule, which the subcommand has for itself
 pub record IsArgOf (rule : Rule) (arg : Arg) : Type 0 where
@@ -150,9 +154,17 @@ HasHeap rows None = HasNoSetting rows
 HasHeap rows (Some settings) = (HasNoSetting rows → ⊥) × HasOr rows (codes "pool") 64 1073741808 settings.pool
     × HasOr rows (codes "pools") 32 1 settings.pools × HasOr rows (codes "records") 32 65535 settings.records
 
+-- the option of this id is there, which takes no value
+abbrev pub HasFlag : Text → List Row → Type 0
+HasFlag id rows = first_of id rows ≡ Some (codes "true")
+
 -- the option is there that asks for no heap
 abbrev pub HasNoHeap : List Row → Type 0
-HasNoHeap rows = first_of (codes "no-heap") rows ≡ Some (codes "true")
+HasNoHeap rows = HasFlag (codes "no-heap") rows
+
+-- the option is there that asks who asks
+abbrev pub HasCalls : List Row → Type 0
+HasCalls rows = HasFlag (codes "calls") rows
 
 -- the settings of a report where none is given
 abbrev pub default_settings : Settings
@@ -166,7 +178,8 @@ IsOfReport report text = ⊥
 
 -- the subcommand and its matches ask for this report without a heap: by the option, or by no setting of one
 abbrev pub AskForLedger : LedgerReport → Text × List Row → Type 0
-AskForLedger report.Sites found = (found.0 ≡ codes "sites") × HasNoSetting found.1
+AskForLedger report.Sites found = (found.0 ≡ codes "sites") × HasNoSetting found.1 × (HasCalls found.1 → ⊥)
+AskForLedger report.Callers found = (found.0 ≡ codes "sites") × HasNoSetting found.1 × HasCalls found.1
 AskForLedger report found = IsOfReport report found.0 × HasNoHeap found.1 × HasSettings found.1 default_settings
 
 -- the value of this id, where there is a number of it
@@ -190,7 +203,7 @@ MatchesAskFor (Some found) (Report name settings log) = (found.0 ≡ name_text n
     × HasSettings found.1 settings × (first_of (codes "LOG") found.1 ≡ Some (string_bytes log))
 MatchesAskFor (Some found) (Follow report log) = AskForLedger report found × (first_of (codes "LOG") found.1 ≡ Some (string_bytes log))
 MatchesAskFor (Some found) (Reread (Sites settings) log) = (found.0 ≡ codes "sites")
-    × HasHeap found.1 (Some settings) × (first_of (codes "LOG") found.1 ≡ Some (string_bytes log))
+    × HasHeap found.1 (Some settings) × (HasCalls found.1 → ⊥) × (first_of (codes "LOG") found.1 ≡ Some (string_bytes log))
 MatchesAskFor (Some found) (Reread (Timeline heap parts) log) = (found.0 ≡ codes "timeline")
     × HasHeap found.1 heap × HasNumber found.1 (codes "points") 32 parts × (first_of (codes "LOG") found.1 ≡ Some (string_bytes log))
 MatchesAskFor (Some found) (Reread (Fit step) log) = (found.0 ≡ codes "fit") × HasGiven found.1 (codes "step") step × (first_of (codes "LOG") found.1 ≡ Some (string_bytes log))

@@ -4,7 +4,7 @@ ghost use Rattle.std.specs.Prelude.{◌≡◌, IfOk, codes, pos};
 ghost use Rattle.clap.specs.declared.builder.value_parser.ValueParser.TheVariants.{Signed, Unsigned};
 ghost use Rattle.tlsf_class.specs.Classes.{unit, greatest_size};
 ghost use Rattle.clap.specs.Words.{App, app_of, new_app, with_subcommand};
-ghost use Rattle.tlsf_tool.specs.CommandLine.{IsArgOf, IsCommandOf, given_rule, flag_rule, word_rule, heap_line, report_line, ledger_line, choice_line, timeline_line, fit_line, size_line, save_line, check_line, bare_line, tlsf_line};
+ghost use Rattle.tlsf_tool.specs.CommandLine.{IsArgOf, IsCommandOf, given_rule, flag_rule, word_rule, heap_line, report_line, ledger_line, choice_line, sites_line, timeline_line, fit_line, size_line, save_line, check_line, bare_line, tlsf_line};
 
 use clap::builder::ValueParser;
 use clap::{Arg, ArgAction, Command, value_parser};
@@ -71,6 +71,7 @@ const SITES: Help = Help {
     about: "Reports who holds the memory, at the peak and at the end of the log: blocks and bytes by the location that asked for them. On a heap, LOG is read twice.",
     examples: "Examples:
   tlsf sites a.log                              who holds the memory of a.log
+  tlsf sites --calls a.log                      the same, and who asks how often
   xz -dc a.log.xz | tlsf sites -                the same of a log that is packed
   tlsf sites --pool 65536 --records 500 a.log   the same on a heap that has no more",
 };
@@ -259,6 +260,14 @@ fn ledger_command<'a>(alloc: Global, name: &'a str, help: Help) -> Result<Comman
     report_command(alloc, name, help)?.arg(flag(alloc, "no-heap", no_heap))
 }
 
+/// The subcommand that tells who holds the memory.
+fn sites_command<'a>(alloc: Global) -> Result<Command<'a>, AllocError>
+    ensures { IfOk result (IsCommandOf sites_line) }
+{
+    let calls = "Also tell who asks, over the whole log: calls, bytes, and how many blocks the very next line frees; with no other option";
+    choice_command(alloc, "sites", SITES)?.arg(flag(alloc, "calls", calls))
+}
+
 /// The subcommand that tells what is held over the lines.
 fn timeline_command<'a>(alloc: Global) -> Result<Command<'a>, AllocError>
     ensures { IfOk result (IsCommandOf timeline_line) }
@@ -350,7 +359,7 @@ pub fn tlsf_command<'a>(alloc: Global) -> Result<Command<'a>, AllocError>
     let leaks = with(bare, ledger_command(alloc, "leaks", LEAKS))?;
     let peak = with(leaks, ledger_command(alloc, "peak", PEAK))?;
     let walk = with(peak, report_command(alloc, "walk", WALK))?;
-    let sites = with(walk, choice_command(alloc, "sites", SITES))?;
+    let sites = with(walk, sites_command(alloc))?;
     let timeline = with(sites, timeline_command(alloc))?;
     let fit = with(timeline, fit_command(alloc))?;
     let size = with(fit, size_command(alloc))?;

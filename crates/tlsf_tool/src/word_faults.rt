@@ -77,8 +77,8 @@ static OPTIONS: [NumberOption; 9] = [
     },
 ];
 
-/// The option that takes no number.
-const NO_HEAP: &str = "--no-heap";
+/// The options that take no value, each with the commands that have it.
+static FLAGS: [(&str, &str); 2] = [("--no-heap", "leaks and peak"), ("--calls", "sites")];
 
 /// The option of this name that takes a number.
 fn option_of(name: &str) -> Option<&'static NumberOption> {
@@ -178,11 +178,13 @@ fn number_text(alloc: Global, text: &str) -> Result<Option<String>, AllocError> 
 
 /// The commands that have an option of this name, which this command doesn't have, where clap doesn't tell that.
 fn commands_of(name: &str, command: &str) -> Option<&'static str> {
-    let (commands, is_later) = if name == NO_HEAP {
-        ("leaks and peak", true)
-    } else {
-        let option = option_of(name)?;
-        (option.commands, option.takes.is_some())
+    let flag = FLAGS.iter().find(|flag| flag.0 == name);
+    let (commands, is_later) = match flag {
+        Some(flag) => (flag.1, true),
+        None => {
+            let option = option_of(name)?;
+            (option.commands, option.takes.is_some())
+        }
     };
     if is_told_here(command) || (is_later && is_told_by_clap(command)) {
         return Some(commands);

@@ -2,7 +2,7 @@
 
 ghost use Rattle.std.specs.Prelude.{◌≡◌, ◌⊎◌, MatchBool, codes, string_bytes, Some, None};
 ghost use Rattle.clap.specs.Words.{first_of, found_of, kind_of, rows_of, subcommand_rows_of};
-ghost use Rattle.tlsf_tool.specs.CommandLine.{HasNumber, HasOr, HasNoSetting, HasHeap, HasSettings, HasBounds, HasNoHeap, HasNoLog, default_settings, IsOfReport, name_text};
+ghost use Rattle.tlsf_tool.specs.CommandLine.{HasNumber, HasOr, HasNoSetting, HasHeap, HasSettings, HasBounds, HasFlag, HasNoHeap, HasNoLog, default_settings, IsOfReport, name_text};
 ghost use Rattle.tlsf_tool.specs.Faults.{ExplainsKind, IsUsage};
 ghost use Rattle.tlsf_tool.specs.Asks.{Picks, Asks, MatchesGive, WordsGive};
 
@@ -24,6 +24,10 @@ const NO_COMMAND: &str = "tlsf: no command; for more, try 'tlsf --help'\n";
 /// The text where a setting of a heap stands beside the option that asks for none.
 const NO_SETTINGS: &str =
     "error: --no-heap takes no option beside it: --pool, --pools and --records are of a heap\n\nFor more information, try '--help'.\n";
+
+/// The text where a setting of a heap stands beside the option that tells calls.
+const NO_CALLS: &str =
+    "error: --calls takes no option beside it: --pool, --pools and --records are of a heap\n\nFor more information, try '--help'.\n";
 
 /// The size of this id, in bytes, that a subcommand's matches have.
 fn size_of(found: &ArgMatches<'_>, id: &str) -> Option<u64>
@@ -132,12 +136,18 @@ fn asked_sites(alloc: Global, found: &ArgMatches<'_>) -> Result<Command, ToolFau
     ensures { MatchesGive (Some (codes "sites", rows_of (found_of found.now))) result }
 {
     let log = word_of(alloc, found, "LOG")?;
+    let has_calls = has_flag(found, "calls");
     let Some(settings) = heap_of(found) else {
-        return Ok(Command::Follow {
-            report: LedgerReport::Sites,
-            log,
-        });
+        let report = if has_calls {
+            LedgerReport::Callers
+        } else {
+            LedgerReport::Sites
+        };
+        return Ok(Command::Follow { report, log });
     };
+    if has_calls {
+        return Err(ToolFault::usage(alloc, NO_CALLS));
+    }
     let what = Rereading::Sites(settings);
     Ok(Command::Reread { what, log })
 }
@@ -212,11 +222,11 @@ fn asked_check(alloc: Global, found: &ArgMatches<'_>) -> Result<Command, ToolFau
     Ok(Command::Check { image })
 }
 
-/// Whether the option is there that asks for no heap.
-fn has_no_heap(found: &ArgMatches<'_>) -> bool
-    ensures { MatchBool result (HasNoHeap (rows_of (found_of found.now))) (HasNoHeap (rows_of (found_of found.now)) → ⊥) }
+/// Whether the option of this id is there, which takes no value.
+fn has_flag(found: &ArgMatches<'_>, id: &str) -> bool
+    ensures { MatchBool result (HasFlag id.now (rows_of (found_of found.now))) (HasFlag id.now (rows_of (found_of found.now)) → ⊥) }
 {
-    match found.get_str("no-heap") {
+    match found.get_str(id) {
         Some(word) => word == "true",
         None => false,
     }
@@ -257,7 +267,7 @@ fn asked_on_heap(alloc: Global, name: Name, found: &ArgMatches<'_>) -> Result<Co
 fn asked_report(alloc: Global, name: Name, found: &ArgMatches<'_>) -> Result<Command, ToolFault>
     ensures { MatchesGive (Some (name_text name, rows_of (found_of found.now))) result }
 {
-    if !has_no_heap(found) {
+    if !has_flag(found, "no-heap") {
         return asked_on_heap(alloc, name, found);
     }
     match name {

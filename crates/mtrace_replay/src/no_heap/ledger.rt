@@ -1,6 +1,6 @@
 //! What is held, by address.
 
-ghost use Rattle.std.specs.Prelude.{◌≡◌, ◌<◌, ℕ, List, [], reverse, None, Some, IfOk, IfSome, OnOk, OnErr, is_some, length, if◌then◌else◌, ◌==◌};
+ghost use Rattle.std.specs.Prelude.{◌≡◌, ◌<◌, ◌+◌, MatchBool, ◌^◌, ℕ, List, [], reverse, None, Some, IfOk, IfSome, OnOk, OnErr, is_some, length, if◌then◌else◌, ◌==◌};
 ghost use Rattle.std.specs.Prelude.{map};
 ghost use Rattle.std.specs.List.Sorted.{IsStrictlyIncreasing, IsPermutation, IsSorted};
 ghost use Rattle.std.specs.Ordering.{nat_cmp};
@@ -8,13 +8,17 @@ ghost use Rattle.std.specs.HashMap.{keys};
 ghost use Rattle.std.specs.Option.{option_copied, option_map};
 ghost use Rattle.mtrace_replay.specs.Texts.{total_size};
 ghost use Rattle.mtrace_replay.specs.Entry.{Entry};
-ghost use Rattle.mtrace_replay.specs.Shares.{amount_at, with_site, sites_of};
+ghost use Rattle.mtrace_replay.specs.Calls.{has_no_call, caller_of, no_calls, is_next, CountsMore, CountsReleased};
+ghost use Rattle.mtrace_replay.specs.Callers.{AreCounted, AreCallers};
+ghost use Rattle.mtrace_replay.specs.Shares.{amount_at, count_at, with_row, with_site, sites_of, callers_of, CountsOne, KeepsAmounts};
 ghost use Rattle.mtrace_replay.specs.Sites.{AreTallied, AreSites};
 ghost use Rattle.mtrace_replay.specs.Ledger.{held_at, slot_of, IsCounted, Forgets, KeepsPeak, AreEntries};
 
+use super::count::Count;
 use super::locations::Locations;
 use super::shares::{Shares, When};
 use crate::amount::Amount;
+use crate::caller::{Caller, sort_callers};
 use crate::grouping::sort_sites;
 use crate::site::Site;
 use mtrace_log::Addr;
@@ -61,10 +65,10 @@ pub struct Ledger {
 }
 
 impl Model for Ledger {
-    ghost use Rattle.std.specs.Prelude.{map};
+    ghost use Rattle.std.specs.Prelude.{map, length};
     ghost use Rattle.std.specs.Map.{values_of};
-    ghost use Rattle.mtrace_replay.specs.Shares.{marked_at, sites_of};
-    ghost use Rattle.mtrace_replay.specs.Ledger.{LedgerState, in_order, entry_of, IsLedger, AreShared};
+    ghost use Rattle.mtrace_replay.specs.Shares.{marked_at, count_at, sites_of, callers_of};
+    ghost use Rattle.mtrace_replay.specs.Ledger.{LedgerState, in_order, entry_of, IsLedger, AreShared, AreCalled};
 
     ghost Value = { LedgerState };
 
@@ -72,9 +76,11 @@ impl Model for Ledger {
       all = in_order (map (entry_of l.locations) l.held.entries);
       at_peak = sites_of (marked_at l.shares) l.locations;
       mark = l.shares.mark;
+      called = record { callers = callers_of (count_at l.shares) l.locations; total = l.shares.total };
     } };
 
-    ghost invariant = { λ l. IsLedger l.locations l.held.entries l.bytes × AreShared l.locations l.shares (values_of l.held.entries) };
+    ghost invariant = { λ l. IsLedger l.locations l.held.entries l.bytes × AreShared l.locations l.shares (values_of l.held.entries)
+      × AreCalled l.locations l.shares (length l.held.entries) };
 }
 
 /// The keys of a map, in order.
@@ -100,6 +106,29 @@ fn forget(shares: &mut Shares, bytes: &mut u128, before: Option<Kept>)
     };
     shares.take(slot_of(kept.location), kept.size);
     *bytes -= u128::from(kept.size);
+}
+
+/// Whether a line is told, and is the one behind this.
+fn is_next(line: u64, next: Option<u64>) -> bool
+    ensures { result ≡ is_next line next }
+{
+    match next {
+        Some(next) => next > line && next - line == 1,
+        None => false,
+    }
+}
+
+/// A call of the location of this slot is temporary, where it is so.
+fn count_temporary(shares: &mut Shares, slot: usize, is_temporary: bool)
+    requires slot { slot < length shares.old.all }
+    requires some { (count_at shares.old slot).temporary < (count_at shares.old slot).calls }
+    requires few { shares.old.total.temporary < shares.old.total.calls }
+    ensures amounts { KeepsAmounts shares.old shares.new }
+    ensures count { MatchBool is_temporary (CountsOne slot shares.old shares.new) (shares.new ≡ shares.old) }
+{
+    if is_temporary {
+        shares.add_temporary(slot);
+    }
 }
 
 /// The site of a location, unless it has no block.
@@ -141,10 +170,49 @@ fn gather_sites<'a>(
     Ok(sites)
 }
 
+/// The caller of a location, unless it has no call.
+fn push_caller<'a>(
+    callers: &mut Vec<Caller<'a>>,
+    at: Option<&'a [u8]>,
+    count: Count,
+) -> Result<(), AllocError>
+    ensures { OnOk result (reverse callers.new.items ≡ with_row has_no_call caller_of (option_copied at.entry) count (reverse callers.old.items)) }
+{
+    if count.calls == 0 {
+        return Ok(());
+    }
+    callers.push(Caller {
+        at,
+        calls: count.calls,
+        bytes: count.bytes,
+        temporary: count.temporary,
+    })?;
+    Ok(())
+}
+
+/// The callers of locations, from that of the last one on.
+fn gather_callers<'a>(
+    alloc: Global,
+    locations: &'a Locations,
+    shares: &Shares,
+) -> Result<Vec<Caller<'a>>, AllocError>
+    ensures { IfOk result (λ callers. reverse callers.items ≡ callers_of (count_at shares.now) locations.now) }
+{
+    let mut callers = Vec::new(alloc);
+    let mut left = locations.len();
+    while left > 0 {
+        let at = locations.get(left - 1);
+        push_caller(&mut callers, at, shares.count(left))?;
+        left -= 1;
+    }
+    push_caller(&mut callers, None, shares.count(0))?;
+    Ok(callers)
+}
+
 impl Ledger {
     /// Nothing is held.
     pub fn new(alloc: Global) -> Ledger
-        ensures { result ≡ record { all = []; at_peak = []; mark = 0 } }
+        ensures { result ≡ record { all = []; at_peak = []; mark = 0; called = record { callers = []; total = no_calls } } }
     {
         Ledger {
             locations: Locations::new(alloc),
@@ -173,9 +241,11 @@ impl Ledger {
         line: u64,
         at: Option<&[u8]>,
     ) -> Result<(), AllocError>
+        requires few { self.old.called.total.calls + 1 < 2 ^ 64 }
         ensures held { OnOk result ((other : ℕ) → held_at self.new.all other
             ≡ (if address == other then Some (record { addr = address; size = size; line = line; at = option_copied at.entry }) else held_at self.old.all other)) }
         ensures peak { OnOk result (KeepsPeak self.old self.new) }
+        ensures called { OnOk result (CountsMore (option_copied at.entry) 1 size 0 self.old.called self.new.called) }
         ensures unchanged { OnErr result (self.new ≡ self.old) }
     {
         let location = self.locations.number_at(at)?;
@@ -194,17 +264,21 @@ impl Ledger {
         Ok(())
     }
 
-    /// Holds the address no more. Answers whether it was held.
-    pub fn release(&mut self, address: Addr) -> bool
+    /// Holds the address no more. Where a line releases it, of this number, and the line before it made the call, that is temporary.
+    /// Answers whether the address was held.
+    pub fn release(&mut self, address: Addr, line: Option<u64>) -> bool
         ensures was { result ≡ is_some (held_at self.old.all address) }
         ensures held { (other : ℕ) → held_at self.new.all other ≡ (if address == other then None else held_at self.old.all other) }
         ensures peak { KeepsPeak self.old self.new }
+        ensures called { CountsReleased line (held_at self.old.all address) self.old.called self.new.called }
     {
         let Some(held) = self.held.remove(&address.value()) else {
             return false;
         };
-        self.shares.take(slot_of(held.location), held.size);
+        let slot = slot_of(held.location);
+        self.shares.take(slot, held.size);
         self.bytes -= u128::from(held.size);
+        count_temporary(&mut self.shares, slot, is_next(held.line, line));
         true
     }
 
@@ -221,15 +295,17 @@ impl Ledger {
         line: u64,
         at: Option<&[u8]>,
     ) -> Result<(), AllocError>
+        requires few { self.old.called.total.calls + 1 < 2 ^ 64 }
         ensures held { OnOk result ((other : ℕ) → held_at self.new.all other
             ≡ (if address == other then Some (record { addr = address; size = size; line = line; at = option_copied at.entry })
             else (if old == other then None else held_at self.old.all other))) }
         ensures peak { OnOk result (KeepsPeak self.old self.new) }
+        ensures called { OnOk result (CountsMore (option_copied at.entry) 1 size 0 self.old.called self.new.called) }
         ensures unchanged { OnErr result (self.new ≡ self.old) }
     {
         self.hold(address, size, line, at)?;
         if old != address {
-            self.release(old);
+            self.release(old, None);
         }
         Ok(())
     }
@@ -240,6 +316,7 @@ impl Ledger {
         ensures all { self.new.all ≡ self.old.all }
         ensures at_peak { AreTallied self.old.all self.new.at_peak }
         ensures mark { self.new.mark ≡ line }
+        ensures called { self.new.called ≡ self.old.called }
     {
         self.locations.keep_apart();
         self.shares.set_mark(line);
@@ -257,6 +334,27 @@ impl Ledger {
         let mut sites = gather_sites(alloc, &self.locations, &self.shares, when)?;
         sort_sites(&mut sites);
         Ok(sites)
+    }
+
+    /// The callers so far, in their order.
+    ///
+    /// # Errors
+    ///
+    /// `AllocError` where memory is refused for them.
+    pub fn callers(&self, alloc: Global) -> Result<Vec<Caller<'_>>, AllocError>
+        ensures { IfOk result (λ callers. (calls temporary : List Entry) → AreCounted calls temporary self.now.called → AreCallers calls temporary callers.items) }
+    {
+        self.locations.keep_apart();
+        let mut callers = gather_callers(alloc, &self.locations, &self.shares)?;
+        sort_callers(&mut callers);
+        Ok(callers)
+    }
+
+    /// All calls so far together.
+    pub fn total(&self) -> Count
+        ensures { result ≡ self.now.called.total }
+    {
+        self.shares.total()
     }
 
     /// Says what each ledger keeps, and does nothing: the addresses rise.

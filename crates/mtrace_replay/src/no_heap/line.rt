@@ -1,7 +1,8 @@
 //! What one line does to a ledger.
 
-ghost use Rattle.std.specs.Prelude.{◌≡◌, ◌&&◌, not, is_some, ℕ, [], None, Some, OnOk, OnErr, if◌then◌else◌, ◌==◌};
+ghost use Rattle.std.specs.Prelude.{◌≡◌, ◌<◌, ◌+◌, ◌^◌, ◌&&◌, not, is_some, ℕ, [], None, Some, OnOk, OnErr, if◌then◌else◌, ◌==◌};
 ghost use Rattle.mtrace_replay.specs.Moment.{allocation, release, renewal, plan};
+ghost use Rattle.mtrace_replay.specs.Calls.{CountsMore};
 ghost use Rattle.mtrace_replay.specs.Ledger.{held_at, KeepsPeak};
 ghost use Rattle.mtrace_replay.specs.Served.{Serves, found_in};
 
@@ -15,15 +16,16 @@ use std::alloc::AllocError;
 
 /// Holds the address of an entry.
 fn hold(ledger: &mut Ledger, entry: &Entry<LentLocation<'_>>) -> Result<(), AllocError>
+    requires few { ledger.old.called.total.calls + 1 < 2 ^ 64 }
     ensures held { OnOk result ((other : ℕ) → held_at ledger.new.all other ≡ (if entry.now.addr == other then Some entry.now else held_at ledger.old.all other)) }
     ensures peak { OnOk result (KeepsPeak ledger.old ledger.new) }
+    ensures called { OnOk result (CountsMore entry.now.at 1 entry.now.size 0 ledger.old.called ledger.new.called) }
     ensures unchanged { OnErr result (ledger.new ≡ ledger.old) }
 {
     let Some(lent) = &entry.at else {
         return ledger.hold(entry.addr, entry.size, entry.line, None);
     };
-    let kept = lent.keep();
-    ledger.hold(entry.addr, entry.size, entry.line, Some(kept.bytes()))
+    ledger.hold(entry.addr, entry.size, entry.line, Some(lent.bytes()))
 }
 
 /// `+ address size`, or `* address align size`: holds the address, unless it is held. Answers whether it does.
@@ -34,7 +36,8 @@ fn allocate(
     findings: &mut Findings,
 ) -> Result<bool, AllocError>
     requires none { findings.old ≡ [] }
-    ensures { Serves (allocation entry.now None (found_in ledger.old.all entry.now.addr)) findings.new result ledger.old ledger.new }
+    requires few { ledger.old.called.total.calls + 1 < 2 ^ 64 }
+    ensures { Serves entry.now.line (allocation entry.now None (found_in ledger.old.all entry.now.addr)) findings.new result ledger.old ledger.new }
 {
     if ledger.is_held(entry.addr) {
         findings.set_one(entry.line, Kind::AlreadyHeld(entry.addr));
@@ -53,9 +56,9 @@ fn release(
     findings: &mut Findings,
 ) -> Result<bool, AllocError>
     requires none { findings.old ≡ [] }
-    ensures { Serves (release number address (found_in ledger.old.all address)) findings.new result ledger.old ledger.new }
+    ensures { Serves number (release number address (found_in ledger.old.all address)) findings.new result ledger.old ledger.new }
 {
-    if !ledger.release(address) {
+    if !ledger.release(address, Some(number)) {
         findings.set_one(number, Kind::NotHeld(address));
     }
     Ok(false)
@@ -67,16 +70,17 @@ fn replace(
     old: Addr,
     entry: &Entry<LentLocation<'_>>,
 ) -> Result<(), AllocError>
+    requires few { ledger.old.called.total.calls + 1 < 2 ^ 64 }
     ensures held { OnOk result ((other : ℕ) → held_at ledger.new.all other
         ≡ (if entry.now.addr == other then Some entry.now else (if old == other then None else held_at ledger.old.all other))) }
     ensures peak { OnOk result (KeepsPeak ledger.old ledger.new) }
+    ensures called { OnOk result (CountsMore entry.now.at 1 entry.now.size 0 ledger.old.called ledger.new.called) }
     ensures unchanged { OnErr result (ledger.new ≡ ledger.old) }
 {
     let Some(lent) = &entry.at else {
         return ledger.replace(old, entry.addr, entry.size, entry.line, None);
     };
-    let kept = lent.keep();
-    ledger.replace(old, entry.addr, entry.size, entry.line, Some(kept.bytes()))
+    ledger.replace(old, entry.addr, entry.size, entry.line, Some(lent.bytes()))
 }
 
 /// Whether the address is another one than the old one, and held.
@@ -95,7 +99,8 @@ fn renew(
     findings: &mut Findings,
 ) -> Result<bool, AllocError>
     requires none { findings.old ≡ [] }
-    ensures { Serves (renewal entry.now pending (found_in ledger.old.all)) findings.new result ledger.old ledger.new }
+    requires few { ledger.old.called.total.calls + 1 < 2 ^ 64 }
+    ensures { Serves entry.now.line (renewal entry.now pending (found_in ledger.old.all)) findings.new result ledger.old ledger.new }
 {
     let number = entry.line;
     let Some(old) = pending else {
@@ -129,7 +134,8 @@ pub(crate) fn outcome(
     findings: &mut Findings,
 ) -> Result<bool, AllocError>
     requires none { findings.old ≡ [] }
-    ensures { Serves (plan number event.entry pending (found_in ledger.old.all)) findings.new result ledger.old ledger.new }
+    requires few { ledger.old.called.total.calls + 1 < 2 ^ 64 }
+    ensures { Serves number (plan number event.entry pending (found_in ledger.old.all)) findings.new result ledger.old ledger.new }
 {
     match event {
         Err(LineFault::TooLong) => {

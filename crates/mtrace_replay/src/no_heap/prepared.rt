@@ -6,6 +6,7 @@ ghost use Rattle.mtrace_replay.specs.Prepared.{IsOf, HasNamed};
 use super::replay::LedgerReplay;
 use super::report::LedgerReport;
 use super::shares::When;
+use crate::caller::Caller;
 use crate::site::Site;
 use std::alloc::{AllocError, Global};
 
@@ -20,6 +21,12 @@ pub(crate) enum Prepared<'a> {
     Sites {
         peak: Vec<Site<'a>>,
         end: Vec<Site<'a>>,
+    },
+    // Those sites, and who asked.
+    Callers {
+        peak: Vec<Site<'a>>,
+        end: Vec<Site<'a>>,
+        callers: Vec<Caller<'a>>,
     },
     // No report.
     Nothing,
@@ -48,6 +55,12 @@ pub(crate) fn prepare<'a>(
             let peak = replay.ledger().sites(alloc, When::Peak)?;
             let end = replay.ledger().sites(alloc, When::End)?;
             Ok(Prepared::Sites { peak, end })
+        }
+        LedgerReport::Callers => {
+            let peak = replay.ledger().sites(alloc, When::Peak)?;
+            let end = replay.ledger().sites(alloc, When::End)?;
+            let callers = replay.ledger().callers(alloc)?;
+            Ok(Prepared::Callers { peak, end, callers })
         }
         LedgerReport::Nothing => Ok(Prepared::Nothing),
     }

@@ -58,10 +58,11 @@ impl Model for LedgerReplay {
       peak_line = r.peak_line;
       peak_blocks = r.peak_blocks;
       at_peak = r.ledger.at_peak;
+      called = r.ledger.called;
       pending = r.pending;
     } };
 
-    ghost invariant = { λ r. (r.served ≤ r.lines) × (r.peak_line ≤ r.lines) × (r.ledger.mark ≡ r.peak_line) };
+    ghost invariant = { λ r. (r.served ≤ r.lines) × (r.peak_line ≤ r.lines) × (r.ledger.mark ≡ r.peak_line) × (r.ledger.called.total.calls ≡ r.served) };
 }
 
 impl LedgerReplay {
@@ -171,6 +172,7 @@ impl LedgerReplay {
     pub(crate) fn ledger(&self) -> &Ledger
         ensures all { result.now.all ≡ self.now.all }
         ensures at_peak { result.now.at_peak ≡ self.now.at_peak }
+        ensures called { result.now.called ≡ self.now.called }
     {
         &self.ledger
     }

@@ -6,8 +6,8 @@ ghost use Rattle.arrayvec.specs.ArrayVec.{array_vec_len};
 ghost use Rattle.mtrace_log.specs.Address.{address_text};
 ghost use Rattle.mtrace_log.specs.Output.{Puts};
 ghost use Rattle.mtrace_replay.specs.Appends.{Appends};
-ghost use Rattle.mtrace_replay.specs.Texts.{at_text, entry_text, leaks_report, ledger_peak_report};
-ghost use Rattle.mtrace_replay.specs.Prepared.{HasNamed, prepared_text};
+ghost use Rattle.mtrace_replay.specs.Texts.{at_text, entry_text, leaks_report, ledger_peak_report, callers_text};
+ghost use Rattle.mtrace_replay.specs.Prepared.{HasNamed, held_text, prepared_text};
 
 use super::ledger::{Ledger, Seen};
 use super::prepared::Prepared;
@@ -16,8 +16,10 @@ use crate::line_text::{
     LineText, push_address, push_bytes, push_number, push_number_line, push_wide_pair_line,
     wide_total_text,
 };
+use crate::caller::Caller;
 use crate::location_text::put_location;
-use crate::sections::put_both;
+use crate::sections::{put_both, put_callers};
+use crate::site::Site;
 use arrayvec::ArrayVec;
 use mtrace_log::{Addr, Failed, LONGEST_ADDRESS, Sink, put_all};
 
@@ -30,6 +32,8 @@ pub enum LedgerReport {
     Sums,
     /// Who holds the memory, at the peak and at the end: a line for each location.
     Sites,
+    /// Who holds the memory, and who asked for it over the log: a line for each location.
+    Callers,
     /// Nothing.
     Nothing,
 }
@@ -136,6 +140,34 @@ fn sums_text(totals: LedgerTotals) -> LineText
     text
 }
 
+/// Puts what is held, by its sites: at the peak and at the end.
+fn put_held_sites<W: Sink>(
+    writer: &mut W,
+    replay: &LedgerReplay,
+    peak: &[Site<'_>],
+    end: &[Site<'_>],
+) -> Result<(), Failed>
+    ensures { Puts result (held_text replay.now peak.now end.now) (W.shown writer.old) (W.shown writer.new) }
+{
+    let line = replay.totals().peak_line;
+    let (peak_sum, end_sum) = (replay.peak_amount(), replay.live_amount());
+    put_both(writer, line, peak_sum, peak, end_sum, end)
+}
+
+/// Puts what is held, by its sites, and who asked.
+fn put_all_callers<W: Sink>(
+    writer: &mut W,
+    replay: &LedgerReplay,
+    peak: &[Site<'_>],
+    end: &[Site<'_>],
+    callers: &[Caller<'_>],
+) -> Result<(), Failed>
+    ensures { Puts result (held_text replay.now peak.now end.now ++ callers_text replay.now.called.total callers.now) (W.shown writer.old) (W.shown writer.new) }
+{
+    put_held_sites(writer, replay, peak, end)?;
+    put_callers(writer, replay.ledger().total(), callers)
+}
+
 /// Puts a report.
 ///
 /// # Errors
@@ -153,16 +185,15 @@ pub(crate) fn put_ledger_report<W: Sink>(
         Prepared::Held(addresses) => put_leaks(writer, replay.ledger(), addresses.as_slice()),
         Prepared::Sums => put_all(writer, sums_text(replay.totals()).as_slice()),
         Prepared::Sites { peak, end } => {
-            let totals = replay.totals();
-            put_both(
-                writer,
-                totals.peak_line,
-                replay.peak_amount(),
-                peak.as_slice(),
-                replay.live_amount(),
-                end.as_slice(),
-            )
+            put_held_sites(writer, replay, peak.as_slice(), end.as_slice())
         }
+        Prepared::Callers { peak, end, callers } => put_all_callers(
+            writer,
+            replay,
+            peak.as_slice(),
+            end.as_slice(),
+            callers.as_slice(),
+        ),
         Prepared::Nothing => Ok(()),
     }
 }

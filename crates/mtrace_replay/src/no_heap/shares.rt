@@ -1,8 +1,10 @@
-//! What each location holds, and what it held at the peak.
+//! What each location holds, what it held at the peak, and what it asked for.
 
 ghost use Rattle.std.specs.Prelude.{◌≡◌, ◌+◌, ◌<◌, ◌≤◌, ◌^◌, ℕ, length, OnOk};
-ghost use Rattle.mtrace_replay.specs.Shares.{Changes, KeepsShares, Marks, amount_at, amount_more, amount_less, now_at, marked_at, marked_in, nothing};
+ghost use Rattle.mtrace_replay.specs.Calls.{count_more, count_temporary, no_calls};
+ghost use Rattle.mtrace_replay.specs.Shares.{Changes, Counts, KeepsAmounts, KeepsCounts, KeepsShares, Marks, IsOfWords, amount_at, amount_more, amount_less, count_at, now_at, marked_at, marked_in, no_share, nothing};
 
+use super::count::Count;
 use crate::amount::Amount;
 use std::alloc::{AllocError, Global};
 use std::marker::Model;
@@ -16,7 +18,7 @@ pub enum When {
     End,
 }
 
-/// What a location holds now, and what it held at the mark.
+/// What a location holds now, what it held at the mark, and what it asked for.
 #[derive(Clone, Copy)]
 pub struct Share {
     now: Amount,
@@ -24,12 +26,13 @@ pub struct Share {
     before: Amount,
     // The mark behind which it was changed last.
     changed: u64,
+    count: Count,
 }
 
 impl Share {
     /// Nothing is held, nor was.
     fn none() -> Share
-        ensures { result ≡ record { now = nothing; before = nothing; changed = 0 } }
+        ensures { result ≡ no_share }
     {
         let nothing = Amount {
             blocks: 0,
@@ -39,6 +42,7 @@ impl Share {
             now: nothing,
             before: nothing,
             changed: 0,
+            count: Count::none(),
         }
     }
 }
@@ -62,30 +66,32 @@ impl Share {
 pub struct Shares {
     all: Vec<Share>,
     mark: u64,
+    total: Count,
 }
 
 impl Model for Shares {
-    ghost use Rattle.std.specs.Prelude.{◌≤◌};
-    ghost use Rattle.std.specs.List.{All};
-    ghost use Rattle.mtrace_replay.specs.Shares.{ByLocation};
+    ghost use Rattle.mtrace_replay.specs.Shares.{ByLocation, AreKept};
 
     ghost Value = { ByLocation };
 
-    ghost view = { λ s. record { all = s.all.items; mark = s.mark } };
+    ghost view = { λ s. record { all = s.all.items; mark = s.mark; total = s.total } };
 
-    ghost invariant = { λ s. All (λ share. share.changed ≤ s.mark) s.all.items };
+    ghost invariant = { λ s. AreKept s.all.items s.mark s.total };
 }
 
 impl Shares {
     /// No location has a slot yet.
     pub fn new(alloc: Global) -> Shares
         ensures mark { result.mark ≡ 0 }
+        ensures counts { (slot : ℕ) → count_at result slot ≡ no_calls }
+        ensures total { result.total ≡ no_calls }
         ensures now { (slot : ℕ) → now_at result slot ≡ nothing }
         ensures marked { (slot : ℕ) → marked_at result slot ≡ nothing }
     {
         Shares {
             all: Vec::new(alloc),
             mark: 0,
+            total: Count::none(),
         }
     }
 
@@ -104,50 +110,83 @@ impl Shares {
         Ok(())
     }
 
-    /// A slot has another amount now.
-    fn change(&mut self, slot: usize, now: Amount)
+    /// A slot has another amount now, and another count.
+    fn change(&mut self, slot: usize, now: Amount, count: Count, total: Count)
         requires slot { slot < length self.old.all }
-        ensures { Changes slot now self.old self.new }
+        requires words { IsOfWords total }
+        requires calls { total.calls + (count_at self.old slot).calls ≡ count.calls + self.old.total.calls }
+        requires bytes { total.bytes + (count_at self.old slot).bytes ≡ count.bytes + self.old.total.bytes }
+        requires temporary { total.temporary + (count_at self.old slot).temporary ≡ count.temporary + self.old.total.temporary }
+        ensures amount { Changes slot now self.old self.new }
+        ensures count { Counts slot count self.old self.new }
+        ensures total { self.new.total ≡ total }
     {
-        let before = self.all[slot].at_mark(self.mark);
-        self.all[slot] = Share {
-            now,
-            before,
-            changed: self.mark,
-        };
+        let mark = self.mark;
+        let share = &mut self.all[slot];
+        share.before = share.at_mark(mark);
+        share.now = now;
+        share.changed = mark;
+        share.count = count;
+        self.total = total;
     }
 
-    /// The location of this slot holds one block more, of this size.
+    /// The location of this slot asked for one block more, of this size, and holds it.
     pub fn add(&mut self, slot: usize, size: u64)
         requires slot { slot < length self.old.all }
         requires blocks { (now_at self.old slot).blocks + 1 < 2 ^ 64 }
         requires bytes { (now_at self.old slot).bytes + size < 2 ^ 128 }
-        ensures { Changes slot (amount_more (now_at self.old slot) size) self.old self.new }
+        requires calls { self.old.total.calls + 1 < 2 ^ 64 }
+        ensures amount { Changes slot (amount_more (now_at self.old slot) size) self.old self.new }
+        ensures count { Counts slot (count_more (count_at self.old slot) size) self.old self.new }
+        ensures total { self.new.total ≡ count_more self.old.total size }
     {
-        let now = self.all[slot].now;
+        let (now, count) = (self.all[slot].now, self.all[slot].count);
         self.change(
             slot,
             Amount {
                 blocks: now.blocks + 1,
                 bytes: now.bytes + u128::from(size),
             },
+            count.with_call(size),
+            self.total.with_call(size),
         );
     }
 
-    /// The location of this slot holds one block less, of this size.
+    /// The location of this slot holds one block less, of this size. Its calls stay.
     pub fn take(&mut self, slot: usize, size: u64)
         requires slot { slot < length self.old.all }
         requires blocks { 0 < (now_at self.old slot).blocks }
         requires bytes { size ≤ (now_at self.old slot).bytes }
-        ensures { Changes slot (amount_less (now_at self.old slot) size) self.old self.new }
+        ensures amount { Changes slot (amount_less (now_at self.old slot) size) self.old self.new }
+        ensures counts { KeepsCounts self.old self.new }
     {
-        let now = self.all[slot].now;
+        let (now, count) = (self.all[slot].now, self.all[slot].count);
         self.change(
             slot,
             Amount {
                 blocks: now.blocks - 1,
                 bytes: now.bytes - u128::from(size),
             },
+            count,
+            self.total,
+        );
+    }
+
+    /// A call of the location of this slot is temporary.
+    pub fn add_temporary(&mut self, slot: usize)
+        requires slot { slot < length self.old.all }
+        requires some { (count_at self.old slot).temporary < (count_at self.old slot).calls }
+        requires few { self.old.total.temporary < self.old.total.calls }
+        ensures amounts { KeepsAmounts self.old self.new }
+        ensures count { Counts slot (count_temporary (count_at self.old slot)) self.old self.new }
+        ensures total { self.new.total ≡ count_temporary self.old.total }
+    {
+        let share = self.all[slot];
+        self.change(
+            slot,
+            share.now,
+            share.count.with_temporary(),
+            self.total.with_temporary(),
         );
     }
 
@@ -170,5 +209,22 @@ impl Shares {
             When::End => share.now,
             When::Peak => share.at_mark(self.mark),
         }
+    }
+
+    /// What the location of a slot asked for, nothing where there is no such slot.
+    pub fn count(&self, slot: usize) -> Count
+        ensures { result ≡ count_at self.now slot }
+    {
+        match self.all.get(slot) {
+            Some(share) => share.count,
+            None => Count::none(),
+        }
+    }
+
+    /// All calls together.
+    pub fn total(&self) -> Count
+        ensures { result ≡ self.now.total }
+    {
+        self.total
     }
 }

@@ -86,6 +86,98 @@ fn rows_without_a_heap(rt: HostRuntime) {
     }
 }
 
+/// A log, and who holds its memory and who asks.
+struct Calls {
+    name: &'static str,
+    log: &'static [u8],
+    text: &'static [u8],
+    status: u8,
+}
+
+const CALLS: [Calls; 8] = [
+    Calls {
+        name: "no line",
+        log: b"",
+        text: b"Held at the peak, line 0: 0 blocks, 0 bytes.\nHeld at the end: 0 blocks, 0 bytes.\nAsked over the log: 0 calls, 0 bytes, 0 temporary.\n",
+        status: 0,
+    },
+    Calls {
+        name: "a block that the very next line releases is temporary",
+        log: b"@ a + 0x10 0x8\n- 0x10\n@ b + 0x20 0x1\n+ 0x30 0x2\n- 0x20\n",
+        text: b"Held at the peak, line 1: 1 blocks, 8 bytes.\n8 bytes in 1 blocks at a\nHeld at the end: 1 blocks, 2 bytes.\n2 bytes in 1 blocks\nAsked over the log: 3 calls, 11 bytes, 1 temporary.\n8 bytes in 1 calls, 1 temporary at a\n2 bytes in 1 calls, 0 temporary\n1 bytes in 1 calls, 0 temporary at b\n",
+        status: 1,
+    },
+    Calls {
+        name: "a line that is given no block is no call",
+        log: b"@ a + 0x10 0x8\n@ a + 0x10 0x9\n- 0x10\n@ b + (nil) 0x10\n@ a + 0x20 0x4\n- 0x30\n- 0x20\n@ c + 0x40 0x5\n< 0x40\n@ c > 0x50 0x6\n- 0x50\n",
+        text: b"line 2: 0x10 is already held\nline 6: 0x30 is not held\nHeld at the peak, line 1: 1 blocks, 8 bytes.\n8 bytes in 1 blocks at a\nHeld at the end: 0 blocks, 0 bytes.\nAsked over the log: 4 calls, 23 bytes, 1 temporary.\n12 bytes in 2 calls, 0 temporary at a\n11 bytes in 2 calls, 1 temporary at c\n",
+        status: 1,
+    },
+    Calls {
+        name: "the greatest sizes",
+        log: b"@ a + 0x10 0xffffffffffffffff\n- 0x10\n@ a * 0x20 0x3 0xffffffffffffffff\n",
+        text: b"Held at the peak, line 1: 1 blocks, 18446744073709551615 bytes.\n18446744073709551615 bytes in 1 blocks at a\nHeld at the end: 1 blocks, 18446744073709551615 bytes.\n18446744073709551615 bytes in 1 blocks at a\nAsked over the log: 2 calls, 36893488147419103230 bytes, 1 temporary.\n36893488147419103230 bytes in 2 calls, 1 temporary at a\n",
+        status: 1,
+    },
+    Calls {
+        name: "most calls come first",
+        log: b"@ a + 0x10 0x64\n@ b + 0x20 0x1\n@ b + 0x30 0x1\n",
+        text: b"Held at the peak, line 3: 3 blocks, 102 bytes.\n100 bytes in 1 blocks at a\n2 bytes in 2 blocks at b\nHeld at the end: 3 blocks, 102 bytes.\n100 bytes in 1 blocks at a\n2 bytes in 2 blocks at b\nAsked over the log: 3 calls, 102 bytes, 0 temporary.\n2 bytes in 2 calls, 0 temporary at b\n100 bytes in 1 calls, 0 temporary at a\n",
+        status: 1,
+    },
+    Calls {
+        name: "a half without its other half is no call",
+        log: b"@ a > 0x10 0x8\n",
+        text: b"line 1: no < before >\nHeld at the peak, line 0: 0 blocks, 0 bytes.\nHeld at the end: 0 blocks, 0 bytes.\nAsked over the log: 0 calls, 0 bytes, 0 temporary.\n",
+        status: 1,
+    },
+    Calls {
+        name: "a block that moves isn't temporary",
+        log: b"@ a + 0x10 0x8\n< 0x10\n@ b > 0x10 0x9\n- 0x10\n",
+        text: b"Held at the peak, line 3: 1 blocks, 9 bytes.\n9 bytes in 1 blocks at b\nHeld at the end: 0 blocks, 0 bytes.\nAsked over the log: 2 calls, 17 bytes, 1 temporary.\n9 bytes in 1 calls, 1 temporary at b\n8 bytes in 1 calls, 0 temporary at a\n",
+        status: 0,
+    },
+    Calls {
+        name: "a faulty line stands between",
+        log: b"+ 0x10 0x8\nx\n- 0x10\n",
+        text: b"line 2: not a line\nHeld at the peak, line 1: 1 blocks, 8 bytes.\n8 bytes in 1 blocks\nHeld at the end: 0 blocks, 0 bytes.\nAsked over the log: 1 calls, 8 bytes, 0 temporary.\n8 bytes in 1 calls, 0 temporary\n",
+        status: 1,
+    },
+];
+
+#[test]
+fn calls_by_location(rt: HostRuntime) {
+    let alloc = rt.alloc();
+    for row in &CALLS {
+        for piece in [1, 7, 4096] {
+            let mut reader = MemorySource::in_pieces(row.log, piece);
+            let mut writer = MemorySink::in_pieces(alloc, piece);
+            let mut errors = MemorySink::in_pieces(alloc, piece);
+            let report = LedgerReport::Callers;
+            let status = serve_ledger(alloc, report, &mut reader, &mut writer, &mut errors);
+            expect_eq_at(&rt, row.name, writer.bytes(), row.text);
+            expect_eq_at(&rt, row.name, errors.bytes(), b"".as_slice());
+            expect_eq_at(&rt, row.name, status, row.status);
+        }
+    }
+}
+
+#[test]
+fn writer_that_fails_amid_calls(rt: HostRuntime) {
+    let alloc = rt.alloc();
+    let row = &CALLS[1];
+    for room in 0..row.text.len() {
+        let mut reader = MemorySource::in_pieces(row.log, 4096);
+        let mut writer = MemorySink::with_room(alloc, 4096, room, Full::Fails);
+        let mut errors = MemorySink::in_pieces(alloc, 4096);
+        let report = LedgerReport::Callers;
+        let status = serve_ledger(alloc, report, &mut reader, &mut writer, &mut errors);
+        expect_eq(&rt, status, 3);
+        expect_eq(&rt, Some(writer.bytes()), row.text.get(..room));
+        expect_eq(&rt, errors.bytes(), b"tlsf: write failed\n".as_slice());
+    }
+}
+
 #[test]
 fn writer_that_fails_without_a_heap(rt: HostRuntime) {
     let alloc = rt.alloc();
@@ -132,6 +224,12 @@ fn words_without_a_heap(rt: HostRuntime) -> Result<(), Fail> {
         sites,
         Some((LedgerReport::Sites, String::from_str(alloc, "-")?)),
     );
+    let calls = asked(alloc, &["tlsf", "sites", "--calls", "a.log"])?;
+    expect_eq(
+        &rt,
+        calls,
+        Some((LedgerReport::Callers, String::from_str(alloc, "a.log")?)),
+    );
     Ok(())
 }
 
@@ -145,6 +243,11 @@ fn settings_beside_no_heap(rt: HostRuntime) -> Result<(), Fail> {
         ["tlsf", "peak", "--no-heap", "--no-heap", "a.log"],
         ["tlsf", "walk", "--no-heap", "--", "a.log"],
         ["tlsf", "sites", "--no-heap", "--", "a.log"],
+        ["tlsf", "sites", "--calls", "--pool=4096", "a.log"],
+        ["tlsf", "sites", "--pools=1", "--calls", "a.log"],
+        ["tlsf", "sites", "--records=9", "--calls", "a.log"],
+        ["tlsf", "sites", "--calls", "--calls", "a.log"],
+        ["tlsf", "leaks", "--calls", "--", "a.log"],
     ] {
         let words = strings(alloc, &words)?;
         let Err(ToolFault::Usage(_)) = command(alloc, words.as_slice()) else {

@@ -5,15 +5,9 @@ use Rattle.std.specs.Option.{option_copied}
 use Rattle.std.proofs.lemmas.Option.{slice_get-get_or}
 use Rattle.mtrace_replay.specs.Sites.{Origin}
 use Rattle.mtrace_replay.specs.declared.amount.Amount.{Amount}
-use Rattle.mtrace_replay.specs.Shares.{amount_at, with_site, sites_by}
+use Rattle.mtrace_replay.specs.Shares.{amount_at, has_no_block, site_at, with_site}
+use Rattle.mtrace_replay.proofs.RowsBySlot.{one_before}
 use Rattle.mtrace_replay.proofs.no_heap.ledger.gather_sites.Goals as goal
-
-one_before : (f : ℕ → Amount) (all : List (List ℕ)) (number left : ℕ) (at : Origin) → number < length all → suc number ≡ left → at ≡ slice_get all number
-    → with_site at (f left) (sites_by f (map Some (drop left all)) (suc left)) ≡ sites_by f (map Some (drop number all)) (suc number)
-one_before f all number left at within is found =
-    subst (λ n. with_site at (f n) (sites_by f (map Some (drop n all)) (suc n)) ≡ sites_by f (map Some (drop number all)) (suc number)) is
-    (ap (λ o. with_site o (f (suc number)) (sites_by f (map Some (drop (suc number) all)) (suc (suc number)))) (found ∙ slice_get-get_or all number [] within)
-    ∙ ap (λ rest. sites_by f (map Some rest) (suc number)) (sym (drop-cons all number [] within)))
 
 pub loop-left-preserved : goal.loop-left-preserved
 loop-left-preserved c =
@@ -25,5 +19,5 @@ loop-left-preserved c =
       gathered = c.in_ok-push_site.ensures
           ∙ ap (λ (amount : Amount). with_site (option_copied c.get-at.result) amount (reverse c.loop-left.sites.items)) c.amount.ensures
           ∙ ap (with_site (option_copied c.get-at.result) (f left)) c.loop-left.invariant.gathered
-          ∙ one_before f all (left - 1) left (option_copied c.get-at.result) (omega (arith, c.loop-left.invariant.within, c.loop-left-test.true)) (omega (arith, c.loop-left-test.true)) c.get-at.ensures;
+          ∙ one_before has_no_block site_at f all (left - 1) left (option_copied c.get-at.result) (omega (arith, c.loop-left.invariant.within, c.loop-left-test.true)) (omega (arith, c.loop-left-test.true)) c.get-at.ensures;
     }

@@ -1,11 +1,8 @@
 -- The sites so far are those of the locations that are passed.
 use Rattle.std.proofs.Common.{◌≡◌, ◌≤◌, suc, length, map, drop, reverse, Some}
 use Rattle.mtrace_replay.specs.Shares.{amount_at, sites_by}
+use Rattle.mtrace_replay.proofs.RowsBySlot.{Gathers}
 use Rattle.mtrace_replay.proofs.no_heap.ledger.gather_sites.Given as goal
-
-pub record Gathers (few all : Type 0) : Type 0 where
-  pub within : few
-  pub gathered : all
 
 abbrev pub invariant-loop-left : goal.invariant-loop-left
 invariant-loop-left l = Gathers (l.left ≤ length l.locations) (reverse l.sites.items ≡ sites_by (amount_at l.when l.shares) (map Some (drop l.left l.locations)) (suc l.left))

@@ -1,13 +1,16 @@
 -- The map gains the address, and so do the entries and the share of its location.
-use Rattle.std.proofs.Common.{◌+◌, ◌∙◌, refl, sym, ap, subst, Some, cond, arith}
+use Rattle.std.proofs.Common.{◌≡◌, length, ◌+◌, ◌∙◌, refl, sym, ap, subst, Some, cond, arith}
 use Rattle.std.specs.Prelude.{◌==◌}
 use Rattle.std.specs.Map.{values_of}
 use Rattle.mtrace_replay.specs.declared.no_heap.ledger.Kept.{Kept}
-use Rattle.mtrace_replay.specs.Shares.{amount_more, now_at, Changes}
-use Rattle.mtrace_replay.specs.Ledger.{LedgerState, IsLedger, AreShared, held_at}
+use Rattle.mtrace_replay.specs.declared.no_heap.count.Count.{Count}
+use Rattle.mtrace_replay.specs.Calls.{count_more}
+use Rattle.mtrace_replay.specs.Shares.{amount_more, now_at, count_at, Changes, Counts}
+use Rattle.mtrace_replay.specs.Ledger.{LedgerState, IsLedger, AreShared, AreCalled, held_at, slot_of}
 use Rattle.mtrace_replay.proofs.LedgerLemmas.{changes_at, still_keeps, same_view, on_err}
-use Rattle.mtrace_replay.proofs.LedgerPeak.{state_of, same_state, keeps_now, shared_now, peak_stays, rest_of, counted_there, counted, few_blocks, few_bytes}
-use Rattle.mtrace_replay.proofs.SharesLemmas.{shared-longer}
+use Rattle.mtrace_replay.proofs.LedgerPeak.{state_of, same_state, keeps_now, shared_now, called_now, few_more, peak_stays, rest_of, counted_there, counted, few_blocks, few_bytes}
+use Rattle.mtrace_replay.proofs.SharesLemmas.{shared-longer, called-longer}
+use Rattle.mtrace_replay.proofs.CallersBySlot.{called-more, more_called}
 use Rattle.mtrace_replay.proofs.no_heap.ledger.Ledger.hold.Goals as goal
 
 pub invariant_of-self : goal.invariant_of-self
@@ -15,39 +18,42 @@ invariant_of-self c =
     let new = c.number_at.new.self in (
       still_keeps c.self.inside.locations new c.number_at.ensures.others c.self.inside.held.entries c.self.inside.bytes c.self.invariant.0,
       shared-longer c.self.inside.locations new c.number_at.ensures.others (values_of c.self.inside.held.entries) c.self.inside.shares c.self.invariant.1,
+      called-longer c.self.inside.locations new c.number_at.ensures.others (length c.self.inside.held.entries) c.self.inside.shares c.self.invariant.2,
     )
 
 pub returns-in_err-location-clause-unchanged : goal.returns-in_err-location-clause-unchanged
 returns-in_err-location-clause-unchanged c =
     on_err c.from_residual.result _
-    (same_state c.self.inside.locations c.number_at.new.self c.number_at.ensures.others c.self.inside.shares c.self.inside.shares c.self.inside.held.entries c.self.inside.bytes c.self.invariant.0 c.self.invariant.1
-    (record { now = λ slot. refl; marked = λ slot. refl; mark = refl }) ∙ c.self.view_is)
+    (same_state c.self.inside.locations c.number_at.new.self c.number_at.ensures.others c.self.inside.shares c.self.inside.shares c.self.inside.held.entries c.self.inside.bytes c.self.invariant
+    (record { now = λ slot. refl; marked = λ slot. refl; mark = refl; counts = record { now = λ slot. refl; total = refl } }) ∙ c.self.view_is)
 
 pub invariant_of-self-in_err-cover : goal.invariant_of-self-in_err-cover
 invariant_of-self-in_err-cover c = (
   keeps_now c.self.inside.locations c.number_at.new.self c.number_at.ensures.others c.self.inside.held.entries c.self.inside.bytes c.self.inside.shares c.cover.new.self c.cover.ensures.kept c.self.invariant,
   shared_now c.self.inside.locations c.number_at.new.self c.number_at.ensures.others c.self.inside.held.entries c.self.inside.bytes c.self.inside.shares c.cover.new.self c.cover.ensures.kept c.self.invariant,
+  called_now c.self.inside.locations c.number_at.new.self c.number_at.ensures.others c.self.inside.held.entries c.self.inside.bytes c.self.inside.shares c.cover.new.self c.cover.ensures.kept c.self.invariant,
 )
 
 pub returns-in_err-cover-clause-unchanged : goal.returns-in_err-cover-clause-unchanged
 returns-in_err-cover-clause-unchanged c =
     on_err c.from_residual-in_err-cover.result _
-    (same_state c.self.inside.locations c.number_at.new.self c.number_at.ensures.others c.self.inside.shares c.cover.new.self c.self.inside.held.entries c.self.inside.bytes c.self.invariant.0 c.self.invariant.1 c.cover.ensures.kept
+    (same_state c.self.inside.locations c.number_at.new.self c.number_at.ensures.others c.self.inside.shares c.cover.new.self c.self.inside.held.entries c.self.inside.bytes c.self.invariant c.cover.ensures.kept
     ∙ c.self.view_is)
 
 pub invariant_of-self-in_err-before : goal.invariant_of-self-in_err-before
 invariant_of-self-in_err-before c =
     let new = c.number_at.new.self in
-    subst (λ held. IsLedger new held c.self.inside.bytes × AreShared new c.cover.new.self (values_of held)) (sym c.in_err-before.ensures.err) (
+    subst (λ held. IsLedger new held c.self.inside.bytes × AreShared new c.cover.new.self (values_of held) × AreCalled new c.cover.new.self (length held)) (sym c.in_err-before.ensures.err) (
       keeps_now c.self.inside.locations c.number_at.new.self c.number_at.ensures.others c.self.inside.held.entries c.self.inside.bytes c.self.inside.shares c.cover.new.self c.cover.ensures.kept c.self.invariant,
       shared_now c.self.inside.locations c.number_at.new.self c.number_at.ensures.others c.self.inside.held.entries c.self.inside.bytes c.self.inside.shares c.cover.new.self c.cover.ensures.kept c.self.invariant,
+      called_now c.self.inside.locations c.number_at.new.self c.number_at.ensures.others c.self.inside.held.entries c.self.inside.bytes c.self.inside.shares c.cover.new.self c.cover.ensures.kept c.self.invariant,
     )
 
 pub returns-in_err-before-clause-unchanged : goal.returns-in_err-before-clause-unchanged
 returns-in_err-before-clause-unchanged c =
     on_err c.from_residual-in_err-before.result _
     (ap (state_of c.number_at.new.self c.cover.new.self) c.in_err-before.ensures.err
-    ∙ same_state c.self.inside.locations c.number_at.new.self c.number_at.ensures.others c.self.inside.shares c.cover.new.self c.self.inside.held.entries c.self.inside.bytes c.self.invariant.0 c.self.invariant.1 c.cover.ensures.kept
+    ∙ same_state c.self.inside.locations c.number_at.new.self c.number_at.ensures.others c.self.inside.shares c.cover.new.self c.self.inside.held.entries c.self.inside.bytes c.self.invariant c.cover.ensures.kept
     ∙ c.self.view_is)
 
 pub forget-requires : goal.forget-requires
@@ -118,9 +124,17 @@ invariant_of-self-2 c =
     let shared = shared_now c.self.inside.locations c.number_at.new.self c.number_at.ensures.others c.self.inside.held.entries c.self.inside.bytes c.self.inside.shares c.cover.new.self c.cover.ensures.kept c.self.invariant in
     let rest = rest_of new old c.insert.new.self.entries c.self.inside.bytes keeps c.cover.new.self shared c.value.result kept (record { size = c.ranges.size.fits; location = c.in_ok-location.ensures.there })
     c.in_ok-before.before c.in_ok-before.ensures.old c.in_ok-before.ensures.entries c.forget.new.shares c.forget.new.bytes c.forget.ensures in
-    subst (λ size. IsLedger new c.insert.new.self.entries (c.forget.new.bytes + size) × AreShared new c.add.new.self (values_of c.insert.new.self.entries)) (sym c.from.ensures)
-    (counted new old c.insert.new.self.entries kept c.cover.new.self c.forget.new.shares c.forget.new.bytes rest c.insert.ensures.unique c.add.new.self
-    (subst (λ slot. Changes slot (amount_more (now_at c.forget.new.shares slot) c.args.size) c.forget.new.shares c.add.new.self) c.slot_of-slot.ensures c.add.ensures))
+    let slot = slot_of kept.location in
+    let amounts = subst (λ slot. Changes slot (amount_more (now_at c.forget.new.shares slot) c.args.size) c.forget.new.shares c.add.new.self) c.slot_of-slot.ensures c.add.ensures.amount in
+    let counts = subst (λ slot. Counts slot (count_more (count_at c.forget.new.shares slot) c.args.size) c.forget.new.shares c.add.new.self) c.slot_of-slot.ensures c.add.ensures.count in
+    let called = called_now c.self.inside.locations c.number_at.new.self c.number_at.ensures.others c.self.inside.held.entries c.self.inside.bytes c.self.inside.shares c.cover.new.self c.cover.ensures.kept c.self.invariant in
+    let both = counted new old c.insert.new.self.entries kept c.cover.new.self c.forget.new.shares c.forget.new.bytes rest c.insert.ensures.unique c.add.new.self amounts in
+    let bytes = subst (λ size. IsLedger new c.insert.new.self.entries (c.forget.new.bytes + size)) (sym c.from.ensures) both.0 in (
+      bytes,
+      both.1,
+      called-more new old c.insert.new.self.entries kept c.in_ok-location.ensures.there c.ranges.size.fits c.cover.new.self c.forget.new.shares c.add.new.self c.forget.new.bytes rest shared called amounts counts c.add.ensures.total
+          (few_more new old c.insert.new.self.entries kept c.cover.new.self c.forget.new.shares c.forget.new.bytes rest),
+    )
 
 pub returns-clause-held : goal.returns-clause-held
 returns-clause-held c = λ other.
@@ -141,7 +155,39 @@ returns-clause-peak c =
     c.in_ok-before.before c.in_ok-before.ensures.old c.in_ok-before.ensures.entries c.forget.new.shares c.forget.new.bytes c.forget.ensures in
     record {
       at_peak = peak_stays c.self.inside.locations new c.number_at.ensures.others c.self.inside.shares c.add.new.self c.self.invariant.1.beyond
-          (λ slot. c.add.ensures.marked slot ∙ rest.marked slot ∙ c.cover.ensures.kept.marked slot)
+          (λ slot. c.add.ensures.amount.marked slot ∙ rest.marked slot ∙ c.cover.ensures.kept.marked slot)
           ∙ ap (λ (state : LedgerState). state.at_peak) c.self.view_is;
-      mark = c.add.ensures.mark ∙ rest.mark ∙ c.cover.ensures.kept.mark ∙ ap (λ (state : LedgerState). state.mark) c.self.view_is;
+      mark = c.add.ensures.amount.mark ∙ rest.mark ∙ c.cover.ensures.kept.mark ∙ ap (λ (state : LedgerState). state.mark) c.self.view_is;
     }
+
+pub add-requires-clause-calls : goal.add-requires-clause-calls
+add-requires-clause-calls c =
+    let new = c.number_at.new.self in
+    let old = c.self.inside.held.entries in
+    let kept : Kept = record { size = c.args.size; line = c.args.line; location = c.in_ok-location.location } in
+    let keeps = keeps_now c.self.inside.locations c.number_at.new.self c.number_at.ensures.others c.self.inside.held.entries c.self.inside.bytes c.self.inside.shares c.cover.new.self c.cover.ensures.kept c.self.invariant in
+    let shared = shared_now c.self.inside.locations c.number_at.new.self c.number_at.ensures.others c.self.inside.held.entries c.self.inside.bytes c.self.inside.shares c.cover.new.self c.cover.ensures.kept c.self.invariant in
+    let rest = rest_of new old c.insert.new.self.entries c.self.inside.bytes keeps c.cover.new.self shared c.value.result kept (record { size = c.ranges.size.fits; location = c.in_ok-location.ensures.there })
+    c.in_ok-before.before c.in_ok-before.ensures.old c.in_ok-before.ensures.entries c.forget.new.shares c.forget.new.bytes c.forget.ensures in
+    let same : c.forget.new.shares.total.calls ≡ c.args.self.now.called.total.calls =
+    ap (λ (count : Count). count.calls) (rest.counts.total ∙ c.cover.ensures.kept.counts.total) ∙ ap (λ (state : LedgerState). state.called.total.calls) c.self.view_is in
+    omega (arith, same, c.requires.few)
+
+pub returns-clause-called : goal.returns-clause-called
+returns-clause-called c =
+    let new = c.number_at.new.self in
+    let old = c.self.inside.held.entries in
+    let kept : Kept = record { size = c.args.size; line = c.args.line; location = c.in_ok-location.location } in
+    let keeps = keeps_now c.self.inside.locations c.number_at.new.self c.number_at.ensures.others c.self.inside.held.entries c.self.inside.bytes c.self.inside.shares c.cover.new.self c.cover.ensures.kept c.self.invariant in
+    let shared = shared_now c.self.inside.locations c.number_at.new.self c.number_at.ensures.others c.self.inside.held.entries c.self.inside.bytes c.self.inside.shares c.cover.new.self c.cover.ensures.kept c.self.invariant in
+    let rest = rest_of new old c.insert.new.self.entries c.self.inside.bytes keeps c.cover.new.self shared c.value.result kept (record { size = c.ranges.size.fits; location = c.in_ok-location.ensures.there })
+    c.in_ok-before.before c.in_ok-before.ensures.old c.in_ok-before.ensures.entries c.forget.new.shares c.forget.new.bytes c.forget.ensures in
+    let amounts = subst (λ slot. Changes slot (amount_more (now_at c.forget.new.shares slot) c.args.size) c.forget.new.shares c.add.new.self) c.slot_of-slot.ensures c.add.ensures.amount in
+    let counts = subst (λ slot. Counts slot (count_more (count_at c.forget.new.shares slot) c.args.size) c.forget.new.shares c.add.new.self) c.slot_of-slot.ensures c.add.ensures.count in
+    let called = called_now c.self.inside.locations c.number_at.new.self c.number_at.ensures.others c.self.inside.held.entries c.self.inside.bytes c.self.inside.shares c.cover.new.self c.cover.ensures.kept c.self.invariant in
+    let after = called-more new old c.insert.new.self.entries kept c.in_ok-location.ensures.there c.ranges.size.fits c.cover.new.self c.forget.new.shares c.add.new.self c.forget.new.bytes rest shared called amounts counts c.add.ensures.total
+    (few_more new old c.insert.new.self.entries kept c.cover.new.self c.forget.new.shares c.forget.new.bytes rest) in
+    more_called c.self.inside.locations new c.number_at.ensures.others kept.location c.in_ok-location.ensures.there c.self.inside.shares c.forget.new.shares c.add.new.self (length old)
+    (length c.insert.new.self.entries) c.self.invariant.2 after kept.size _ (sym c.in_ok-location.ensures.found)
+    (λ slot. rest.counts.now slot ∙ c.cover.ensures.kept.counts.now slot) (rest.counts.total ∙ c.cover.ensures.kept.counts.total) counts c.add.ensures.total
+    _ (ap (λ (state : LedgerState). state.called) c.self.view_is)

@@ -1,9 +1,15 @@
--- The map loses the address, and so do the entries and the share of its location.
-use Rattle.std.proofs.Common.{nat_eq, ◌∙◌, sym, ap, is_some, None, arith}
-use Rattle.mtrace_replay.specs.Ledger.{LedgerState}
-use Rattle.mtrace_replay.proofs.LedgerLemmas.{tells, changes_at, is_within, less}
+-- The map loses the address, and so do the entries and the share of its location. Its call may be temporary.
+use Rattle.std.proofs.Common.{◌≡◌, ◌+◌, ◌<◌, nat_eq, ◌∙◌, sym, ap, subst, length, is_some, option_map, None, Some, arith}
+use Rattle.std.specs.Prelude.{MatchBool}
+use Rattle.std.specs.Map.{values_of}
+use Rattle.mtrace_replay.specs.Locations.{location_of}
+use Rattle.mtrace_replay.specs.Calls.{CountsMore, CountsReleased}
+use Rattle.mtrace_replay.specs.Shares.{amount_less, now_at, count_at, Changes, CountsOne}
+use Rattle.mtrace_replay.specs.Ledger.{LedgerState, entry_of}
+use Rattle.mtrace_replay.proofs.LedgerLemmas.{tells, tells_what, changes_at, is_within, less, kept_there}
 use Rattle.mtrace_replay.proofs.LedgerPeak.{peak_stays}
-use Rattle.mtrace_replay.proofs.SharesLemmas.{some_there, shared-less, slot_there}
+use Rattle.mtrace_replay.proofs.CallersBySlot.{called_of, some_calls, some_in_all, called-less, released}
+use Rattle.mtrace_replay.proofs.SharesLemmas.{some_there, shared-less, shared-same, slot_there}
 use Rattle.mtrace_replay.proofs.no_heap.ledger.Ledger.release.Goals as goal
 
 pub returns-in_default-clause-was : goal.returns-in_default-clause-was
@@ -19,17 +25,17 @@ returns-in_default-clause-held c =
 pub take-requires-clause-slot : goal.take-requires-clause-slot
 take-requires-clause-slot c =
     let some = some_there c.self.inside.locations c.self.inside.held.entries (nat_eq c.value.result) c.in-Some.held (sym c.remove.ensures.value ∙ c.in-Some.is) c.self.inside.shares c.self.invariant.1 in
-    omega (arith, c.slot_of.ensures, slot_there c.self.inside.shares _ some.0)
+    omega (arith, c.slot_of-slot.ensures, slot_there c.self.inside.shares _ some.0)
 
 pub take-requires-clause-blocks : goal.take-requires-clause-blocks
 take-requires-clause-blocks c =
     let some = some_there c.self.inside.locations c.self.inside.held.entries (nat_eq c.value.result) c.in-Some.held (sym c.remove.ensures.value ∙ c.in-Some.is) c.self.inside.shares c.self.invariant.1 in
-    rw c.slot_of.ensures some.0
+    rw c.slot_of-slot.ensures some.0
 
 pub take-requires-clause-bytes : goal.take-requires-clause-bytes
 take-requires-clause-bytes c =
     let some = some_there c.self.inside.locations c.self.inside.held.entries (nat_eq c.value.result) c.in-Some.held (sym c.remove.ensures.value ∙ c.in-Some.is) c.self.inside.shares c.self.invariant.1 in
-    rw c.slot_of.ensures some.1
+    rw c.slot_of-slot.ensures some.1
 
 pub overflow_sub-self : goal.overflow_sub-self
 overflow_sub-self c =
@@ -37,14 +43,45 @@ overflow_sub-self c =
     (sym c.remove.ensures.value ∙ c.in-Some.is) in
     omega (arith, within, c.from.ensures)
 
+pub count_temporary-requires-clause-slot : goal.count_temporary-requires-clause-slot
+count_temporary-requires-clause-slot c =
+    let there = sym c.remove.ensures.value ∙ c.in-Some.is in
+    let some = some_there c.self.inside.locations c.self.inside.held.entries (nat_eq c.value.result) c.in-Some.held there c.self.inside.shares c.self.invariant.1 in
+    omega (arith, c.slot_of-slot.ensures, slot_there c.self.inside.shares _ some.0, c.take.ensures.amount.slots)
+
+pub count_temporary-requires-clause-some : goal.count_temporary-requires-clause-some
+count_temporary-requires-clause-some c =
+    let there = sym c.remove.ensures.value ∙ c.in-Some.is in
+    let some = some_there c.self.inside.locations c.self.inside.held.entries (nat_eq c.value.result) c.in-Some.held there c.self.inside.shares c.self.invariant.1 in
+    let amounts = subst (λ slot. Changes slot (amount_less (now_at c.self.inside.shares slot) c.in-Some.held.size) c.self.inside.shares c.take.new.self) c.slot_of-slot.ensures c.take.ensures.amount in
+    let fewer : length c.remove.new.self.entries + 1 ≡ length c.self.inside.held.entries = c.in-Some.ensures.len in
+    subst (λ slot. (count_at c.take.new.self slot).temporary < (count_at c.take.new.self slot).calls) (sym c.slot_of-slot.ensures)
+    (some_calls c.self.inside.locations _ _ fewer c.in-Some.held c.self.inside.shares c.take.new.self c.self.invariant.2 some.0 amounts c.take.ensures.counts)
+
+pub count_temporary-requires-clause-few : goal.count_temporary-requires-clause-few
+count_temporary-requires-clause-few c =
+    let there = sym c.remove.ensures.value ∙ c.in-Some.is in
+    let some = some_there c.self.inside.locations c.self.inside.held.entries (nat_eq c.value.result) c.in-Some.held there c.self.inside.shares c.self.invariant.1 in
+    let amounts = subst (λ slot. Changes slot (amount_less (now_at c.self.inside.shares slot) c.in-Some.held.size) c.self.inside.shares c.take.new.self) c.slot_of-slot.ensures c.take.ensures.amount in
+    let fewer : length c.remove.new.self.entries + 1 ≡ length c.self.inside.held.entries = c.in-Some.ensures.len in
+    some_in_all c.self.inside.locations _ _ fewer c.in-Some.held c.self.inside.shares c.take.new.self c.self.invariant.2 some.0 amounts c.take.ensures.counts
+
 pub invariant_of-self-2 : goal.invariant_of-self-2
 invariant_of-self-2 c =
     let there = sym c.remove.ensures.value ∙ c.in-Some.is in
-    let within = is_within c.self.inside.locations c.self.inside.held.entries c.self.inside.bytes c.self.invariant.0 (nat_eq c.value.result) c.in-Some.held there in (
+    let some = some_there c.self.inside.locations c.self.inside.held.entries (nat_eq c.value.result) c.in-Some.held there c.self.inside.shares c.self.invariant.1 in
+    let amounts = subst (λ slot. Changes slot (amount_less (now_at c.self.inside.shares slot) c.in-Some.held.size) c.self.inside.shares c.take.new.self) c.slot_of-slot.ensures c.take.ensures.amount in
+    let fewer : length c.remove.new.self.entries + 1 ≡ length c.self.inside.held.entries = c.in-Some.ensures.len in
+    let counted = subst (λ slot. MatchBool c.is_next.result (CountsOne slot c.take.new.self c.count_temporary.new.shares) (c.count_temporary.new.shares ≡ c.take.new.self)) c.slot_of-slot.ensures c.count_temporary.ensures.count in
+    let called = called-less c.self.inside.locations _ _ fewer c.in-Some.held c.self.inside.shares c.take.new.self c.self.invariant.2 some.0 amounts c.take.ensures.counts
+    c.count_temporary.new.shares c.is_next.result c.count_temporary.ensures.amounts counted in
+    let within = is_within c.self.inside.locations c.self.inside.held.entries c.self.inside.bytes c.self.invariant.0 (nat_eq c.value.result) c.in-Some.held there in
+    let taken = shared-less c.self.inside.locations c.self.inside.held.entries c.remove.new.self.entries (nat_eq c.value.result) c.in-Some.held there c.remove.ensures.entries
+    c.self.inside.shares c.take.new.self c.self.invariant.1 amounts in (
       less c.self.inside.locations c.self.inside.held.entries c.remove.new.self.entries c.self.inside.bytes _ c.self.invariant.0 (nat_eq c.value.result) c.in-Some.held
           there c.remove.ensures.entries c.remove.ensures.unique (omega (arith, within, c.from.ensures)),
-      shared-less c.self.inside.locations c.self.inside.held.entries c.remove.new.self.entries (nat_eq c.value.result) c.in-Some.held there c.remove.ensures.entries
-          c.self.inside.shares c.take.new.self c.self.invariant.1 (rw (sym c.slot_of.ensures) c.take.ensures),
+      shared-same c.self.inside.locations (values_of c.remove.new.self.entries) c.take.new.self c.count_temporary.new.shares taken c.count_temporary.ensures.amounts.now c.count_temporary.ensures.amounts.marked,
+      called,
     )
 
 pub returns-clause-was : goal.returns-clause-was
@@ -59,7 +96,35 @@ returns-clause-held c =
 
 pub returns-clause-peak : goal.returns-clause-peak
 returns-clause-peak c = record {
-  at_peak = peak_stays c.self.inside.locations c.self.inside.locations (λ number bytes is. is) c.self.inside.shares c.take.new.self c.self.invariant.1.beyond c.take.ensures.marked
+  at_peak = peak_stays c.self.inside.locations c.self.inside.locations (λ number bytes is. is) c.self.inside.shares c.count_temporary.new.shares c.self.invariant.1.beyond
+      (λ slot. c.count_temporary.ensures.amounts.marked slot ∙ c.take.ensures.amount.marked slot)
       ∙ ap (λ (state : LedgerState). state.at_peak) c.self.view_is;
-  mark = c.take.ensures.mark ∙ ap (λ (state : LedgerState). state.mark) c.self.view_is;
+  mark = c.count_temporary.ensures.amounts.mark ∙ c.take.ensures.amount.mark ∙ ap (λ (state : LedgerState). state.mark) c.self.view_is;
 }
+
+pub returns-in_default-clause-called : goal.returns-in_default-clause-called
+returns-in_default-clause-called c =
+    let what = tells_what c.self.inside.locations c.self.inside.held.entries c.args.self.now.all (ap (λ (state : LedgerState). state.all) c.self.view_is) c.value.result c.args.address c.value.ensures.value
+    c.remove.result c.remove.ensures.value in
+    subst (λ o. CountsReleased c.args.line o c.args.self.now.called (called_of c.self.inside.locations c.self.inside.shares))
+    (ap (option_map (λ h. entry_of c.self.inside.locations (c.args.address, h))) (sym c.in_default.is) ∙ what)
+    (ap (λ (state : LedgerState). state.called) c.self.view_is)
+
+pub returns-clause-called : goal.returns-clause-called
+returns-clause-called c =
+    let there = sym c.remove.ensures.value ∙ c.in-Some.is in
+    let some = some_there c.self.inside.locations c.self.inside.held.entries (nat_eq c.value.result) c.in-Some.held there c.self.inside.shares c.self.invariant.1 in
+    let amounts = subst (λ slot. Changes slot (amount_less (now_at c.self.inside.shares slot) c.in-Some.held.size) c.self.inside.shares c.take.new.self) c.slot_of-slot.ensures c.take.ensures.amount in
+    let fewer : length c.remove.new.self.entries + 1 ≡ length c.self.inside.held.entries = c.in-Some.ensures.len in
+    let counted = subst (λ slot. MatchBool c.is_next.result (CountsOne slot c.take.new.self c.count_temporary.new.shares) (c.count_temporary.new.shares ≡ c.take.new.self)) c.slot_of-slot.ensures c.count_temporary.ensures.count in
+    let called = called-less c.self.inside.locations _ _ fewer c.in-Some.held c.self.inside.shares c.take.new.self c.self.invariant.2 some.0 amounts c.take.ensures.counts
+    c.count_temporary.new.shares c.is_next.result c.count_temporary.ensures.amounts counted in
+    let what = tells_what c.self.inside.locations c.self.inside.held.entries c.args.self.now.all (ap (λ (state : LedgerState). state.all) c.self.view_is) c.value.result c.args.address c.value.ensures.value
+    c.remove.result c.remove.ensures.value in
+    subst (λ o. CountsReleased c.args.line o c.args.self.now.called (called_of c.self.inside.locations c.count_temporary.new.shares))
+    (ap (option_map (λ h. entry_of c.self.inside.locations (c.args.address, h))) (sym c.in-Some.is) ∙ what)
+    (subst (λ b. MatchBool b (CountsMore (location_of c.self.inside.locations c.in-Some.held.location) 0 0 1 c.args.self.now.called (called_of c.self.inside.locations c.count_temporary.new.shares))
+    (called_of c.self.inside.locations c.count_temporary.new.shares ≡ c.args.self.now.called)) c.is_next.ensures
+    (released c.self.inside.locations c.in-Some.held.location (kept_there c.self.inside.locations c.self.inside.held.entries (nat_eq c.value.result) c.in-Some.held there c.self.invariant.0.kept).location
+    c.self.inside.shares c.take.new.self c.count_temporary.new.shares _ _ c.self.invariant.2 called c.take.ensures.counts c.is_next.result counted c.args.self.now.called
+    (ap (λ (state : LedgerState). state.called) c.self.view_is)))

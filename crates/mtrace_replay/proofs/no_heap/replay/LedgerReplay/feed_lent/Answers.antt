@@ -6,8 +6,8 @@ use Rattle.mtrace_replay.specs.declared.diagnostic.Diagnostic.{Diagnostic}
 use Rattle.mtrace_replay.specs.History.{held_after}
 use Rattle.mtrace_replay.specs.Totals.{is_served}
 use Rattle.mtrace_replay.specs.Moment.{plan, half, is_new}
-use Rattle.mtrace_replay.specs.Served.{served_moments, all_served, found_in, Standing, IsServed, added_served}
-use Rattle.mtrace_replay.proofs.ServedLemmas.{held_on, served_on, told_on, raised}
+use Rattle.mtrace_replay.specs.Served.{CountsAct, served_moments, all_served, found_in, Standing, IsServed, added_served}
+use Rattle.mtrace_replay.proofs.ServedLemmas.{held_on, called_on, served_on, told_on, raised}
 use Rattle.mtrace_replay.proofs.no_heap.replay.LedgerReplay.feed_lent.Goals as goal
 
 one_where : (b : Bool) → bool_byte b ≡ (if b then 1 else 0)
@@ -27,6 +27,7 @@ returns c =
       peak_line = inside.peak_line;
       peak_blocks = inside.peak_blocks;
       at_peak = inside.ledger.at_peak;
+      called = inside.ledger.called;
       pending = inside.pending;
     } in
     let middle : Standing = record {
@@ -37,6 +38,7 @@ returns c =
       peak_line = inside.peak_line;
       peak_blocks = inside.peak_blocks;
       at_peak = c.outcome.new.ledger.at_peak;
+      called = c.outcome.new.ledger.called;
       pending = c.old_address-next.result;
     } in
     let new : Standing = c.raise_peak.new.self in
@@ -44,6 +46,7 @@ returns c =
     let H : ℕ → Type 0 = λ n. (address : ℕ) → found_in c.outcome.new.ledger.all address ≡ held_after (all_served (plan n event inside.pending (found_in inside.ledger.all))) (found_in inside.ledger.all) address in
     let D : ℕ → Type 0 = λ n. c.outcome.new.findings ≡ (all_served (plan n event inside.pending (found_in inside.ledger.all))).diagnostics in
     let G : ℕ → Type 0 = λ n. c.in_ok-is_given.is_given ≡ is_some (all_served (plan n event inside.pending (found_in inside.ledger.all))).given in
+    let A : ℕ → Type 0 = λ n. CountsAct n (plan n event inside.pending (found_in inside.ledger.all)).act inside.ledger.all inside.ledger.called c.outcome.new.ledger.called in
     let given = subst G next c.in_ok-is_given.ensures.given in
     let one : c.from.result ≡ (if is_some (all_served (plan (inside.lines + 1) event inside.pending (found_in inside.ledger.all))).given then 1 else 0) =
     c.from.ensures ∙ one_where c.in_ok-is_given.is_given ∙ ap (λ b. if b then 1 else 0) given in
@@ -53,7 +56,8 @@ returns c =
           let held = held_on old middle past event stands (subst H next c.in_ok-is_given.ensures.held) c.keeps_order.ensures in
           let count = ap (λ n. n + c.from.result) stands.served_are ∙ ap (λ n. count_by is_served (served_moments past) + n) one
           ∙ served_on old middle past event stands (subst H next c.in_ok-is_given.ensures.held) c.keeps_order.ensures in
-          raised old middle new past event stands held (next ∙ omega (arith, stands.lines_are)) refl refl refl c.in_ok-is_given.ensures.peak.at_peak c.raise_peak.ensures count c.old_address-next.ensures);
+          let called = called_on old middle past event stands (subst H next c.in_ok-is_given.ensures.held) c.keeps_order.ensures (subst A next c.in_ok-is_given.ensures.called) in
+          raised old middle new past event stands held (next ∙ omega (arith, stands.lines_are)) refl refl refl c.in_ok-is_given.ensures.peak.at_peak c.raise_peak.ensures called count c.old_address-next.ensures);
       told = λ past. subst (λ (before : Standing). IsServed before past → c.put_half.new.findings ≡ added_served event past) c.self.view_is
           (λ stands. told_on old middle past event stands (subst H next c.in_ok-is_given.ensures.held) c.keeps_order.ensures c.put_half.new.findings
           (c.put_half.ensures ∙ ap (λ (all : List Diagnostic). all ++ c.outcome.new.findings) c.half_before-half.ensures

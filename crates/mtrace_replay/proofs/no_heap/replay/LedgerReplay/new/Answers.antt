@@ -6,4 +6,4 @@ use Rattle.mtrace_replay.proofs.ServedLemmas.{none_yet, none_served}
 use Rattle.mtrace_replay.proofs.no_heap.replay.LedgerReplay.new.Goals as goal
 
 pub returns : goal.returns
-returns c = subst (λ (state : LedgerState). IsServed (record none_yet { all = state.all; at_peak = state.at_peak }) []) (sym c.new.ensures) none_served
+returns c = subst (λ (state : LedgerState). IsServed (record none_yet { all = state.all; at_peak = state.at_peak; called = state.called }) []) (sym c.new.ensures) none_served
