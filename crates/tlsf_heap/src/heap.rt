@@ -175,6 +175,7 @@ impl Heap {
     /// left and each record is in use. Then there are at most two records a live block and one a pool. Neither comes
     /// where there are more records than that, and the pools have more bytes than these two together: the live blocks,
     /// and a free block of a unit less than that lowest size for each live block and each pool.
+    #[inline(always)]
     pub fn malloc(&mut self, n: u64) -> Result<Ptr, Refusal>
         ensures ok { IfOk result (λ ptr. IsServed (λ slot. malloc slot n) ptr self.old.content self.new.content) }
         ensures refused { Refuses result (λ refusal. (slot : ℕ) → malloc slot n self.old.content ≡ Err refusal) (IsUnchanged self.old self.new) }
@@ -218,6 +219,7 @@ impl Heap {
     /// # Errors
     ///
     /// `BadPointer` unless a live block has both the pointer's place and its slot.
+    #[inline(always)]
     pub fn free(&mut self, ptr: Ptr) -> Result<(), Refusal>
         ensures ok { OnOk result (free_ptr ptr self.old.content ≡ Ok self.new.content) }
         ensures refused { Refuses result (λ refusal. free_ptr ptr self.old.content ≡ Err refusal) (IsUnchanged self.old self.new) }

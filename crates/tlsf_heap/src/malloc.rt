@@ -27,6 +27,7 @@ use tlsf_store::{Record, Slot, State, Store};
 /// # Errors
 ///
 /// As `Heap::malloc`.
+#[inline(always)]
 pub(crate) fn malloc(store: &mut Store, n: u64) -> Result<Ptr, Refusal>
     requires { Stands store.old.cells }
     ensures { AnswersOver result (IsServed (λ slot. malloc slot n)) (λ refusal old. (slot : ℕ) → malloc slot n old ≡ Err refusal) malloc_touches store.old store.new }
@@ -43,6 +44,7 @@ pub(crate) fn malloc(store: &mut Store, n: u64) -> Result<Ptr, Refusal>
 /// # Errors
 ///
 /// `NoFit` where none is picked; `TableFull` where a rest would be left and no record is vacant.
+#[inline(always)]
 pub(crate) fn allocate(store: &mut Store, asked: u32) -> Result<Ptr, Refusal>
     requires stands { Stands store.old.cells }
     requires size { IsSize asked }
@@ -54,6 +56,7 @@ pub(crate) fn allocate(store: &mut Store, asked: u32) -> Result<Ptr, Refusal>
 
 /// The first block of the first list that isn't empty, at or above the class from which each block holds
 /// `asked` bytes; with its class. At most four touches.
+#[inline(always)]
 pub(crate) fn pick(store: &mut Store, asked: u32) -> Option<(Class, Slot)>
     requires stands { Stands store.old.cells }
     requires whole { asked % unit ≡ 0 }
@@ -62,7 +65,9 @@ pub(crate) fn pick(store: &mut Store, asked: u32) -> Option<(Class, Slot)>
     ensures left { Leaves store.old.cells 4 store.old store.new }
 {
     let class = class_for(asked)?;
-    search(store, class)
+    let found = search(store, class)?;
+    let slot = store.head(found)?;
+    Some((found, slot))
 }
 
 /// The first `asked` bytes of the block picked, of this class, are a live block. At most 19 touches.
@@ -70,6 +75,7 @@ pub(crate) fn pick(store: &mut Store, asked: u32) -> Option<(Class, Slot)>
 /// # Errors
 ///
 /// `TableFull` where a rest would be left and no record is vacant; then the cells are as they were.
+#[inline(always)]
 fn take(store: &mut Store, class: Class, slot: Slot, asked: u32) -> Result<Ptr, Refusal>
     requires stands { Stands store.old.cells }
     requires size { IsSize asked }

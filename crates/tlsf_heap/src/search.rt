@@ -1,14 +1,13 @@
 //! The search for a free block, by the bitmaps.
 
-ghost use Rattle.std.specs.Prelude.{◌≡◌, MatchOption, ℕ, ◌+◌, ◌*◌, ◌<◌, ◌≤◌, length, drop, option_map, None, Some, IfSome, IfNone};
+ghost use Rattle.std.specs.Prelude.{◌≡◌, MatchOption, ℕ, ◌+◌, ◌*◌, ◌<◌, ◌≤◌, length, drop, option_and_then, None, Some, IfSome, IfNone};
 ghost use Rattle.tlsf_class.specs.Classes.{steps, levels, classes};
 ghost use Rattle.tlsf_store.specs.Cells.{head_at};
-ghost use Rattle.tlsf_store.specs.CountedCells.{LeavesAfter};
 ghost use Rattle.tlsf_heap.specs.Images.Bitmaps.{AreBitmapsOf, HasNoBit, IsLowestFrom, IsLastHead, first_head};
 ghost use Rattle.tlsf_heap.specs.Inner.Answers.{Leaves};
 
 use tlsf_class::{Class, STEPS};
-use tlsf_store::{Slot, Store};
+use tlsf_store::Store;
 
 /// The lowest bit set in the word at or above a place.
 fn lowest_from(word: u32, from: u32) -> Option<u32>
@@ -24,45 +23,33 @@ fn lowest_from(word: u32, from: u32) -> Option<u32>
     Some(from + rest.trailing_zeros())
 }
 
-/// The first block of a class's list, if there is one, with the class. One touch.
-fn first_of(store: &mut Store, class: Class) -> Option<(Class, Slot)>
-    ensures value { option_map (λ first. first.1) result ≡ head_at store.old.cells.heads class }
-    ensures head { IfSome result (λ first. head_at store.old.cells.heads first.0 ≡ Some first.1) }
-    ensures left { LeavesAfter store.old.cells 1 store.old store.new }
-{
-    Some((class, store.head(class)?))
-}
-
-/// The first block of the first class, from this one on, whose list isn't empty, with that class. At most four touches.
-pub(crate) fn search(store: &mut Store, class: Class) -> Option<(Class, Slot)>
+/// The first class, from this one on, whose list isn't empty. At most three touches.
+pub(crate) fn search(store: &mut Store, class: Class) -> Option<Class>
     requires bitmaps { AreBitmapsOf store.old.cells.heads store.old.cells.step_words store.old.cells.level_word }
     requires count { length store.old.cells.heads ≡ classes }
-    ensures value { option_map (λ first. first.1) result ≡ first_head (drop class store.old.cells.heads) }
-    ensures head { IfSome result (λ first. head_at store.old.cells.heads first.0 ≡ Some first.1) }
-    ensures left { Leaves store.old.cells 4 store.old store.new }
+    ensures value { option_and_then (λ found. head_at store.old.cells.heads found) result ≡ first_head (drop class store.old.cells.heads) }
+    ensures left { Leaves store.old.cells 3 store.old store.new }
 {
     let level = class.number() / STEPS;
     let word = store.step_word(level);
     let Some(step) = lowest_from(word, class.number() % STEPS) else {
         return search_levels(store, level + 1);
     };
-    first_of(store, Class::new(level * STEPS + step))
+    Some(Class::new(level * STEPS + step))
 }
 
-/// The first block of the first class, from this first level on, whose list isn't empty, with that class. At most three
-/// touches.
-fn search_levels(store: &mut Store, from: u32) -> Option<(Class, Slot)>
+/// The first class, from this first level on, whose list isn't empty. At most two touches.
+fn search_levels(store: &mut Store, from: u32) -> Option<Class>
     requires within { from ≤ levels }
     requires bitmaps { AreBitmapsOf store.old.cells.heads store.old.cells.step_words store.old.cells.level_word }
     requires count { length store.old.cells.heads ≡ classes }
-    ensures value { option_map (λ first. first.1) result ≡ first_head (drop (from * steps) store.old.cells.heads) }
-    ensures head { IfSome result (λ first. head_at store.old.cells.heads first.0 ≡ Some first.1) }
-    ensures left { Leaves store.old.cells 3 store.old store.new }
+    ensures value { option_and_then (λ found. head_at store.old.cells.heads found) result ≡ first_head (drop (from * steps) store.old.cells.heads) }
+    ensures left { Leaves store.old.cells 2 store.old store.new }
 {
     let word = store.level_word();
     let level = lowest_from(word, from)?;
     let step = lowest_from(store.step_word(level), 0)?;
-    first_of(store, Class::new(level * STEPS + step))
+    Some(Class::new(level * STEPS + step))
 }
 
 /// The last class whose list isn't empty. At most two touches.

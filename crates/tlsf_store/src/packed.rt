@@ -65,7 +65,7 @@ impl Packed {
         Record {
             place: self.place,
             size: self.size_word - code,
-            state: if code == 1 { State::Free } else { State::Live },
+            state: if code == 2 { State::Live } else { State::Free },
             prev: link_of(self.prev),
             next: link_of(self.next),
             prev_free: link_of(self.prev_free),

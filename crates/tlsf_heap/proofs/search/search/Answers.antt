@@ -1,4 +1,4 @@
-use Rattle.std.proofs.Common.{◌<◌, sym, arith}
+use Rattle.std.proofs.Common.{◌<◌, sym, ◌∙◌, arith}
 use Rattle.tlsf_class.specs.Classes.{classes}
 use Rattle.tlsf_store.specs.Cells.{Cells}
 use Rattle.tlsf_heap.proofs.Bits.Search.{passes_level, found_in_level}
@@ -9,13 +9,13 @@ returns-in_default-clause-value c =
     let old : Cells = c.args.store.now.cells in
     let within : c.args.class < classes = omega (arith, c.number-level.ensures.value, c.number-level.ensures.below) in
     let none = rw (c.in_default.is, c.step_word-word.ensures.value, c.number-level.ensures.value, c.number.ensures.value) at c.lowest_from.ensures in
-    rw (c.search_levels.ensures.value, c.step_word-word.ensures.left.cells, c.number-level.ensures.value)
-    (sym (passes_level old.heads old.step_words old.level_word c.requires.bitmaps c.requires.count c.args.class within none))
+    (rw (c.step_word-word.ensures.left.cells, c.number-level.ensures.value) at c.search_levels.ensures.value)
+    ∙ (sym (passes_level old.heads old.step_words old.level_word c.requires.bitmaps c.requires.count c.args.class within none))
 
 pub returns-clause-value : goal.returns-clause-value
 returns-clause-value c =
     let old : Cells = c.args.store.now.cells in
     let within : c.args.class < classes = omega (arith, c.number-level.ensures.value, c.number-level.ensures.below) in
     let lowest = rw (c.step_word-word.ensures.value, c.number-level.ensures.value, c.number.ensures.value) at c.in-Some.ensures in
-    rw (c.first_of.ensures.value, c.step_word-word.ensures.left.cells, c.new.ensures, c.number-level.ensures.value)
+    rw (c.new.ensures, c.number-level.ensures.value)
     (found_in_level old.heads old.step_words old.level_word c.requires.bitmaps c.requires.count c.args.class c.in-Some.step within lowest)

@@ -32,5 +32,5 @@ returns-clause-value c =
     let below = level_within c.level_word-word.result level c.level_word-word.ensures.below c.in_ok-level.ensures.2 in
     let high = rw c.level_word-word.ensures.value at c.in_ok-level.ensures in
     let low = rw (c.step_word.ensures.value, c.level_word-word.ensures.left.cells) at c.in_ok-step.ensures in
-    rw (c.first_of.ensures.value, c.step_word.ensures.left.cells, c.level_word-word.ensures.left.cells, c.new.ensures)
+    rw c.new.ensures
     (found_above old.heads old.step_words old.level_word c.requires.bitmaps c.requires.count c.args.from level c.in_ok-step.step below high low)
