@@ -59,3 +59,4 @@ mod LocationsLemmas
 mod ServedLemmas
 mod ServedRunLemmas
 mod ServedTimelineLemmas
+mod PartsRows

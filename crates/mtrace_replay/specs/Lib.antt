@@ -40,3 +40,4 @@ pub mod Served
 pub mod RunServed
 pub mod ServedTimeline
 pub mod RunServedTimeline
+pub mod Parts
