@@ -60,3 +60,8 @@ mod ServedLemmas
 mod ServedRunLemmas
 mod ServedTimelineLemmas
 mod PartsRows
+mod MappedLemmas
+mod RangeLemmas
+mod LineChange
+mod HeldCounts
+mod SpansLemmas

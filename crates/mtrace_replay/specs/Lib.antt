@@ -41,3 +41,4 @@ pub mod RunServed
 pub mod ServedTimeline
 pub mod RunServedTimeline
 pub mod Parts
+pub mod Spans

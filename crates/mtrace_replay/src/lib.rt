@@ -21,6 +21,7 @@ pub mod laws;
 mod line_text;
 mod location_text;
 mod no_heap;
+mod parts;
 mod point;
 mod replay;
 mod report;

@@ -1,0 +1,6 @@
+//! Heaps by size for a log: how many blocks of which size are enough in each.
+
+pub(crate) mod range;
+pub(crate) mod scratch;
+pub(crate) mod span;
+pub(crate) mod spans;
