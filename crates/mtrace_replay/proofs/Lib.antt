@@ -65,3 +65,4 @@ mod RangeLemmas
 mod LineChange
 mod HeldCounts
 mod SpansLemmas
+mod CountedLemmas

@@ -7,6 +7,7 @@ use Rattle.std.proofs.lemmas.List.Elements.{All-map, All-push, Contains-append_l
 use Rattle.std.proofs.lemmas.Map.Keys.{sorted_from_strictly_increasing, IsStrictlyIncreasing-from_sorted}
 use Rattle.std.proofs.lemmas.Bool.{cases_Bool, false≢true}
 use Rattle.mtrace_replay.specs.declared.parts.span.Span.{Span}
+use Rattle.mtrace_replay.specs.declared.parts.spans.Block.{Block}
 use Rattle.mtrace_replay.specs.Moment.{ReadLine, Given, Moment, plan}
 use Rattle.mtrace_replay.specs.History.{held, held_after, given_or, pending, unless_taken, AreHeld}
 use Rattle.mtrace_replay.specs.Step.{found}
@@ -14,7 +15,7 @@ use Rattle.mtrace_replay.specs.Totals.{is_served, first_moments, Measures, IsMos
 use Rattle.mtrace_replay.specs.Asked.{class_asked}
 use Rattle.mtrace_replay.specs.Served.{served_moment, served_moments}
 use Rattle.mtrace_replay.specs.Parts.{size_ranges, range_of, is_in, blocks_of, served_classes, largest}
-use Rattle.mtrace_replay.specs.Spans.{has_range, with_block, hits, released, Agrees, range_held, IsSpan, AreAll, AreCounted, released_by, address_asked, range_released, unless_released, blank, IsBlank}
+use Rattle.mtrace_replay.specs.Spans.{has_range, with_block, hits, released, Agrees, range_held, IsSpan, AreAll, AreCounted, released_by, address_asked, range_released, unless_released, blank, IsBlank, given_all}
 use Rattle.mtrace_replay.proofs.SortedLemmas.{addresses}
 use Rattle.mtrace_replay.proofs.FoundLemmas.{found_is_held, held_as_found}
 use Rattle.mtrace_replay.proofs.TotalsLemmas.{none_measured, most_none, most_goes_on}
@@ -85,10 +86,12 @@ module _ (past : List ReadLine) (line : ReadLine) (span : Span) (is : IsSpan pas
   }
 
 module _ (past : List ReadLine) (line : ReadLine) where
-  abbrev before : ℕ → Option Given
+  -- what was held before it
+  abbrev pub before : ℕ → Option Given
   before = held (served_moments past)
 
-  abbrev its : Moment
+  -- what the line leaves
+  abbrev pub its : Moment
   its = served_moment (length past) line (pending past) before
 
   abbrev changes : IsChange line (suc (length past)) (pending past) before (plan (suc (length past)) line (pending past) before)
@@ -320,3 +323,24 @@ counted_none spans ranges all_blank rows none = record {
   ranges_are = λ asked agrees address. none address;
   classes = refl;
 }
+
+-- no span has more blocks after a release
+pub few_released : (range : Option ℕ) (most : ℕ) (spans : List Span) → All (λ (span : Span). span.live ≤ most) spans → All (λ (span : Span). span.live ≤ most) (map (released range) spans)
+few_released range most spans few = All-map (λ (span : Span). span.live ≤ most) (released range) spans (λ k d within.
+    let span = slice_index_or spans k d in
+    by_hit span (few k d within) (hits span range))
+  where
+    by_hit : (span : Span) → span.live ≤ most → (b : Bool) → cond b (span.live - 1) span.live ≤ most
+    by_hit span less true = omega (arith, less)
+    by_hit span less false = less
+
+-- and one more at most after a block is given
+pub few_given : (given : Option Block) (most : ℕ) (spans : List Span) → All (λ (span : Span). span.live ≤ most) spans → All (λ (span : Span). span.live ≤ suc most) (given_all given spans)
+few_given None most spans few = λ k d within. let less = few k d within in omega (arith, less)
+few_given (Some block) most spans few = All-map (λ (span : Span). span.live ≤ suc most) (with_block (range_of block.size) block.size) spans (λ k d within.
+    let span = slice_index_or spans k d in
+    by_hit span (few k d within) (has_range span (range_of block.size)))
+  where
+    by_hit : (span : Span) → span.live ≤ most → (b : Bool) → cond b (span.live + 1) span.live ≤ suc most
+    by_hit span less true = omega (arith, less)
+    by_hit span less false = omega (arith, less)

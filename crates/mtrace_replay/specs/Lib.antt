@@ -42,3 +42,4 @@ pub mod ServedTimeline
 pub mod RunServedTimeline
 pub mod Parts
 pub mod Spans
+pub mod CountedReplay

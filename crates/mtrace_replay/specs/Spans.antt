@@ -1,8 +1,11 @@
 -- How many blocks of neighbouring ranges of sizes are held, and the most that were.
-use Rattle.std.specs.Prelude.{◌≡◌, ℕ, suc, ◌+◌, ◌-◌, ◌<◌, ◌≤◌, ◌&&◌, ◌==◌, max, nat_le, Bool, true, false, List, [], ◌∷◌, length, map, is_some, Option, Some, None, Ok, option_map, option_and_then, if◌then◌else◌, ⊤}
+use Rattle.std.specs.Prelude.{◌≡◌, ℕ, suc, ◌+◌, ◌-◌, ◌<◌, ◌≤◌, ◌&&◌, ◌==◌, max, nat_le, nat_eq, Bool, true, false, List, [], ◌∷◌, length, map, is_some, Option, Some, None, Ok, option_map, option_and_then, if◌then◌else◌, ⊤}
 use Rattle.std.specs.List.{All, Contains, list_all}
 use Rattle.mtrace_log.specs.declared.event.Event.TheVariants.{Alloc, Free, New, Aligned}
+use Rattle.std.specs.HashMap.{get}
 use Rattle.mtrace_replay.specs.declared.parts.span.Span.{Span}
+use Rattle.mtrace_replay.specs.declared.parts.spans.Block.{Block}
+use Rattle.mtrace_replay.specs.declared.parts.spans.Spans.{Spans}
 use Rattle.mtrace_replay.specs.Moment.{ReadLine, Given}
 use Rattle.mtrace_replay.specs.History.{held}
 use Rattle.mtrace_replay.specs.Totals.{Measures, IsMost}
@@ -95,3 +98,28 @@ blank first last = record { first = first; last = last; live = 0; most = 0; size
 
 abbrev pub IsBlank : Span → Type 0
 IsBlank span = span ≡ blank span.first span.last
+
+-- each span with the block that is given, where one is
+abbrev pub given_all : Option Block → List Span → List Span
+given_all None spans = spans
+given_all (Some block) spans = map (with_block (range_of block.size) block.size) spans
+
+-- the range under an address, where a block was given
+abbrev pub given_range : Option Block → ℕ → Option ℕ → Option ℕ
+given_range None address range = range
+given_range (Some block) address range = if block.address == address then Some (range_of block.size) else range
+
+-- the spans have what the lines did, or there are none, where a served request has no class
+abbrev pub AreCountedOf : List ReadLine → Option Spans → Type 0
+AreCountedOf past None = list_all is_some (served_classes past) ≡ false
+AreCountedOf past (Some spans) = AreCounted past spans.all.items (get nat_eq spans.ranges)
+
+-- no span has more blocks than there were lines
+abbrev pub AreFew : ℕ → Option Spans → Type 0
+AreFew lines None = ⊤
+AreFew lines (Some spans) = All (λ span. span.live ≤ lines) spans.all.items
+
+-- the block of an address and a size, where both are there
+abbrev pub block_asked : Option ℕ → Option ℕ → Option Block
+block_asked (Some address) (Some size) = Some (record { address = address; size = size })
+block_asked address size = None

@@ -6,7 +6,7 @@ ghost use Rattle.std.specs.HashMap.{get};
 ghost use Rattle.std.specs.List.{All, Contains};
 ghost use Rattle.mtrace_replay.specs.Parts.{size_ranges, range_of};
 ghost use Rattle.mtrace_replay.specs.declared.parts.span.Span.{Span};
-ghost use Rattle.mtrace_replay.specs.Spans.{with_block, released, blank, IsBlank, AreCounted};
+ghost use Rattle.mtrace_replay.specs.Spans.{with_block, released, blank, IsBlank, AreCounted, given_all, given_range, range_released, unless_released};
 
 use super::range::{RANGES, range_of};
 use super::span::Span;
@@ -55,6 +55,13 @@ fn push_from(spans: &mut Vec<Span>, first: u8) -> Result<(), AllocError>
     Ok(())
 }
 
+/// A block that is given: its address, and its class size in bytes.
+#[derive(Clone, Copy, Debug, PartialEq, Eq)]
+pub(crate) struct Block {
+    pub(crate) address: Addr,
+    pub(crate) size: u32,
+}
+
 /// The spans of all neighbouring ranges, and the range of each block that is held, by its address.
 #[derive(Drop)]
 pub(crate) struct Spans {
@@ -81,11 +88,14 @@ impl Spans {
         })
     }
 
-    /// The address is held no more.
-    pub(crate) fn release(&mut self, address: Addr)
-        ensures spans { self.new.all.items ≡ map (released (get nat_eq self.old.ranges address)) self.old.all.items }
-        ensures ranges { (other : ℕ) → get nat_eq self.new.ranges other ≡ (if address == other then None else get nat_eq self.old.ranges other) }
+    /// The address is held no more, where one is told.
+    fn release(&mut self, address: Option<Addr>)
+        ensures spans { self.new.all.items ≡ map (released (range_released (get nat_eq self.old.ranges) address)) self.old.all.items }
+        ensures ranges { (other : ℕ) → get nat_eq self.new.ranges other ≡ unless_released address other (get nat_eq self.old.ranges other) }
     {
+        let Some(address) = address else {
+            return;
+        };
         if let Some(range) = self.ranges.remove(&address.value()) {
             remove_block(self.all.as_mut_slice(), range);
         }
@@ -96,7 +106,7 @@ impl Spans {
     /// # Errors
     ///
     /// `AllocError` where memory is refused: then nothing is changed.
-    pub(crate) fn hold(&mut self, address: Addr, size: u32) -> Result<(), AllocError>
+    fn hold(&mut self, address: Addr, size: u32) -> Result<(), AllocError>
         requires few { All (λ span. span.live + 1 < 2 ^ 64) self.old.all.items }
         ensures spans { OnOk result (self.new.all.items ≡ map (with_block (range_of size) size) self.old.all.items) }
         ensures ranges { OnOk result ((other : ℕ) → get nat_eq self.new.ranges other ≡ (if address == other then Some (range_of size) else get nat_eq self.old.ranges other)) }
@@ -105,5 +115,26 @@ impl Spans {
         self.ranges.insert(address.value(), range)?;
         add_block(self.all.as_mut_slice(), range, size);
         Ok(())
+    }
+
+    /// An address is held no more, if one is told, and then a block is given, if one is told.
+    ///
+    /// # Errors
+    ///
+    /// `AllocError` where memory is refused.
+    pub(crate) fn follow(
+        &mut self,
+        freed: Option<Addr>,
+        given: Option<Block>,
+    ) -> Result<(), AllocError>
+        requires few { All (λ span. span.live + 1 < 2 ^ 64) self.old.all.items }
+        ensures spans { OnOk result (self.new.all.items ≡ given_all given (map (released (range_released (get nat_eq self.old.ranges) freed)) self.old.all.items)) }
+        ensures ranges { OnOk result ((other : ℕ) → get nat_eq self.new.ranges other ≡ given_range given other (unless_released freed other (get nat_eq self.old.ranges other))) }
+    {
+        self.release(freed);
+        match given {
+            Some(block) => self.hold(block.address, block.size),
+            None => Ok(()),
+        }
     }
 }
