@@ -66,3 +66,4 @@ mod LineChange
 mod HeldCounts
 mod SpansLemmas
 mod CountedLemmas
+mod CutLemmas

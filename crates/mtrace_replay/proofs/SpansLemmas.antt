@@ -15,7 +15,7 @@ use Rattle.mtrace_replay.specs.Totals.{is_served, first_moments, Measures, IsMos
 use Rattle.mtrace_replay.specs.Asked.{class_asked}
 use Rattle.mtrace_replay.specs.Served.{served_moment, served_moments}
 use Rattle.mtrace_replay.specs.Parts.{size_ranges, range_of, is_in, blocks_of, served_classes, largest}
-use Rattle.mtrace_replay.specs.Spans.{has_range, with_block, hits, released, Agrees, range_held, IsSpan, AreAll, AreCounted, released_by, address_asked, range_released, unless_released, blank, IsBlank, given_all}
+use Rattle.mtrace_replay.specs.Spans.{has_range, with_block, hits, released, Agrees, range_held, IsSpan, AreAll, AreCounted, released_by, address_asked, range_released, unless_released, IsPlaced, blank, IsBlank, given_all}
 use Rattle.mtrace_replay.proofs.SortedLemmas.{addresses}
 use Rattle.mtrace_replay.proofs.FoundLemmas.{found_is_held, held_as_found}
 use Rattle.mtrace_replay.proofs.TotalsLemmas.{none_measured, most_none, most_goes_on}
@@ -241,6 +241,7 @@ module _ (past : List ReadLine) (line : ReadLine) (spans : List Span) (ranges ra
   counted_without none updates = record {
     each = All-map (IsSpan (line ∷ past)) (released (range_released ranges (taken past line))) spans
         (λ k d within. span_without past line ranges counted.ranges_are (slice_index_or spans k d) (counted.each k d within) not_given);
+    placed = All-map IsPlaced (released (range_released ranges (taken past line))) spans (λ k d within. let was = counted.placed k d within in record { ordered = was.ordered; within = was.within });
     all = all_changed (released (range_released ranges (taken past line))) spans (λ span. (refl, refl)) counted.all;
     ranges_are = λ asked agrees address.
         updates address ∙ ap (unless_released (taken past line) address) (counted.ranges_are asked agrees.1 address)
@@ -276,6 +277,9 @@ module _ (past : List ReadLine) (line : ReadLine) (spans : List Span) (ranges ra
       each = All-map (IsSpan (line ∷ past)) (with_block (range_of size) size) (map (released (range_released ranges (taken past line))) spans)
           (All-map (λ span. IsSpan (line ∷ past) (with_block (range_of size) size span)) (released (range_released ranges (taken past line))) spans
           (λ k d within. span_with past line ranges counted.ranges_are (slice_index_or spans k d) (counted.each k d within) given size gave has_class));
+      placed = All-map IsPlaced (with_block (range_of size) size) (map (released (range_released ranges (taken past line))) spans)
+          (All-map (λ span. IsPlaced (with_block (range_of size) size span)) (released (range_released ranges (taken past line))) spans
+          (λ k d within. let was = counted.placed k d within in record { ordered = was.ordered; within = was.within }));
       all = all_changed (with_block (range_of size) size) (map (released (range_released ranges (taken past line))) spans) (λ span. (refl, refl))
           (all_changed (released (range_released ranges (taken past line))) spans (λ span. (refl, refl)) counted.all);
       ranges_are = λ asked agrees other.
@@ -305,7 +309,7 @@ module _ (spans now : List Span) (one : Span) (is : now ≡ spans ++ one ∷ [])
 -- a blank span is one of no line
 span_blank : (span : Span) → IsBlank span → IsSpan [] span
 unfolding served_moments served_classes
-span_blank span is = subst (IsSpan []) (sym is) (record {
+span_blank span is = subst (IsSpan []) (sym is.0) (record {
   live = λ asked agrees. none_measured (blocks_of asked span.first span.last) refl;
   most = λ asked agrees. (0, most_none (blocks_of asked span.first span.last) refl);
   size = refl;
@@ -319,6 +323,7 @@ pub counted_none : (spans : List Span) (ranges : ℕ → Option ℕ) → All IsB
 unfolding served_moments served_classes
 counted_none spans ranges all_blank rows none = record {
   each = λ k d within. span_blank (slice_index_or spans k d) (all_blank k d within);
+  placed = λ k d within. (all_blank k d within).1;
   all = λ first last ordered within. (blank first last, rows first last ordered within, refl, refl);
   ranges_are = λ asked agrees address. none address;
   classes = refl;

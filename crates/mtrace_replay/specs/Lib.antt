@@ -43,3 +43,4 @@ pub mod RunServedTimeline
 pub mod Parts
 pub mod Spans
 pub mod CountedReplay
+pub mod Cuts

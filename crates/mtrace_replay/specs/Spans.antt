@@ -63,9 +63,15 @@ pub record IsSpan (past : List ReadLine) (span : Span) : Type 0 where
 abbrev pub AreAll : List Span → Type 0
 AreAll spans = (first last : ℕ) → first ≤ last → last < size_ranges → (span : Span) × Contains spans span × (span.first ≡ first) × (span.last ≡ last)
 
+-- the ranges of a span are in order, and are some of the ranges
+pub record IsPlaced (span : Span) : Type 0 where
+  pub ordered : span.first ≤ span.last
+  pub within : span.last < size_ranges
+
 -- The spans have what the lines did, and these are the ranges of what is held. Each served request has a class.
 pub record AreCounted (past : List ReadLine) (spans : List Span) (ranges : ℕ → Option ℕ) : Type 0 where
   pub each : All (IsSpan past) spans
+  pub placed : All IsPlaced spans
   pub all : AreAll spans
   pub ranges_are : (asked : ℕ → Option ℕ) → Agrees asked past → (address : ℕ) → ranges address ≡ range_held asked (held (served_moments past)) address
   pub classes : list_all is_some (served_classes past) ≡ true
@@ -97,7 +103,7 @@ abbrev pub blank : (first last : ℕ) → Span
 blank first last = record { first = first; last = last; live = 0; most = 0; size = 0 }
 
 abbrev pub IsBlank : Span → Type 0
-IsBlank span = span ≡ blank span.first span.last
+IsBlank span = (span ≡ blank span.first span.last) × IsPlaced span
 
 -- each span with the block that is given, where one is
 abbrev pub given_all : Option Block → List Span → List Span

@@ -1,6 +1,7 @@
 //! Heaps by size for a log: how many blocks of which size are enough in each.
 
 pub(crate) mod change;
+pub(crate) mod cut;
 pub(crate) mod range;
 pub(crate) mod replay;
 pub(crate) mod span;
