@@ -1,5 +1,5 @@
 -- The order of cuts is total, and a cut with one part more in front is compared as the rest.
-use Rattle.std.proofs.Common.{cond, Bool, true, false, Option, Some, None, ◌≡◌, ℕ, zero, suc, ◌+◌, ◌*◌, ◌^◌, ◌<◌, ◌≤◌, List, [], ◌∷◌, length, slice_index_or, ◌⊎◌, inl, inr, refl, sym, ap, ◌∙◌, subst, arith, Less, Equal, Greater}
+use Rattle.std.proofs.Common.{cond, Bool, true, false, Option, Some, None, ◌≡◌, ℕ, zero, suc, ◌+◌, ◌*◌, ◌^◌, ◌<◌, ◌≤◌, List, [], ◌∷◌, ◌++◌, length, slice_index_or, ◌⊎◌, inl, inr, refl, sym, ap, ◌∙◌, subst, arith, Less, Equal, Greater}
 use Rattle.std.specs.Prelude.{◌==◌, nat_lt, sum_by}
 use Rattle.std.specs.List.{All, Contains}
 use Rattle.std.specs.Cmp.{IsTotalOrder}
@@ -13,6 +13,7 @@ use Rattle.mtrace_replay.specs.declared.parts.span.Span.{Span}
 use Rattle.mtrace_replay.specs.declared.parts.cut.Cut.{Cut}
 use Rattle.mtrace_replay.specs.Parts.{size_ranges, Part, part_bytes, parts_of, IsCut, cut_bytes, cut_cmp, IsLeastCut}
 use Rattle.mtrace_replay.specs.Spans.{IsPlaced}
+use Rattle.mtrace_replay.proofs.MappedLemmas.{no_span}
 use Rattle.mtrace_replay.specs.Cuts.{part_of, span_bytes, cut_order, NotGreater, IsLesser, IsJoined, IsSmall, ArePartsIn, IsBest, AreBest}
 
 order_total : IsTotalOrder cut_order
@@ -117,39 +118,50 @@ module _ (part : ℕ → ℕ → Part) where
   of_one : (P : Span → Type 0) (spans : List Span) → All P spans → (span : Span) → Contains spans span → P span
   of_one P spans all span has = subst P has.2 (all has.0 span has.1)
 
-  module _ (most : ℕ) (rests : List (Option Cut)) (spans : List Span) (first : ℕ) (in_spans : ArePartsIn part spans) (best_rests : AreBest part most rests) where
+  module _ (spans : List Span) (first : ℕ) (in_spans : ArePartsIn part spans) where
     -- the part of the ranges that a span has
     part_at : (span : Span) → Contains spans span → part span.first span.last ≡ part_of span
     part_at span has = of_one (λ span. part span.first span.last ≡ part_of span) spans in_spans.each span has
 
+    -- no request falls under the ranges: then the cut of no part is one
+    pub is_empty : (cut : Cut) → cut.ends.items ≡ [] → cut.bytes ≡ 0 → All (λ (span : Span). span.first ≡ first → span.size ≡ 0) spans → IsValid 0 first (Some cut)
+    is_empty cut no_ends no_bytes unused = (
+      subst (IsCut part first) (sym no_ends) (λ last from within.
+          let has = in_spans.all first last from within in
+          let span : Span = has.0 in
+          ap (λ f. (part f last).size) (sym has.2) ∙ ap (λ l. (part span.first l).size) (sym has.3) ∙ ap (λ (p : Part). p.size) (part_at span has.1)
+          ∙ of_one (λ (span : Span). span.first ≡ first → span.size ≡ 0) spans unused span has.1 has.2),
+      subst (λ ends. length ends ≤ 0) (sym no_ends) (omega arith),
+      no_bytes ∙ sym (ap (cut_bytes part first) no_ends),
+    )
+
+    -- some request falls under them: then it isn't one
+    pub is_used : (k : ℕ) → k < length spans → ((d : Span) → ((slice_index_or spans k d).first ≡ first) × (0 < (slice_index_or spans k d).size)) → IsCut part first [] → ⊥
+    is_used k within used is =
+        let span = slice_index_or spans k no_span in
+        let its = used no_span in
+        let placed = in_spans.placed k no_span within in
+        let none = is span.last (omega (arith, placed.ordered, its.0)) placed.within in
+        let same : (part span.first span.last).size ≡ span.size = ap (λ (p : Part). p.size) (in_spans.each k no_span within) in
+        let there : (part span.first span.last).size ≡ (part first span.last).size = ap (λ f. (part f span.last).size) its.0 in
+        omega (arith, none, same, there, its.1)
+
+  module _ (most : ℕ) (rests : List (Option Cut)) (spans : List Span) (first : ℕ) (in_spans : ArePartsIn part spans) (best_rests : AreBest part most rests) where
     -- no request falls under the ranges
     pub none_so_far : (cut : Cut) → cut.ends.items ≡ [] → cut.bytes ≡ 0 → All (λ (span : Span). span.first ≡ first → span.size ≡ 0) spans → IsBestSoFar most rests spans first 0 (Some cut)
-    none_so_far cut no_ends no_bytes unused = record {
-      valid = (
-        subst (IsCut part first) (sym no_ends) (λ last from within.
-            let has = in_spans.all first last from within in
-            let span : Span = has.0 in
-            ap (λ f. (part f last).size) (sym has.2) ∙ ap (λ l. (part span.first l).size) (sym has.3) ∙ ap (λ (p : Part). p.size) (part_at span has.1)
-            ∙ of_one (λ (span : Span). span.first ≡ first → span.size ≡ 0) spans unused span has.1 has.2),
-        subst (λ ends. length ends ≤ suc most) (sym no_ends) (omega arith),
-        no_bytes ∙ sym (ap (cut_bytes part first) no_ends),
-      );
-      empty = λ is. subst (λ ends. is_gt (cut_cmp part first ends []) ≡ false) (sym no_ends) refl;
-      each = λ k d below. absurd (omega (arith, below));
-    }
+    none_so_far cut no_ends no_bytes unused =
+        let empty = is_empty spans first in_spans cut no_ends no_bytes unused in
+        record {
+          valid = (empty.0, subst (λ ends. length ends ≤ suc most) (sym no_ends) (omega arith), empty.2);
+          empty = λ is. subst (λ ends. is_gt (cut_cmp part first ends []) ≡ false) (sym no_ends) refl;
+          each = λ k d below. absurd (omega (arith, below));
+        }
 
     -- some request falls under them
     pub some_so_far : (k : ℕ) → k < length spans → ((d : Span) → ((slice_index_or spans k d).first ≡ first) × (0 < (slice_index_or spans k d).size)) → IsBestSoFar most rests spans first 0 None
     some_so_far k within used = record {
       valid = tt;
-      empty = λ is.
-          let span = slice_index_or spans k (record { first = 0; last = 0; live = 0; most = 0; size = 0 }) in
-          let its = used (record { first = 0; last = 0; live = 0; most = 0; size = 0 }) in
-          let placed = in_spans.placed k (record { first = 0; last = 0; live = 0; most = 0; size = 0 }) within in
-          let none = is span.last (omega (arith, placed.ordered, its.0)) placed.within in
-          let same : (part span.first span.last).size ≡ span.size = ap (λ (p : Part). p.size) (in_spans.each k (record { first = 0; last = 0; live = 0; most = 0; size = 0 }) within) in
-          let there : (part span.first span.last).size ≡ (part first span.last).size = ap (λ f. (part f span.last).size) its.0 in
-          omega (arith, none, same, there, its.1);
+      empty = is_used spans first in_spans k within used;
       each = λ k d below. absurd (omega (arith, below));
     }
 
@@ -170,7 +182,7 @@ module _ (part : ℕ → ℕ → Part) where
     valid_joined span has from (Some rest) best None is = tt
     valid_joined span has from (Some rest) best (Some cut) is =
         let placed = of_one IsPlaced spans in_spans.placed span has in
-        let part_is : part_bytes (part first span.last) ≡ span_bytes span = ap (λ f. part_bytes (part f span.last)) (sym from) ∙ ap part_bytes (part_at span has) in
+        let part_is : part_bytes (part first span.last) ≡ span_bytes span = ap (λ f. part_bytes (part f span.last)) (sym from) ∙ ap part_bytes (part_at spans first in_spans span has) in
         let whole = bytes-cons first span.last rest.ends.items in
         let count : length cut.ends.items ≡ suc (length rest.ends.items) = ap length is.0 in (
           subst (IsCut part first) (sym is.0) (subst (λ f. f ≤ span.last) from placed.ordered, placed.within, best.0.cut),
@@ -256,3 +268,42 @@ small_lesser most one other cut lesser first second = elim lesser.either [
   | inl is ↦ subst (IsSmall most) (sym is) first
   | inr is ↦ subst (IsSmall most) (sym is) second
 ]
+
+-- with no part, only the cut of none is there
+pub empty_best : (part : ℕ → ℕ → Part) (spans : List Span) (first : ℕ) → ArePartsIn part spans → (cut : Cut) → cut.ends.items ≡ [] → cut.bytes ≡ 0 → All (λ (span : Span). span.first ≡ first → span.size ≡ 0) spans
+    → IsBest part 0 first (Some cut)
+empty_best part spans first in_spans cut no_ends no_bytes unused =
+    let valid = is_empty part spans first in_spans cut no_ends no_bytes unused in (
+      record {
+        cut = valid.0;
+        few = subst (λ ends. length ends ≤ 0) (sym no_ends) (omega arith);
+        least = by_ends;
+      },
+      valid.2,
+    )
+  where
+    by_ends : (ends : List ℕ) → IsCut part first ends → length ends ≤ 0 → is_gt (cut_cmp part first cut.ends.items ends) ≡ false
+    by_ends [] is few = subst (λ ends. is_gt (cut_cmp part first ends []) ≡ false) (sym no_ends) refl
+    by_ends (last ∷ ends) is few = absurd (omega (arith, few))
+
+pub empty_none : (part : ℕ → ℕ → Part) (spans : List Span) (first : ℕ) → ArePartsIn part spans → (k : ℕ) → k < length spans → ((d : Span) → ((slice_index_or spans k d).first ≡ first) × (0 < (slice_index_or spans k d).size))
+    → IsBest part 0 first None
+empty_none part spans first in_spans k within used [] is few = is_used part spans first in_spans k within used is
+empty_none part spans first in_spans k within used (last ∷ ends) is few = absurd (omega (arith, few))
+
+-- what holds of each place holds with one more
+pub pushed : {X : Type 0} (P : ℕ → X → Type 0) (xs : List X) (x : X) → ((k : ℕ) (d : X) → k < length xs → P k (slice_index_or xs k d)) → P (length xs) x
+    → (k : ℕ) (d : X) → k < length (xs ++ x ∷ []) → P k (slice_index_or (xs ++ x ∷ []) k d)
+pushed P [] x all its zero d within = its
+pushed P [] x all its (suc k) d within = absurd (omega (arith, within))
+pushed P (y ∷ ys) x all its zero d within = all 0 d (omega arith)
+pushed P (y ∷ ys) x all its (suc k) d within = pushed (λ n. P (suc n)) ys x (λ k d within. all (suc k) d (omega (arith, within))) its k d (omega (arith, within))
+
+-- there is a cut of one part
+pub some_cut : (part : ℕ → ℕ → Part) (most : ℕ) → 0 < most → IsBest part most 0 None → ⊥
+some_cut part most some none = none (26 ∷ []) (omega arith, omega arith, λ last from within. absurd (omega (arith, from, within))) (omega (arith, some))
+
+-- what is small is small where more is allowed
+pub smaller : (few many : ℕ) → few ≤ many → (cut : Option Cut) → IsSmall few cut → IsSmall many cut
+smaller few many less None small = tt
+smaller few many less (Some cut) small = (omega (arith, less, small.0), omega (arith, less, small.1))

@@ -3,7 +3,7 @@
 ghost use Rattle.std.specs.Prelude.{◌≡◌, ℕ, suc, ◌+◌, ◌*◌, ◌^◌, ◌<◌, ◌≤◌, [], ◌∷◌, length, slice_index_or, true, false, Some, None, IfOk};
 ghost use Rattle.std.specs.List.{All};
 ghost use Rattle.mtrace_replay.specs.declared.parts.span.Span.{Span};
-ghost use Rattle.mtrace_replay.specs.Parts.{Part, IsLeastCut};
+ghost use Rattle.mtrace_replay.specs.Parts.{size_ranges, Part, IsLeastCut};
 ghost use Rattle.mtrace_replay.specs.Cuts.{cut_order, span_bytes, IsLesser, IsJoined, IsSmall, ArePartsIn, IsBest, AreBest};
 
 use super::range::RANGES;
@@ -121,23 +121,31 @@ fn best_from(spans: &[Span], rests: &[Option<Cut>], first: u8) -> Option<Cut>
     best
 }
 
-/// The cuts of no part: of the ranges behind the last used one.
+/// The cut of no part of the ranges from this one on. `None` where a request falls under one of them.
+fn empty_from(spans: &[Span], first: u8) -> Option<Cut>
+    ensures best { (part : ℕ → ℕ → Part) → ArePartsIn part spans.now → IsBest part 0 first result }
+    ensures small { IsSmall 0 result }
+{
+    if is_unused_from(spans, first) {
+        return Some(no_parts());
+    }
+    None
+}
+
+/// The cuts of no part, of the ranges from each on.
 fn first_row(alloc: Global, spans: &[Span]) -> Result<Vec<Option<Cut>>, AllocError>
     ensures best { IfOk result (λ row. (part : ℕ → ℕ → Part) → ArePartsIn part spans.now → AreBest part 0 row.items) }
     ensures small { IfOk result (λ row. All (IsSmall 0) row.items) }
+    ensures len { IfOk result (λ row. length row.items ≡ suc size_ranges) }
 {
     let mut row = Vec::new(alloc);
     for first in 0..RANGES + 1 {
-        if is_unused_from(spans, first) {
-            row.push(Some(no_parts()))?;
-        } else {
-            row.push(None)?;
-        }
+        row.push(empty_from(spans, first))?;
     }
     Ok(row)
 }
 
-/// The least cuts from each range on, by those that have a part less.
+/// The least cuts of the ranges from each on, by those that have a part less.
 fn next_row(
     alloc: Global,
     spans: &[Span],
@@ -146,6 +154,7 @@ fn next_row(
     requires small { All (IsSmall 7) rests.now }
     ensures best { IfOk result (λ row. (part : ℕ → ℕ → Part) (most : ℕ) → ArePartsIn part spans.now → AreBest part most rests.now → AreBest part (suc most) row.items) }
     ensures small { IfOk result (λ row. (most : ℕ) → All (IsSmall most) rests.now → All (IsSmall (suc most)) row.items) }
+    ensures len { IfOk result (λ row. length row.items ≡ suc size_ranges) }
 {
     let mut row = Vec::new(alloc);
     for first in 0..RANGES + 1 {
@@ -166,11 +175,11 @@ pub(crate) fn least_cut(alloc: Global, spans: &[Span], most: u8) -> Result<Cut, 
     ensures least { IfOk result (λ cut. (part : ℕ → ℕ → Part) → ArePartsIn part spans.now → IsLeastCut part most 0 cut.ends.items) }
 {
     let mut row = first_row(alloc, spans)?;
-    for _ in 0..most {
+    for _fewer in 0..most {
         row = next_row(alloc, spans, row.as_slice())?;
     }
-    match row.into_iter().next() {
-        Some(Some(cut)) => Ok(cut),
-        _ => unreachable!(),
+    match row.swap_remove(0) {
+        Some(cut) => Ok(cut),
+        None => unreachable!(),
     }
 }
