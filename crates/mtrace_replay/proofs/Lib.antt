@@ -67,3 +67,5 @@ mod HeldCounts
 mod SpansLemmas
 mod CountedLemmas
 mod CutLemmas
+mod CountedRunLemmas
+mod PartsTextLemmas

@@ -44,3 +44,5 @@ pub mod Parts
 pub mod Spans
 pub mod CountedReplay
 pub mod Cuts
+pub mod RunParts
+pub mod PartsText

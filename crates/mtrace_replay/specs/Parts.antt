@@ -117,9 +117,7 @@ part_line part = codes "up to " ++ decimal part.size ++ codes ": " ++ decimal pa
 abbrev pub parts_text : List Part → List ℕ
 parts_text parts =
     number_line (codes "heaps: ") (length parts)
-    ++ flat_map part_line parts
-    ++ size_line (codes "sum: ") (sum_over pool_bytes parts)
-    ++ size_line (codes "tables: ") (sum_over records_bytes parts)
+    ++ (flat_map part_line parts ++ (size_line (codes "sum: ") (sum_over pool_bytes parts) ++ size_line (codes "tables: ") (sum_over records_bytes parts)))
 
 -- no parts serve the log
 abbrev pub no_parts_text : List ℕ

@@ -2,7 +2,10 @@
 
 pub(crate) mod change;
 pub(crate) mod cut;
+pub(crate) mod follow;
 pub(crate) mod range;
 pub(crate) mod replay;
+pub(crate) mod run;
 pub(crate) mod span;
 pub(crate) mod spans;
+pub(crate) mod text;
