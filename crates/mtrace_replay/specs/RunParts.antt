@@ -75,6 +75,10 @@ pub record IsStart (replay : CountedReplay) : Type 0 where
   pub stands : IsServed replay.ledger []
   pub counted : AreCountedOf [] replay.spans
 
+-- some lines were followed, and their blocks were counted
+abbrev pub HasLines : CountedReplay → Type 0
+HasLines replay = (lines : List ReadLine) × IsServed replay.ledger (reverse lines) × AreCountedOf (reverse lines) replay.spans
+
 -- all lines of the log were read and followed, and their blocks were counted
 pub record HasCounted (replay : CountedReplay) (has_diagnostics : Bool) (reader_old reader_new : ReaderState) (writer_old writer_new : WriterState) : Type 0 where
   pub served : HasServed replay.ledger has_diagnostics reader_old reader_new writer_old writer_new
