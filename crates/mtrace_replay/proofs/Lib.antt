@@ -69,3 +69,4 @@ mod CountedLemmas
 mod CutLemmas
 mod CountedRunLemmas
 mod PartsTextLemmas
+mod PartsRun

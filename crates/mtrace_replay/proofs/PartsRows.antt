@@ -1,7 +1,6 @@
 -- Worked logs, and the parts that serve them, computed by the definitions.
 use Rattle.std.proofs.Common.{◌≡◌, ℕ, List, [], ◌∷◌, ◌++◌, reverse, Some, None, Ok, refl, codes, true}
 use Rattle.std.specs.Prelude.{◌==◌, if◌then◌else◌}
-
 use Rattle.std.proofs.Common.{Less, Greater}
 use Rattle.std.specs.Fmt.{digits}
 use Rattle.mtrace_log.specs.declared.event.Event.TheVariants.{Alloc, Free, Old, New, Aligned}

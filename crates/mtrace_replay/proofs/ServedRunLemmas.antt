@@ -109,7 +109,7 @@ module _ (replay : Standing) (lines : List ReadLine) (stands : IsServed replay (
   pub end_is : (text : List ℕ) → served_end replay text ≡ last_text lines text
   end_is text = ap (λ last. diagnostics_text last ++ text) half_is
 
-  summed : AreServedTotals (served_history lines) (totals_of replay)
+  pub summed : AreServedTotals (served_history lines) (totals_of replay)
   summed = record {
     lines = stands.lines_are ∙ sym (length-served (reverse lines));
     served = stands.served_are;

@@ -51,6 +51,7 @@ pub use crate::index::Entries;
 pub use crate::no_heap::report::LedgerReport;
 pub use crate::no_heap::run::run_ledger;
 pub use crate::no_heap::timeline::run_ledger_timeline;
+pub use crate::parts::run::run_fit_heaps;
 pub use crate::replay::{Replay, ReplayFault};
 pub use crate::report::Report;
 pub use crate::run::{run_leaks, run_peak, run_report, run_walk};

@@ -170,7 +170,10 @@ pub(crate) fn put_parts<W: Sink>(
     requires { length parts.now ≤ 8 }
     ensures { Puts result (peak_line_text bytes line ++ parts_text (map part_in parts.now)) (W.shown writer.old) (W.shown writer.new) }
 {
-    put_all(writer, front_text(bytes, line, parts.len() as u64).as_slice())?;
+    put_all(
+        writer,
+        front_text(bytes, line, parts.len() as u64).as_slice(),
+    )?;
     put_behind(writer, parts)
 }
 
