@@ -63,3 +63,14 @@ mod LocationsLemmas
 mod ServedLemmas
 mod ServedRunLemmas
 mod ServedTimelineLemmas
+mod PartsRows
+mod MappedLemmas
+mod RangeLemmas
+mod LineChange
+mod HeldCounts
+mod SpansLemmas
+mod CountedLemmas
+mod CutLemmas
+mod CountedRunLemmas
+mod PartsTextLemmas
+mod PartsRun

@@ -37,7 +37,7 @@ pub record IsFollowing (progress : Progress) (replay : Standing) (has_diagnostic
   pub wrote : Wrote writer_start writer_now (served_notes so_far.lines)
   pub has_diagnostics_is : has_diagnostics ≡ has_some (notes (served_history so_far.lines))
 
-no_moment : served_history [] ≡ []
+pub no_moment : served_history [] ≡ []
 unfolding served_moments
 no_moment = refl
 
@@ -46,15 +46,15 @@ unfolding served_moments
 one_moment line past = refl
 
 -- the moments with one line more
-history-more : (lines : List ReadLine) (line : ReadLine)
+pub history-more : (lines : List ReadLine) (line : ReadLine)
     → served_history (lines ++ line ∷ []) ≡ served_moment (length (reverse lines)) line (pending (reverse lines)) (held (served_history lines)) ∷ served_history lines
 history-more lines line = ap served_moments (reverse-more lines line) ∙ one_moment line (reverse lines)
 
-notes-more : (lines : List ReadLine) (line : ReadLine) → served_notes (lines ++ line ∷ []) ≡ served_notes lines ++ diagnostics_text (added_served line (reverse lines))
+pub notes-more : (lines : List ReadLine) (line : ReadLine) → served_notes (lines ++ line ∷ []) ≡ served_notes lines ++ diagnostics_text (added_served line (reverse lines))
 notes-more lines line = ap (λ past. diagnostics_text (notes past)) (history-more lines line) ∙ diagnostics_text-append (notes (served_history lines)) (added_served line (reverse lines))
 
 -- before the first line
-pub following_start : (replay : Standing) (reader : ReaderState) (writer : WriterState) → IsServed replay [] → IsFollowing no_line replay false reader reader writer writer
+unfoldable pub following_start : (replay : Standing) (reader : ReaderState) (writer : WriterState) → IsServed replay [] → IsFollowing no_line replay false reader reader writer writer
 following_start replay reader writer stands = record {
   so_far = followed_start (λ past. IsServed replay past) reader stands;
   wrote = subst (λ (past : List Moment). Wrote writer writer (diagnostics_text (notes past))) (sym no_moment) (Wrote-nothing writer);
@@ -64,7 +64,7 @@ following_start replay reader writer stands = record {
 module _ (old new : Progress) (replay_old replay_new : Standing) (had_diagnostics : Bool) (start before after : ReaderState) (writer_start writer_old writer_new : WriterState) (line : Line)
     (under : IsFollowing old replay_old had_diagnostics start before writer_start writer_old) (given : GivesLine old new (to_come old before.left) (to_come new after.left) line) where
   -- one line more
-  pub following_line : (more : Bool) → LineServed replay_new line.event (reverse under.so_far.lines) writer_old writer_new more → IsFollowing new replay_new (had_diagnostics || more) start after writer_start writer_new
+  unfoldable pub following_line : (more : Bool) → LineServed replay_new line.event (reverse under.so_far.lines) writer_old writer_new more → IsFollowing new replay_new (had_diagnostics || more) start after writer_start writer_new
   following_line more gives =
       let lines = under.so_far.lines in
       let added = added_served line.event (reverse lines) in
@@ -90,10 +90,10 @@ module _ (old new : Progress) (replay_old replay_new : Standing) (had_diagnostic
       }
 
 -- what comes behind the diagnostics of the lines: that of the end, and a text
-abbrev last_text : List ReadLine → List ℕ → List ℕ
+abbrev pub last_text : List ReadLine → List ℕ → List ℕ
 last_text lines text = diagnostics_text (half (length lines) (pending (reverse lines))) ++ text
 
-whole_is : (lines : List ReadLine) (text : List ℕ) → whole_served lines text ≡ served_notes lines ++ last_text lines text
+pub whole_is : (lines : List ReadLine) (text : List ℕ) → whole_served lines text ≡ served_notes lines ++ last_text lines text
 whole_is lines text =
     let last = half (length lines) (pending (reverse lines)) in
     ap (λ front. front ++ text) (diagnostics_text-append (notes (served_history lines)) last) ∙ append_assoc (served_notes lines) (diagnostics_text last) text
@@ -102,14 +102,14 @@ module _ (replay : Standing) (lines : List ReadLine) (stands : IsServed replay (
   abbrev given_of : List Given
   given_of = map unplaced replay.all
 
-  half_is : half replay.lines replay.pending ≡ half (length lines) (pending (reverse lines))
+  pub half_is : half replay.lines replay.pending ≡ half (length lines) (pending (reverse lines))
   half_is = ap (λ n. half n replay.pending) (stands.lines_are ∙ length-reverse lines) ∙ ap (half (length lines)) stands.pending_is
 
   -- what a replay that stands for the lines writes at the end
-  end_is : (text : List ℕ) → served_end replay text ≡ last_text lines text
+  pub end_is : (text : List ℕ) → served_end replay text ≡ last_text lines text
   end_is text = ap (λ last. diagnostics_text last ++ text) half_is
 
-  summed : AreServedTotals (served_history lines) (totals_of replay)
+  pub summed : AreServedTotals (served_history lines) (totals_of replay)
   summed = record {
     lines = stands.lines_are ∙ sym (length-served (reverse lines));
     served = stands.served_are;
@@ -180,7 +180,7 @@ following_write report old new replay_old replay_new had_diagnostics start befor
     }
 
 -- the end of the log
-pub following_end : {R : Type 0} (reads : R → ReaderState) (old new : Progress) (replay : Standing) (has_diagnostics : Bool) (start : ReaderState) (reader_old reader_new : R) (writer_start writer : WriterState)
+unfoldable pub following_end : {R : Type 0} (reads : R → ReaderState) (old new : Progress) (replay : Standing) (has_diagnostics : Bool) (start : ReaderState) (reader_old reader_new : R) (writer_start writer : WriterState)
     → IsFollowing old replay has_diagnostics start (reads reader_old) writer_start writer
     → FindsEnd old.stage old new reader_old reader_new (to_come old (reads reader_old).left) (to_come new (reads reader_new).left)
     → HasServed replay has_diagnostics start (reads reader_new) writer_start writer
@@ -225,7 +225,7 @@ module _ (report : LedgerReport) (replay : Standing) (has_diagnostics : Bool) (r
   }
 
   -- all was written
-  pub served_all : (status : Status) → Wrote writer_middle writer_new (served_end replay its_text)
+  unfoldable pub served_all : (status : Status) → Wrote writer_middle writer_new (served_end replay its_text)
       → status ≡ (if has_diagnostics || (has_some (half replay.lines replay.pending) || has_some replay.all) then Found else Clean)
       → ReportsServed report status reader_old reader_new writer_old writer_new
   served_all status wrote is =

@@ -42,3 +42,9 @@ pub mod Served
 pub mod RunServed
 pub mod ServedTimeline
 pub mod RunServedTimeline
+pub mod Parts
+pub mod Spans
+pub mod CountedReplay
+pub mod Cuts
+pub mod RunParts
+pub mod PartsText

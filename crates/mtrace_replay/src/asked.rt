@@ -36,6 +36,13 @@ impl Asked {
         }
     }
 
+    /// The class size of what is asked for, in bytes. `None` where there is no such class.
+    pub(crate) fn class(self) -> Option<u32>
+        ensures { result ≡ class_size self.align (asked_size self.size) }
+    {
+        class_size(self.align, asked_size(self.size))
+    }
+
     /// The greater of a class size and of that which is asked for, in bytes, where the line is served; else the size.
     /// `None` where one of them is missing.
     pub(crate) fn greatest(self, size: Option<u32>, is_served: bool) -> Option<u32>
@@ -44,7 +51,7 @@ impl Asked {
         if !is_served {
             return size;
         }
-        let asked = class_size(self.align, asked_size(self.size))?;
+        let asked = self.class()?;
         Some(size?.max(asked))
     }
 }

@@ -148,6 +148,13 @@ impl LedgerReplay {
         }
     }
 
+    /// The address of the last line, where that is `<`.
+    pub(crate) fn pending(&self) -> Option<Addr>
+        ensures { result ≡ self.now.pending }
+    {
+        self.pending
+    }
+
     /// What was held at the peak.
     pub(crate) fn peak_amount(&self) -> Amount
         ensures { result ≡ record { blocks = self.now.peak_blocks; bytes = self.now.peak_bytes } }

@@ -94,7 +94,7 @@ fn put_end<W: Sink>(
 }
 
 /// Puts what is wrong at the end and the report, and flushes. Answers the status.
-fn finish<W: Sink>(
+pub(crate) fn finish<W: Sink>(
     writer: &mut W,
     replay: &LedgerReplay,
     has_diagnostics: bool,

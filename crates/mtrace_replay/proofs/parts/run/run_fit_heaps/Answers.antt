@@ -1,0 +1,18 @@
+use Rattle.std.proofs.Common.{◌≡◌, inl, inr, refl, ap, ◌∙◌, arith, false, true}
+use Rattle.std.specs.Prelude.{Ok}
+use Rattle.mtrace_replay.proofs.PartsRun.{not_bad_heaps}
+use Rattle.mtrace_replay.proofs.parts.run.run_fit_heaps.Goals as goal
+
+pub returns-in-Ok-follow_counted : goal.returns-in-Ok-follow_counted
+returns-in-Ok-follow_counted g c =
+    let writes = g.W.Sink.shown in
+    let last = c.in-Ok-follow_counted.ensures.last in
+    record {
+      bad_heaps = λ bad. absurd (not_bad_heaps c.args.heaps (omega (arith, c.if-heaps-eq0)) (omega (arith, c.if-heaps-gt8)) bad);
+      runs = λ good. inr (record {
+        run = Ok c.in-Ok-follow_counted.status;
+        writer_middle = writes c.follow_counted.new.writer;
+        runs = c.in-Ok-follow_counted.ensures.ran;
+        goes_on = record { reports = last.reports; follow = c.tell_parts.ensures last.reports.lines last.stands last.counted };
+      });
+    }

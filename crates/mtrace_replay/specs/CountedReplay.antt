@@ -1,0 +1,27 @@
+-- A replay that counts the blocks held of each span of sizes.
+use Rattle.std.specs.Prelude.{◌≡◌, ℕ, Bool, true, false, List, ◌∷◌, length, Result, OnOk}
+use Rattle.mtrace_replay.specs.declared.diagnostic.Diagnostic.{Diagnostic}
+use Rattle.mtrace_replay.specs.declared.parts.change.Change.{Change}
+use Rattle.mtrace_replay.specs.declared.parts.replay.CountedReplay.{CountedReplay}
+use Rattle.mtrace_replay.specs.Moment.{ReadLine}
+use Rattle.mtrace_replay.specs.History.{held, pending}
+use Rattle.mtrace_replay.specs.Totals.{is_served}
+use Rattle.mtrace_replay.specs.Asked.{class_asked}
+use Rattle.mtrace_replay.specs.Served.{served_moment, served_moments, IsServed, added_served}
+use Rattle.mtrace_replay.specs.Spans.{released_by, address_asked, AreCountedOf, AreFew}
+
+-- what the line behind these does, and whether it is served
+pub record IsChangeOf (change : Change) (served : Bool) (line : ReadLine) (past : List ReadLine) : Type 0 where
+  pub moved : change.moved ≡ released_by line (pending past) true
+  pub freed : change.freed ≡ released_by line (pending past) false
+  pub address : change.address ≡ address_asked line
+  pub size : change.size ≡ class_asked line
+  pub served_is : served ≡ is_served (served_moment (length past) line (pending past) (held (served_moments past)))
+
+-- The line of this number was fed, and its blocks were counted.
+pub record FeedsCounted {E : Type 0} (number : ℕ) (line : ReadLine) (diagnostics : List Diagnostic) (result : Result (Unit {0}) E) (old new : CountedReplay) : Type 0 where
+  pub stands : OnOk result ((past : List ReadLine) → IsServed old.ledger past → IsServed new.ledger (line ∷ past))
+  pub spans : OnOk result ((past : List ReadLine) → IsServed old.ledger past → AreCountedOf past old.spans → AreCountedOf (line ∷ past) new.spans)
+  pub told : OnOk result ((past : List ReadLine) → IsServed old.ledger past → diagnostics ≡ added_served line past)
+  pub counted : OnOk result (new.ledger.lines ≡ number)
+  pub few : OnOk result (AreFew number new.spans)
