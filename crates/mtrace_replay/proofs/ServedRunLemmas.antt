@@ -1,5 +1,8 @@
 -- A run without a heap under way, and how it goes on and ends.
-use Rattle.std.proofs.Common.{◌≡◌, ℕ, Bool, false, ◌||◌, List, [], ◌∷◌, ◌++◌, length, map, refl, sym, ap, ◌∙◌, subst, reverse, inl, inr, append_assoc, if◌then◌else◌}
+use Rattle.std.proofs.Common.{◌≡◌, ℕ, Bool, true, false, ◌||◌, List, [], ◌∷◌, ◌++◌, length, map, Result, Ok, Err, refl, sym, ap, ◌∙◌, subst, reverse, inl, inr, append_assoc, if◌then◌else◌, arith}
+use Rattle.std.specs.Prelude.{◌==◌, OnOk}
+use Rattle.std.specs.Result.{is_err}
+use Rattle.std.proofs.lemmas.Bool.{eqb-true}
 use Rattle.std.proofs.lemmas.List.{length-reverse, length-map}
 use Rattle.mtrace_log.specs.Progress.{Progress, Faulted, to_come, GivesLine, FindsEnd, GivesFault, CallsFor}
 use Rattle.mtrace_log.specs.Shown.{Bytes, ReaderState, WriterState}
@@ -9,6 +12,7 @@ use Rattle.mtrace_log.specs.declared.line.Line.{Line}
 use Rattle.mtrace_log.specs.declared.line.ReadFault.{ReadFault}
 use Rattle.mtrace_log.specs.declared.line.ReadFault.TheVariants.{ReaderFailed}
 use Rattle.mtrace_log.proofs.Writing.{Wrote-nothing, Wrote-append, Begins-after}
+use Rattle.mtrace_replay.specs.declared.diagnostic.Diagnostic.{Diagnostic}
 use Rattle.mtrace_replay.specs.declared.status.Status.{Status}
 use Rattle.mtrace_replay.specs.declared.status.Status.TheVariants.{Clean, Found}
 use Rattle.mtrace_replay.specs.declared.no_heap.report.LedgerReport.{LedgerReport}
@@ -263,3 +267,26 @@ served_nothing replay has_diagnostics reader_old reader_new writer_old writer_mi
 pub served_memory : (replay : Standing) (has_diagnostics : Bool) (reader_old reader_new : ReaderState) (writer_old writer_middle : WriterState)
     → HasServed replay has_diagnostics reader_old reader_new writer_old writer_middle → StopsForMemory reader_old reader_new writer_old writer_middle
 served_memory replay has_diagnostics reader_old reader_new writer_old writer_middle done = record { lines = done.lines; unused = []; reason = inr done.read; wrote = done.wrote }
+
+-- ---- a line of which nothing is wrong
+
+-- what holds where there is no error
+pub no_error : {T E : Type 0} (result : Result T E) (P : Type 0) → is_err result ≡ false → OnOk result P → P
+no_error (Ok value) P ok p = p
+no_error (Err fault) P ok p = absurd (let e : true ≡ false = ok in cc)
+
+pub no_findings : (findings : List Diagnostic) → (length findings == 0) ≡ true → findings ≡ []
+no_findings [] is = refl
+no_findings (first ∷ more) is = absurd (omega (arith, eqb-true (length (first ∷ more)) 0 is))
+
+-- it is followed, and nothing is put
+pub quiet_line : {T E : Type 0} (line : ReadLine) (result : Result T E) (old new : Standing) (findings : List Diagnostic) (writer : WriterState)
+    → OnOk result ((past : List ReadLine) → IsServed old past → IsServed new (line ∷ past)) → OnOk result ((past : List ReadLine) → IsServed old past → findings ≡ added_served line past)
+    → is_err result ≡ false → findings ≡ [] → (past : List ReadLine) → IsServed old past → LineServed new line past writer writer false
+quiet_line line result old new findings writer stands told ok none past stood =
+    let added : [] ≡ added_served line past = sym none ∙ no_error result _ ok told past stood in
+    record {
+      stands = no_error result _ ok stands past stood;
+      wrote = subst (λ (all : List Diagnostic). Wrote writer writer (diagnostics_text all)) added (Wrote-nothing writer);
+      has_diagnostics_is = ap has_some added;
+    }

@@ -1,5 +1,5 @@
 use Rattle.std.proofs.Common.{◌≡◌, inl, inr, refl, ap, ◌∙◌, arith, false, true}
-use Rattle.std.specs.Prelude.{Ok}
+use Rattle.std.specs.Prelude.{Ok, Err}
 use Rattle.mtrace_replay.proofs.PartsRun.{not_bad_heaps}
 use Rattle.mtrace_replay.proofs.parts.run.run_fit_heaps.Goals as goal
 
@@ -16,3 +16,9 @@ returns-in-Ok-follow_counted g c =
         goes_on = record { reports = last.reports; follow = c.tell_parts.ensures last.reports.lines last.stands last.counted };
       });
     }
+
+pub returns : goal.returns
+returns g c = record {
+  bad_heaps = λ bad. absurd (not_bad_heaps c.args.heaps (omega (arith, c.if-heaps-eq0)) (omega (arith, c.if-heaps-gt8)) bad);
+  runs = λ good. inr (record { run = Err c.in-Err.fault; writer_middle = g.W.Sink.shown c.follow_counted.new.writer; runs = c.in-Err.ensures.ran; goes_on = (refl, refl) });
+}
