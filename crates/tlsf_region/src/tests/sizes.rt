@@ -35,10 +35,10 @@ fn lengths(rt: HostRuntime) {
     }
 }
 
-/// Each length up to 65,536.
+/// Each length up to 8,192.
 #[test]
 fn small_lengths(rt: HostRuntime) {
-    for len in 0..65_537 {
+    for len in 0..8_193 {
         let mut region = made(&rt, rt.alloc(), len, 1);
         expect_eq(&rt, region.add_pool(0, 16).is_ok(), len >= 16);
     }
