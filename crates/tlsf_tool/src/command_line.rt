@@ -264,7 +264,8 @@ fn ledger_command<'a>(alloc: Global, name: &'a str, help: Help) -> Result<Comman
 fn sites_command<'a>(alloc: Global) -> Result<Command<'a>, AllocError>
     ensures { IfOk result (IsCommandOf sites_line) }
 {
-    let calls = "Also tell who asks, over the whole log: calls, bytes, and how many blocks the very next line frees; with no other option";
+    let calls =
+        "Also tell who asks, over the whole log: calls, bytes, and how many blocks the very next line frees; with no other option";
     choice_command(alloc, "sites", SITES)?.arg(flag(alloc, "calls", calls))
 }
 

@@ -80,7 +80,7 @@ impl Model for Ledger {
     } };
 
     ghost invariant = { λ l. IsLedger l.locations l.held.entries l.bytes × AreShared l.locations l.shares (values_of l.held.entries)
-      × AreCalled l.locations l.shares (length l.held.entries) };
+        × AreCalled l.locations l.shares (length l.held.entries) };
 }
 
 /// The keys of a map, in order.
