@@ -23,7 +23,7 @@ use Rattle.mtrace_replay.specs.declared.size.Bounds.{Bounds}
 use Rattle.mtrace_replay.specs.declared.status.RunFault.TheVariants.{OutOfMemory}
 use Rattle.tlsf_tool.specs.declared.asked.Command.{Command}
 use Rattle.mtrace_replay.specs.declared.no_heap.report.LedgerReport.TheVariants as ledger
-use Rattle.tlsf_tool.specs.declared.asked.Command.TheVariants.{Report, Follow, Reread, Size, Save, Check}
+use Rattle.tlsf_tool.specs.declared.asked.Command.TheVariants.{Report, Follow, Parts, Reread, Size, Save, Check}
 use Rattle.tlsf_tool.specs.declared.asked.Rereading.TheVariants.{Sites, Timeline, Fit}
 use Rattle.tlsf_tool.specs.declared.asked.Name.{Name}
 use Rattle.tlsf_tool.specs.declared.asked.Name.TheVariants.{Leaks, Peak, Walk}
@@ -115,6 +115,7 @@ subcommand_text (Follow Sums log) = codes "peak"
 subcommand_text (Follow ledger.Sites log) = codes "sites"
 subcommand_text (Follow Callers log) = codes "sites"
 subcommand_text (Follow Nothing log) = []
+subcommand_text (Parts heaps log) = codes "fit"
 subcommand_text (Reread (Sites settings) log) = codes "sites"
 subcommand_text (Reread (Timeline heap parts) log) = codes "timeline"
 subcommand_text (Reread (Fit step) log) = codes "fit"
@@ -129,6 +130,7 @@ asked_under found (Follow Sums log) asks = asks.0.0
 asked_under found (Follow ledger.Sites log) asks = asks.0.0
 asked_under found (Follow Callers log) asks = asks.0.0
 asked_under found (Follow Nothing log) asks = absurd asks.0.0
+asked_under found (Parts heaps log) asks = asks.0
 asked_under found (Reread (Sites settings) log) asks = asks.0
 asked_under found (Reread (Timeline heap parts) log) asks = asks.0
 asked_under found (Reread (Fit step) log) asks = asks.0
@@ -142,6 +144,10 @@ module _ (rows : List Row) where
   abbrev HasNoParts : Type 0
   HasNoParts = (parts : ℕ) → HasNumber rows (codes "points") 32 parts → ⊥
 
+  -- there is a number of heaps, and a step too
+  abbrev HasBoth : Type 0
+  HasBoth = ((heaps : ℕ) × HasNumber rows (codes "heaps") 32 heaps) × ((step : ℕ) × HasNumber rows (codes "step") 64 step)
+
   -- no heap is asked for, and there is a setting of one beside that
   abbrev HasTooMuch : Type 0
   HasTooMuch = HasNoHeap rows × (HasSettings rows default_settings → ⊥)
@@ -154,7 +160,7 @@ module _ (rows : List Row) where
   abbrev IsMissing : Text → Type 0
   IsMissing text = MatchBool (bytes_eq text (codes "check")) (first_of (codes "IMAGE") rows ≡ None)
       (MatchBool (bytes_eq text (codes "size")) ((bounds : Bounds) → HasBounds rows bounds → ⊥)
-      (MatchBool (bytes_eq text (codes "fit")) (first_of (codes "LOG") rows ≡ None)
+      (MatchBool (bytes_eq text (codes "fit")) ((first_of (codes "LOG") rows ≡ None) ⊎ HasBoth)
       (MatchBool (bytes_eq text (codes "timeline")) (HasNoParts ⊎ (first_of (codes "LOG") rows ≡ None))
       (MatchBool (bytes_eq text (codes "save")) (HasNoLog rows ⊎ (first_of (codes "IMAGE") rows ≡ None))
       (MatchBool (bytes_eq text (codes "sites")) ((first_of (codes "LOG") rows ≡ None) ⊎ HasCallsOnHeap)
@@ -180,11 +186,14 @@ module _ (rows : List Row) where
   has_all text (Follow Callers log) asks (inl none) = no_such (first_of (codes "LOG") rows) (string_bytes log) none asks.1
   has_all text (Follow Callers log) asks (inr much) = much.1 asks.0.1
   has_all text (Follow Nothing log) asks missing = asks.0.0
+  has_all text (Parts heaps log) asks (inl none) = no_such (first_of (codes "LOG") rows) (string_bytes log) none asks.3
+  has_all text (Parts heaps log) asks (inr both) = asks.2 both.1.0 both.1.1
   has_all text (Reread (Sites settings) log) asks (inl none) = no_such (first_of (codes "LOG") rows) (string_bytes log) none asks.3
   has_all text (Reread (Sites settings) log) asks (inr much) = asks.2 much.0
   has_all text (Reread (Timeline heap parts) log) asks (inl never) = never parts asks.2
   has_all text (Reread (Timeline heap parts) log) asks (inr none) = no_such (first_of (codes "LOG") rows) (string_bytes log) none asks.3
-  has_all text (Reread (Fit step) log) asks none = no_such (first_of (codes "LOG") rows) (string_bytes log) none asks.2
+  has_all text (Reread (Fit step) log) asks (inl none) = no_such (first_of (codes "LOG") rows) (string_bytes log) none asks.3
+  has_all text (Reread (Fit step) log) asks (inr both) = asks.2 both.0.0 both.0.1
   has_all text (Size bounds) asks never = never bounds asks.1
   has_all text (Save settings log image) asks (inl missing) = no_log settings log missing asks.1 asks.2
   has_all text (Save settings log image) asks (inr none) = no_such (first_of (codes "IMAGE") rows) (string_bytes image) none asks.3
@@ -242,6 +251,9 @@ module _ (rows : List Row) where
 
   pub timeline_asks_nothing : HasNoParts ⊎ (first_of (codes "LOG") rows ≡ None) → AsksNothing (Some (codes "timeline", rows))
   timeline_asks_nothing missing = text_asks_nothing (codes "timeline") missing
+
+  pub fit_asks_nothing : (first_of (codes "LOG") rows ≡ None) ⊎ HasBoth → AsksNothing (Some (codes "fit", rows))
+  fit_asks_nothing missing = text_asks_nothing (codes "fit") missing
 
   pub size_asks_nothing : ((bounds : Bounds) → HasBounds rows bounds → ⊥) → AsksNothing (Some (codes "size", rows))
   size_asks_nothing never = text_asks_nothing (codes "size") never

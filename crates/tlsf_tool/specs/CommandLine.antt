@@ -17,7 +17,7 @@ use Rattle.mtrace_replay.specs.declared.no_heap.report.LedgerReport.TheVariants.
 use Rattle.mtrace_replay.specs.declared.no_heap.report.LedgerReport.TheVariants as report
 use Rattle.mtrace_replay.specs.declared.size.Bounds.{Bounds}
 use Rattle.tlsf_tool.specs.declared.asked.Command.{Command}
-use Rattle.tlsf_tool.specs.declared.asked.Command.TheVariants.{Report, Follow, Reread, Size, Save, Check}
+use Rattle.tlsf_tool.specs.declared.asked.Command.TheVariants.{Report, Follow, Parts, Reread, Size, Save, Check}
 use Rattle.tlsf_tool.specs.declared.asked.Rereading.TheVariants.{Sites, Timeline, Fit}
 use Rattle.tlsf_tool.specs.declared.asked.Name.{Name}
 use Rattle.tlsf_tool.specs.declared.asked.Name.TheVariants.{Leaks, Peak, Walk}
@@ -86,7 +86,11 @@ abbrev pub timeline_line : App
 timeline_line = with_rule (choice_line (codes "timeline")) (option_rule (codes "points") (codes "100") (parser.Signed (pos 1) (pos 10000)))
 
 abbrev pub fit_line : App
-fit_line = with_rule (with_rule (new_app (codes "fit")) (given_rule (codes "step") (parser.Unsigned unit greatest_size))) (word_rule (codes "LOG"))
+fit_line =
+    with_rule (with_rule (with_rule (new_app (codes "fit"))
+    (given_rule (codes "step") (parser.Unsigned unit greatest_size)))
+    (given_rule (codes "heaps") (parser.Signed (pos 1) (pos 8))))
+    (word_rule (codes "LOG"))
 
 abbrev pub size_line : App
 size_line =
@@ -206,7 +210,10 @@ MatchesAskFor (Some found) (Reread (Sites settings) log) = (found.0 ≡ codes "s
     × HasHeap found.1 (Some settings) × (HasCalls found.1 → ⊥) × (first_of (codes "LOG") found.1 ≡ Some (string_bytes log))
 MatchesAskFor (Some found) (Reread (Timeline heap parts) log) = (found.0 ≡ codes "timeline")
     × HasHeap found.1 heap × HasNumber found.1 (codes "points") 32 parts × (first_of (codes "LOG") found.1 ≡ Some (string_bytes log))
-MatchesAskFor (Some found) (Reread (Fit step) log) = (found.0 ≡ codes "fit") × HasGiven found.1 (codes "step") step × (first_of (codes "LOG") found.1 ≡ Some (string_bytes log))
+MatchesAskFor (Some found) (Reread (Fit step) log) = (found.0 ≡ codes "fit") × HasGiven found.1 (codes "step") step × HasNone found.1 (codes "heaps") 32
+    × (first_of (codes "LOG") found.1 ≡ Some (string_bytes log))
+MatchesAskFor (Some found) (Parts heaps log) = (found.0 ≡ codes "fit") × HasNumber found.1 (codes "heaps") 32 heaps × HasNone found.1 (codes "step") 64
+    × (first_of (codes "LOG") found.1 ≡ Some (string_bytes log))
 MatchesAskFor (Some found) (Size bounds) = (found.0 ≡ codes "size") × HasBounds found.1 bounds
 MatchesAskFor (Some found) (Save settings log image) = (found.0 ≡ codes "save")
     × HasSettings found.1 settings × (first_of (codes "LOG") found.1 ≡ Some (string_bytes log)) × (first_of (codes "IMAGE") found.1 ≡ Some (string_bytes image))

@@ -55,6 +55,13 @@ pub enum Command {
         /// The log's name, `-` for standard input.
         log: String,
     },
+    /// Which heaps by size serve a log.
+    Parts {
+        /// How many there are at most.
+        heaps: u32,
+        /// The log's name, `-` for standard input.
+        log: String,
+    },
     /// What reads its log more than once.
     Reread {
         /// What it is.

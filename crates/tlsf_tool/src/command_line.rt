@@ -88,7 +88,8 @@ const FIT: Help = Help {
     about: "Reports how large a pool the log needs, and how many records: sizes from its peak to twice its peak are tried, and greater ones where none of these serves. LOG is read once for each.",
     examples: "Examples:
   tlsf fit a.log                            how large a pool a.log needs, and how many records
-  tlsf fit --step 4096 a.log                the same, in steps of 4096 bytes",
+  tlsf fit --step 4096 a.log                the same, in steps of 4096 bytes
+  tlsf fit --heaps 4 a.log                  which four heaps serve a.log, each for blocks of one size",
 };
 
 const SIZE: Help = Help {
@@ -173,7 +174,7 @@ fn log_word<'a>(alloc: Global) -> Arg<'a>
     ensures { IsArgOf (word_rule (codes "LOG")) result }
 {
     Arg::new(alloc, "LOG").required(true).help(
-        "File of the log, - for standard input; timeline, fit, and sites on a heap take no pipe",
+        "File of the log, - for standard input; timeline, fit without --heaps, and sites on a heap take no pipe",
     )
 }
 
@@ -290,8 +291,11 @@ fn fit_command<'a>(alloc: Global) -> Result<Command<'a>, AllocError>
 {
     let step =
         "Bytes between two sizes that are tried, a multiple of 16 from 16 to 1073741808; else a 64th of the peak, rounded up";
+    let heaps =
+        "Number of heaps at most, from 1 to 8, each for a range of sizes; with no other option";
     subcommand(alloc, "fit", FIT)
         .arg(option(alloc, "step", "BYTES", bytes(UNIT, GREATEST_SIZE), step))?
+        .arg(option(alloc, "heaps", "K", count(8), heaps))?
         .arg(log_word(alloc))
 }
 

@@ -28,7 +28,7 @@ use crate::check::check_image;
 use crate::files::{FileNumber, are_one, make_file};
 use crate::plan::{Streams, is_standard, planned};
 use crate::run::Run;
-use crate::service::{serve, serve_again, serve_help, serve_ledger, serve_save, serve_size};
+use crate::service::{serve, serve_again, serve_help, serve_ledger, serve_parts, serve_save, serve_size};
 use crate::setting_faults::{BAD_SETTINGS, tell_bad_bounds, tell_bad_heap, tell_bad_reading};
 use mtrace_replay::{Bounds, LedgerReport, RunFault, Settings};
 use std::alloc::Global;
@@ -145,6 +145,21 @@ fn follow<R: Read + Drop>(
     Ok(run.end(status, log.name.as_str(), ""))
 }
 
+/// Tells which heaps by size serve a log that is open.
+fn parts<R: Read + Drop>(run: &Run<'_>, heaps: u32, log: Input<R>) -> Result<u8, ToolFault> {
+    let mut reader = run.reader(log.file);
+    let mut errors = run.errors();
+    let mut writer = run.output()?;
+    let status = serve_parts(
+        run.rt.alloc(),
+        heaps,
+        &mut reader,
+        &mut writer,
+        &mut errors,
+    );
+    Ok(run.end(status, log.name.as_str(), ""))
+}
+
 /// Opens the file of a log, and reads it more than once.
 fn reread(run: &Run<'_>, what: Rereading, log: String) -> Result<u8, ToolFault> {
     let is_standard = is_standard(&log);
@@ -251,6 +266,14 @@ fn follow_log(run: &Run<'_>, report: LedgerReport, log: String) -> Result<u8, To
     follow(run, report, open_path(run, log, false)?)
 }
 
+/// Tells which heaps by size serve a log, which is opened first where it is a file.
+fn parts_log(run: &Run<'_>, heaps: u32, log: String) -> Result<u8, ToolFault> {
+    if is_standard(&log) {
+        return parts(run, heaps, standard_input(run, log)?);
+    }
+    parts(run, heaps, open_path(run, log, false)?)
+}
+
 /// Saves the heap at the end of a log, which is opened first where it is a file.
 fn save_log(
     run: &Run<'_>,
@@ -273,6 +296,7 @@ fn act(run: &Run<'_>, command: Command) -> Result<u8, ToolFault> {
             log,
         } => report_log(run, name, settings, log),
         Command::Follow { report, log } => follow_log(run, report, log),
+        Command::Parts { heaps, log } => parts_log(run, heaps, log),
         Command::Reread { what, log } => reread(run, what, log),
         Command::Save {
             settings,

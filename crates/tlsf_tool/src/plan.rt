@@ -40,9 +40,10 @@ fn is_told(streams: Streams, command: &Command) -> bool
     ensures { result ≡ is_told streams command.now }
 {
     match command {
-        Command::Report { log, .. } | Command::Follow { log, .. } | Command::Save { log, .. } => {
-            streams.shown && !(streams.typed && is_standard(log))
-        }
+        Command::Report { log, .. }
+        | Command::Follow { log, .. }
+        | Command::Parts { log, .. }
+        | Command::Save { log, .. } => streams.shown && !(streams.typed && is_standard(log)),
         Command::Reread { .. } => streams.shown,
         Command::Size { .. } | Command::Check { .. } => false,
     }

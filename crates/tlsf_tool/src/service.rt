@@ -3,6 +3,7 @@
 ghost use Rattle.std.specs.Prelude.{◌≡◌};
 ghost use Rattle.mtrace_replay.specs.Run.{Runs};
 ghost use Rattle.mtrace_replay.specs.RunServed.{RunsServed};
+ghost use Rattle.mtrace_replay.specs.RunParts.{RunsParts};
 ghost use Rattle.mtrace_replay.specs.Size.{RunsSize};
 ghost use Rattle.mtrace_replay.specs.Saving.{RunsAndSaves, PutsAndFlushes};
 ghost use Rattle.tlsf_tool.specs.Statuses.{report_of, EndsAs, Rereads, PutsHelp};
@@ -12,7 +13,7 @@ use crate::statuses::{end_status, fault_status};
 use arrayvec::ArrayString;
 use mtrace_log::{Again, Failed, Sink, Source, put_all};
 use mtrace_replay::{
-    Bounds, LedgerReport, RunFault, Settings, Status, Watch, run_fit, run_leaks, run_ledger,
+    Bounds, LedgerReport, RunFault, Settings, Status, Watch, run_fit, run_fit_heaps, run_leaks, run_ledger,
     run_ledger_timeline, run_peak, run_save, run_sites, run_size, run_timeline, run_walk,
 };
 use std::alloc::Global;
@@ -134,6 +135,22 @@ pub(crate) fn run_again<R: Again, W: Sink, T: Watch>(
         } => run_timeline(alloc, reader, writer, settings, parts),
         Rereading::Fit(step) => run_fit(alloc, reader, writer, step, watch),
     }
+}
+
+/// Tells which heaps by size serve the log that the reader has left, so many at most, by `run_fit_heaps`. Puts the line of a fault
+/// to `errors`, whose own fault doesn't matter. Answers the status that the program ends with. It is 0 where nothing was found, 1
+/// where something was, and 2 for a bad number of heaps. It is 3 where the reader or the writer failed, and 4 where memory was
+/// refused.
+pub fn serve_parts<R: Source, W: Sink, E: Sink>(
+    alloc: Global,
+    heaps: u32,
+    reader: &mut R,
+    writer: &mut W,
+    errors: &mut E,
+) -> u8
+    ensures { EndsAs (λ outcome. RunsParts heaps R.shown W.shown outcome reader.old reader.new writer.old writer.new) result errors.old errors.new }
+{
+    end_run(errors, run_fit_heaps(alloc, reader, writer, heaps))
 }
 
 /// Makes what reads its log more than once, of the log that the reader has left. Puts the line of a fault to `errors`,

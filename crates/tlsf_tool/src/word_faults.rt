@@ -20,7 +20,7 @@ struct NumberOption {
 /// The commands with the options of a heap.
 const OF_A_HEAP: &str = "leaks, peak, walk, sites, timeline and save";
 
-static OPTIONS: [NumberOption; 9] = [
+static OPTIONS: [NumberOption; 10] = [
     NumberOption {
         name: "--pool",
         shown: "--pool <BYTES>",
@@ -50,6 +50,12 @@ static OPTIONS: [NumberOption; 9] = [
         shown: "--step <BYTES>",
         commands: "fit",
         takes: Some(("a multiple of 16 from 16 to 1073741808", "4096")),
+    },
+    NumberOption {
+        name: "--heaps",
+        shown: "--heaps <K>",
+        commands: "fit",
+        takes: Some(("a whole number from 1 to 8", "4")),
     },
     NumberOption {
         name: "--blocks",

@@ -29,6 +29,10 @@ const NO_SETTINGS: &str =
 const NO_CALLS: &str =
     "error: --calls takes no option beside it: --pool, --pools and --records are of a heap\n\nFor more information, try '--help'.\n";
 
+/// The text where the step between sizes stands beside the number of heaps.
+const NO_STEP: &str =
+    "error: --heaps takes no option beside it: --step is of one heap\n\nFor more information, try '--help'.\n";
+
 /// The size of this id, in bytes, that a subcommand's matches have.
 fn size_of(found: &ArgMatches<'_>, id: &str) -> Option<u64>
     ensures { Picks (HasNumber (rows_of (found_of found.now)) id.now 64) result }
@@ -165,10 +169,29 @@ fn asked_timeline(alloc: Global, found: &ArgMatches<'_>) -> Result<Command, Tool
     Ok(Command::Reread { what, log })
 }
 
+/// What the matches ask for that tell how many heaps by size there are at most.
+fn asked_parts(
+    alloc: Global,
+    heaps: u32,
+    found: &ArgMatches<'_>,
+) -> Result<Command, ToolFault>
+    requires heaps { HasNumber (rows_of (found_of found.now)) (codes "heaps") 32 heaps }
+    ensures { MatchesGive (Some (codes "fit", rows_of (found_of found.now))) result }
+{
+    if let Some(_step) = size_of(found, "step") {
+        return Err(ToolFault::usage(alloc, NO_STEP));
+    }
+    let log = word_of(alloc, found, "LOG")?;
+    Ok(Command::Parts { heaps, log })
+}
+
 /// What the matches of the subcommand that tries sizes ask for.
 fn asked_fit(alloc: Global, found: &ArgMatches<'_>) -> Result<Command, ToolFault>
     ensures { MatchesGive (Some (codes "fit", rows_of (found_of found.now))) result }
 {
+    if let Some(heaps) = option_number(found, "heaps") {
+        return asked_parts(alloc, heaps, found);
+    }
     let step = size_of(found, "step");
     let log = word_of(alloc, found, "LOG")?;
     let what = Rereading::Fit(step);

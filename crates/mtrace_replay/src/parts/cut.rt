@@ -168,7 +168,7 @@ fn next_row(
 /// # Errors
 ///
 /// `AllocError` where memory is refused.
-pub(crate) fn least_cut(alloc: Global, spans: &[Span], most: u8) -> Result<Cut, AllocError>
+pub(crate) fn least_cut(alloc: Global, spans: &[Span], most: u32) -> Result<Cut, AllocError>
     requires some { 0 < most }
     requires few { most ≤ 8 }
     requires parts { (part : ℕ → ℕ → Part) × ArePartsIn part spans.now }

@@ -55,7 +55,7 @@ fn tell_parts<W: Sink>(
     alloc: Global,
     writer: &mut W,
     replay: &CountedReplay,
-    heaps: u8,
+    heaps: u32,
     status: Status,
 ) -> Result<Status, RunFault>
     requires some { 0 < heaps }
@@ -99,7 +99,7 @@ pub fn run_fit_heaps<R: Source, W: Sink>(
     alloc: Global,
     reader: &mut R,
     writer: &mut W,
-    heaps: u8,
+    heaps: u32,
 ) -> Result<Status, RunFault>
     ensures { RunsParts heaps R.shown W.shown result reader.old reader.new writer.old writer.new }
 {
