@@ -1,7 +1,7 @@
 -- The definitions of calls on worked rows.
 use Rattle.std.proofs.Common.{◌≡◌, ℕ, List, [], ◌∷◌, ◌++◌, Some, None, Ok, codes, refl}
 use Rattle.std.specs.Fmt.{digits}
-use Rattle.std.specs.declared.cmp.Ordering.TheVariants.{Less, Equal}
+use Rattle.std.specs.declared.cmp.Ordering.TheVariants.{Less}
 use Rattle.mtrace_log.specs.Bytes.{newline}
 use Rattle.mtrace_log.specs.declared.event.Event.TheVariants.{Alloc, Free, Old, New}
 use Rattle.mtrace_replay.specs.Entry.{Entry}

@@ -1,5 +1,5 @@
 -- What one more line adds to the calls.
-use Rattle.std.proofs.Common.{cond, Bool, true, false, not, Option, Some, None, is_some, option_map, Ok, Err, ◌≡◌, ℕ, suc, ◌+◌, List, [], ◌∷◌, length, refl, sym, ap, ◌∙◌, subst, arith, add-zero}
+use Rattle.std.proofs.Common.{Bool, true, false, not, Option, Some, None, is_some, option_map, Ok, Err, ◌≡◌, ℕ, suc, ◌+◌, List, ◌∷◌, length, refl, sym, ap, ◌∙◌, subst, arith}
 use Rattle.std.specs.Prelude.{◌==◌, ◌&&◌, MatchBool, if◌then◌else◌}
 use Rattle.std.proofs.lemmas.List.Sums.{sum_by-cons}
 use Rattle.std.proofs.lemmas.Bool.{false≢true, eq-eqb, ne_eqb, eqb-true}
@@ -7,12 +7,12 @@ use Rattle.mtrace_log.specs.declared.event.Event.TheVariants.{Alloc, Free, New, 
 use Rattle.mtrace_log.specs.declared.event.LineFault.TheVariants as fault
 use Rattle.mtrace_replay.specs.Entry.{Entry}
 use Rattle.mtrace_replay.specs.declared.no_heap.count.Count.{Count}
-use Rattle.mtrace_replay.specs.Sites.{Origin, weigh, blocks_at, bytes_at}
+use Rattle.mtrace_replay.specs.Sites.{weigh}
 use Rattle.mtrace_replay.specs.Texts.{total_size}
 use Rattle.mtrace_replay.specs.Moment.{ReadLine, Given, Plan, plan, move, none_for, doing, allocation, reallocation, renewal, release}
 use Rattle.mtrace_replay.specs.declared.diagnostic.Kind.TheVariants.{AlreadyHeld}
-use Rattle.mtrace_replay.specs.Calls.{Caller, Called, called_at, is_next, CountsMore, CountsReleased}
-use Rattle.mtrace_replay.specs.Callers.{with_call, with_call_of, with_temporary, all_of, AreCounted}
+use Rattle.mtrace_replay.specs.Calls.{Called, CountsMore, CountsReleased}
+use Rattle.mtrace_replay.specs.Callers.{with_call, with_call_of, with_temporary, AreCounted}
 use Rattle.mtrace_replay.specs.Ledger.{held_at}
 use Rattle.mtrace_replay.specs.Served.{unplaced, all_served, found_in, CountsAct}
 use Rattle.mtrace_replay.proofs.RowsBySlot.{weigh-none}

@@ -1,6 +1,6 @@
 -- What one more line does to the spans that are counted.
-use Rattle.std.proofs.Common.{cond, Bool, true, false, Option, Some, None, ◌≡◌, ℕ, suc, ◌+◌, ◌≤◌, List, [], ◌∷◌, length, map, inl, inr, refl, sym, ap, ◌∙◌, subst, arith, nat_eq}
-use Rattle.std.specs.Prelude.{◌==◌, is_some, count_by, nat_lt, if◌then◌else◌}
+use Rattle.std.proofs.Common.{cond, Bool, true, false, Option, Some, None, ◌≡◌, ℕ, suc, ◌+◌, ◌≤◌, List, ◌∷◌, map, refl, sym, ap, ◌∙◌, subst, arith, nat_eq}
+use Rattle.std.specs.Prelude.{is_some, count_by, nat_lt, if◌then◌else◌}
 use Rattle.std.specs.HashMap.{get}
 use Rattle.std.specs.List.{All, list_all}
 use Rattle.std.proofs.lemmas.Bool.{false≢true, lt-ltb, le-ltb}
@@ -10,12 +10,12 @@ use Rattle.mtrace_replay.specs.declared.parts.span.Span.{Span}
 use Rattle.mtrace_replay.specs.declared.parts.spans.Block.{Block}
 use Rattle.mtrace_replay.specs.declared.parts.spans.Spans.{Spans}
 use Rattle.mtrace_replay.specs.Moment.{ReadLine, Given}
-use Rattle.mtrace_replay.specs.History.{held, pending}
+use Rattle.mtrace_replay.specs.History.{pending}
 use Rattle.mtrace_replay.specs.Totals.{is_served}
 use Rattle.mtrace_replay.specs.Asked.{class_asked}
-use Rattle.mtrace_replay.specs.Served.{served_moment, served_moments, Standing, IsServed}
-use Rattle.mtrace_replay.specs.Parts.{range_of, served_classes}
-use Rattle.mtrace_replay.specs.Spans.{released, range_released, unless_released, given_all, given_range, released_by, address_asked, block_asked, AreCounted, AreCountedOf, AreFew}
+use Rattle.mtrace_replay.specs.Served.{served_moments, Standing, IsServed}
+use Rattle.mtrace_replay.specs.Parts.{served_classes}
+use Rattle.mtrace_replay.specs.Spans.{released, range_released, unless_released, given_all, given_range, released_by, block_asked, AreCounted, AreCountedOf}
 use Rattle.mtrace_replay.specs.CountedReplay.{IsChangeOf}
 use Rattle.mtrace_replay.proofs.SpansLemmas.{its, taken, facts, counted_without, counted_with, few_released, few_given}
 

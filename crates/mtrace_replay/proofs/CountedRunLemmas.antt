@@ -1,5 +1,5 @@
 -- A run under way that counts the blocks of a log, and how it goes on and ends.
-use Rattle.std.proofs.Common.{◌≡◌, ℕ, Bool, false, ◌||◌, List, [], ◌∷◌, ◌++◌, refl, sym, ap, ◌∙◌, subst, reverse}
+use Rattle.std.proofs.Common.{◌≡◌, Bool, false, ◌||◌, ◌∷◌, sym, subst, reverse}
 use Rattle.std.specs.Prelude.{if◌then◌else◌}
 use Rattle.mtrace_log.specs.Progress.{Progress, to_come, GivesLine, FindsEnd}
 use Rattle.mtrace_log.specs.Shown.{ReaderState, WriterState}
@@ -11,9 +11,9 @@ use Rattle.mtrace_replay.specs.declared.no_heap.report.LedgerReport.TheVariants 
 use Rattle.mtrace_replay.specs.declared.no_heap.prepared.Prepared.{Prepared}
 use Rattle.mtrace_replay.specs.declared.parts.replay.CountedReplay.{CountedReplay}
 use Rattle.mtrace_replay.specs.Prepared.{IsOf, HasNamed, prepared_text}
-use Rattle.mtrace_replay.specs.Moment.{ReadLine, half}
+use Rattle.mtrace_replay.specs.Moment.{half}
 use Rattle.mtrace_replay.specs.Run.{has_some}
-use Rattle.mtrace_replay.specs.RunServed.{LineServed, HasServed, served_end}
+use Rattle.mtrace_replay.specs.RunServed.{LineServed, served_end}
 use Rattle.mtrace_replay.specs.Spans.{AreCountedOf}
 use Rattle.mtrace_replay.specs.RunParts.{IsStart, HasCounted, EndsCounted}
 use Rattle.mtrace_replay.proofs.ReplayingLemmas.{no_line, reverse-more}

@@ -1,6 +1,6 @@
 -- The order of cuts is total, and a cut with one part more in front is compared as the rest.
-use Rattle.std.proofs.Common.{cond, Bool, true, false, Option, Some, None, ◌≡◌, ℕ, zero, suc, ◌+◌, ◌*◌, ◌^◌, ◌<◌, ◌≤◌, List, [], ◌∷◌, ◌++◌, length, slice_index_or, ◌⊎◌, inl, inr, refl, sym, ap, ◌∙◌, subst, arith, Less, Equal, Greater}
-use Rattle.std.specs.Prelude.{◌==◌, nat_lt, sum_by}
+use Rattle.std.proofs.Common.{cond, Bool, true, false, Option, Some, None, ◌≡◌, ℕ, zero, suc, ◌+◌, ◌^◌, ◌<◌, ◌≤◌, List, [], ◌∷◌, ◌++◌, length, slice_index_or, ◌⊎◌, inl, inr, refl, sym, ap, ◌∙◌, subst, arith, Less, Equal, Greater}
+use Rattle.std.specs.Prelude.{◌==◌, nat_lt}
 use Rattle.std.specs.List.{All, Contains}
 use Rattle.std.specs.Cmp.{IsTotalOrder}
 use Rattle.std.specs.Cmp.Lexicographic.{slice_cmp}
@@ -11,7 +11,7 @@ use Rattle.std.proofs.lemmas.List.Sums.{sum_by-cons}
 use Rattle.std.proofs.lemmas.Bool.{false≢true, eqb-true, eq-eqb, ne_eqb, lt-ltb, le-ltb, ltb-true, ltb-false, cases_lt}
 use Rattle.mtrace_replay.specs.declared.parts.span.Span.{Span}
 use Rattle.mtrace_replay.specs.declared.parts.cut.Cut.{Cut}
-use Rattle.mtrace_replay.specs.Parts.{size_ranges, Part, part_bytes, parts_of, IsCut, cut_bytes, cut_cmp, IsLeastCut}
+use Rattle.mtrace_replay.specs.Parts.{Part, part_bytes, parts_of, IsCut, cut_bytes, cut_cmp}
 use Rattle.mtrace_replay.specs.Spans.{IsPlaced}
 use Rattle.mtrace_replay.proofs.MappedLemmas.{no_span}
 use Rattle.mtrace_replay.specs.Cuts.{part_of, span_bytes, cut_order, NotGreater, IsLesser, IsJoined, IsSmall, ArePartsIn, IsBest, AreBest}

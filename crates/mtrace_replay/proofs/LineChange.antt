@@ -1,15 +1,15 @@
 -- What a line does to what is held where no heap is asked: an address that it releases, and one that it is given.
-use Rattle.std.proofs.Common.{cond, ◌≡◌, ℕ, suc, Bool, true, false, List, [], ◌∷◌, length, ◌⊎◌, Option, Some, None, Ok, Err, inl, inr, refl, sym, ap, ◌∙◌, subst, arith}
+use Rattle.std.proofs.Common.{cond, ◌≡◌, ℕ, Bool, true, false, [], ◌⊎◌, Option, Some, None, Ok, Err, inl, inr, refl, sym, ap, ◌∙◌, subst}
 use Rattle.std.specs.Prelude.{◌==◌, ◌&&◌, not, is_some, if◌then◌else◌}
 use Rattle.std.specs.Option.{IfSome}
-use Rattle.std.proofs.lemmas.Bool.{cases_Bool, false≢true, eq-eqb, eqb-true, cases_eq, ne_eqb}
+use Rattle.std.proofs.lemmas.Bool.{false≢true, eq-eqb, cases_eq, ne_eqb}
 use Rattle.mtrace_log.specs.declared.event.Event.TheVariants.{Start, End, Alloc, Free, Old, New, Failed, Aligned}
 use Rattle.mtrace_log.specs.declared.event.LineFault.TheVariants as fault
 use Rattle.mtrace_replay.specs.Entry.{Entry}
 use Rattle.mtrace_replay.specs.declared.diagnostic.Kind.TheVariants.{AlreadyHeld}
-use Rattle.mtrace_replay.specs.Moment.{ReadLine, Given, Plan, Act, idle, move, one_diagnostic, plan, allocation, release, renewal, reallocation}
-use Rattle.mtrace_replay.specs.History.{held, pending, unless_taken}
-use Rattle.mtrace_replay.specs.Served.{all_served, unplaced}
+use Rattle.mtrace_replay.specs.Moment.{ReadLine, Given, Plan, idle, move, one_diagnostic, plan, allocation, release, reallocation}
+use Rattle.mtrace_replay.specs.History.{unless_taken}
+use Rattle.mtrace_replay.specs.Served.{all_served}
 use Rattle.mtrace_replay.specs.Spans.{released_by, address_asked}
 
 -- what a plan leaves is a release, and then perhaps a block for what the line asks for, at an address that isn't held then

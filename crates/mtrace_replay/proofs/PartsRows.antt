@@ -1,15 +1,15 @@
 -- Worked logs, and the parts that serve them, computed by the definitions.
-use Rattle.std.proofs.Common.{◌≡◌, ℕ, List, [], ◌∷◌, ◌++◌, reverse, Some, None, Ok, refl, codes, true}
+use Rattle.std.proofs.Common.{◌≡◌, ℕ, List, [], ◌∷◌, reverse, Some, None, Ok, refl, codes}
 use Rattle.std.specs.Prelude.{◌==◌, if◌then◌else◌}
 use Rattle.std.proofs.Common.{Less, Greater}
 use Rattle.std.specs.Fmt.{digits}
 use Rattle.mtrace_log.specs.declared.event.Event.TheVariants.{Alloc, Free, Old, New, Aligned}
-use Rattle.tlsf_class.specs.Classes.{class, need, low}
+use Rattle.tlsf_class.specs.Classes.{need, low}
 use Rattle.tlsf_class.specs.Rounding.{rounded}
-use Rattle.mtrace_replay.specs.Moment.{ReadLine, Given}
+use Rattle.mtrace_replay.specs.Moment.{ReadLine}
 use Rattle.mtrace_replay.specs.History.{held}
 use Rattle.mtrace_replay.specs.Served.{served_moments}
-use Rattle.mtrace_replay.specs.Parts.{range_of, class_at, blocks_of, served_classes, largest, Part, parts_of, cut_bytes, cut_cmp, pool_bytes, parts_text, no_parts_text, peak_line_text}
+use Rattle.mtrace_replay.specs.Parts.{range_of, class_at, served_classes, largest, Part, parts_of, cut_bytes, cut_cmp, pool_bytes, parts_text, no_parts_text, peak_line_text}
 
 -- the ranges end at powers of two
 pub ranges-rows : (range_of 16 ≡ 0) × (range_of 32 ≡ 1) × (range_of 48 ≡ 2) × (range_of 64 ≡ 2) × (range_of 80 ≡ 3) × (range_of 1008 ≡ 6) × (range_of 335872 ≡ 15) × (range_of 1056964608 ≡ 26)

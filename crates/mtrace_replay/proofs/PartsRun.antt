@@ -1,8 +1,8 @@
 -- The text that a run puts tells the parts of its log.
-use Rattle.std.proofs.Common.{cond, Bool, true, false, Option, Some, None, Ok, Err, ◌≡◌, ℕ, zero, suc, ◌<◌, ◌≤◌, rules, List, [], ◌∷◌, ◌++◌, length, map, slice_index_or, reverse, refl, sym, ap, ◌∙◌, subst, arith}
+use Rattle.std.proofs.Common.{cond, Bool, true, false, Option, Ok, Err, ◌≡◌, ℕ, zero, suc, ◌<◌, ◌≤◌, rules, List, [], ◌∷◌, ◌++◌, length, slice_index_or, reverse, refl, sym, ap, ◌∙◌, subst, arith}
 use Rattle.std.specs.Prelude.{◌==◌, ◌&&◌, is_some, if◌then◌else◌, Result, IfOk, IfErr}
-use Rattle.std.specs.List.{All, Contains, list_all}
-use Rattle.std.proofs.lemmas.Bool.{false≢true, eqb-true, eq-eqb, ne_eqb, cases_eq, cases_Bool}
+use Rattle.std.specs.List.{Contains, list_all}
+use Rattle.std.proofs.lemmas.Bool.{false≢true, eqb-true, eq-eqb, ne_eqb}
 use Rattle.std.proofs.lemmas.List.{get_or_default}
 use Rattle.mtrace_log.specs.Shown.{WriterState}
 use Rattle.mtrace_replay.specs.declared.parts.span.Span.{Span}
@@ -10,11 +10,11 @@ use Rattle.mtrace_replay.specs.declared.status.Status.{Status}
 use Rattle.mtrace_replay.specs.declared.status.RunFault.{RunFault}
 use Rattle.mtrace_replay.specs.declared.status.RunFault.TheVariants.{Write}
 use Rattle.mtrace_replay.specs.Moment.{ReadLine, Moment}
-use Rattle.mtrace_replay.specs.Totals.{IsMost, Measures}
+use Rattle.mtrace_replay.specs.Totals.{IsMost}
 use Rattle.mtrace_replay.specs.Asked.{class_asked}
 use Rattle.mtrace_replay.specs.Saving.{PutsAndFlushes}
 use Rattle.mtrace_replay.specs.Served.{served_moments, IsServed, Standing, totals_of}
-use Rattle.mtrace_replay.specs.Parts.{size_ranges, class_at, blocks_of, served_classes, largest, Part, IsPart, AreParts, IsLeastCut, parts_of, parts_text, no_parts_text, peak_line_text, TellsCut, TellsHeaps, TellsParts}
+use Rattle.mtrace_replay.specs.Parts.{class_at, blocks_of, served_classes, largest, Part, IsPart, AreParts, IsLeastCut, parts_of, parts_text, peak_line_text, TellsHeaps, TellsParts}
 use Rattle.mtrace_replay.specs.Spans.{Agrees, IsSpan, AreCounted}
 use Rattle.mtrace_replay.specs.Cuts.{part_of, ArePartsIn}
 use Rattle.mtrace_replay.specs.RunParts.{is_bad_heaps, PartsFollow}

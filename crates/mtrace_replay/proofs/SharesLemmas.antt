@@ -1,5 +1,5 @@
 -- What locations hold by their slots, against what is kept.
-use Rattle.std.proofs.Common.{cond, Bool, true, false, Option, Some, None, is_some, ◌≡◌, ℕ, suc, ◌+◌, ◌-◌, ◌<◌, ◌≤◌, List, [], ◌∷◌, length, slice_index_or, sum_by, inl, inr, refl, sym, ap, ◌∙◌, arith}
+use Rattle.std.proofs.Common.{cond, Bool, true, false, Option, Some, None, is_some, ◌≡◌, ℕ, suc, ◌+◌, ◌<◌, ◌≤◌, List, [], ◌∷◌, length, slice_index_or, sum_by, inl, inr, refl, sym, ap, ◌∙◌, arith}
 use Rattle.std.specs.Prelude.{◌==◌, slice_get, option_map, if◌then◌else◌}
 use Rattle.std.specs.Option.{IsSome, unwrap_or}
 use Rattle.std.specs.List.{All}
@@ -14,7 +14,7 @@ use Rattle.mtrace_replay.specs.declared.no_heap.ledger.Kept.{Kept}
 use Rattle.mtrace_replay.specs.declared.amount.Amount.{Amount}
 use Rattle.mtrace_replay.specs.declared.no_heap.shares.Share.{Share}
 use Rattle.mtrace_replay.specs.Locations.{Extends, HasLocation}
-use Rattle.mtrace_replay.specs.Shares.{ByLocation, no_share, nothing, amount_more, amount_less, now_at, marked_at, count_at, Changes, KeepsCounts, KeepsShares, Marks}
+use Rattle.mtrace_replay.specs.Shares.{ByLocation, no_share, nothing, amount_more, amount_less, now_at, marked_at, Changes, KeepsCounts, KeepsShares, Marks}
 use Rattle.mtrace_replay.specs.declared.no_heap.count.Count.{Count}
 use Rattle.mtrace_replay.specs.Ledger.{slot_of, in_slot, AreShared, AreCalled}
 

@@ -1,5 +1,5 @@
 -- Lists in which no origin has two: each has all that is at its origin, and in their order they rise strictly.
-use Rattle.std.proofs.Common.{◌≡◌, ℕ, ◌+◌, ◌<◌, ◌≤◌, Bool, true, false, cond, List, [], ◌∷◌, length, get_or, refl, sym, ◌∙◌, subst, arith, zero, suc}
+use Rattle.std.proofs.Common.{◌≡◌, ℕ, ◌+◌, ◌<◌, ◌≤◌, Bool, true, false, cond, List, [], ◌∷◌, get_or, refl, ◌∙◌, subst, arith, zero, suc}
 use Rattle.std.specs.List.{AllByRecursion, sum_by, All, Any}
 use Rattle.std.specs.List.Sorted.{IsSorted, IsStrictlySortedBy}
 use Rattle.std.specs.Ordering.{is_eq, is_lt, ordering_reverse}

@@ -1,5 +1,4 @@
 use Rattle.std.proofs.Common.{rules, subst, ◌∙◌}
-use Rattle.mtrace_log.specs.declared.failed.Failed.{Failed as Failure}
 use Rattle.mtrace_log.specs.Output.{Wrote}
 use Rattle.mtrace_replay.specs.declared.report.Report.{Report}
 use Rattle.mtrace_replay.specs.Run.{end_text}

@@ -1,9 +1,6 @@
 -- The site of one location more.
-use Rattle.std.proofs.Common.{◌≡◌, ℕ, suc, ◌-◌, ◌<◌, List, [], length, map, drop, reverse, Some, sym, ap, ◌∙◌, subst, arith, drop-cons}
-use Rattle.std.specs.Prelude.{slice_get}
+use Rattle.std.proofs.Common.{◌-◌, reverse, ap, ◌∙◌, arith}
 use Rattle.std.specs.Option.{option_copied}
-use Rattle.std.proofs.lemmas.Option.{slice_get-get_or}
-use Rattle.mtrace_replay.specs.Sites.{Origin}
 use Rattle.mtrace_replay.specs.declared.amount.Amount.{Amount}
 use Rattle.mtrace_replay.specs.Shares.{amount_at, has_no_block, site_at, with_site}
 use Rattle.mtrace_replay.proofs.RowsBySlot.{one_before}

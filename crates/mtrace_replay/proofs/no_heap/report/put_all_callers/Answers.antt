@@ -1,5 +1,5 @@
 -- What is held by its sites, and then who asked.
-use Rattle.std.proofs.Common.{List, ℕ, ap, subst, ◌∙◌, ◌++◌}
+use Rattle.std.proofs.Common.{ap, subst, ◌∙◌, ◌++◌}
 use Rattle.mtrace_log.specs.Output.{Puts}
 use Rattle.mtrace_log.proofs.Writing.{puts_then, fails_early, puts_exit}
 use Rattle.mtrace_replay.specs.declared.no_heap.count.Count.{Count}

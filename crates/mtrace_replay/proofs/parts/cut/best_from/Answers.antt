@@ -1,7 +1,5 @@
-use Rattle.std.proofs.Common.{◌≡◌, ℕ, suc, ◌+◌, ◌<◌, ◌≤◌, length, Some, None, slice_index_or, refl, sym, ap, ◌∙◌, subst, arith}
-use Rattle.std.specs.List.{All}
+use Rattle.std.proofs.Common.{◌≡◌, suc, ◌+◌, ◌<◌, ◌≤◌, length, None, slice_index_or, sym, ap, ◌∙◌, subst, arith}
 use Rattle.mtrace_replay.specs.declared.parts.span.Span.{Span}
-use Rattle.mtrace_replay.specs.declared.parts.cut.Cut.{Cut}
 use Rattle.mtrace_replay.specs.Cuts.{IsSmall, IsBest}
 use Rattle.std.proofs.lemmas.Bool.{ltb-true}
 use Rattle.std.proofs.lemmas.List.{get_or_default}

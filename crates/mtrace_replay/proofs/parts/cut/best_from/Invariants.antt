@@ -1,4 +1,4 @@
-use Rattle.std.proofs.Common.{◌≡◌, ℕ, suc}
+use Rattle.std.proofs.Common.{ℕ, suc}
 use Rattle.std.specs.List.{All}
 use Rattle.mtrace_replay.specs.Parts.{Part}
 use Rattle.mtrace_replay.specs.Cuts.{IsSmall, ArePartsIn, AreBest}

@@ -1,4 +1,4 @@
-use Rattle.std.proofs.Common.{◌≡◌, [], length, ◌≤◌, ◌*◌, sym, subst, arith}
+use Rattle.std.proofs.Common.{length, ◌≤◌, sym, subst, arith}
 use Rattle.mtrace_replay.proofs.CutLemmas.{empty_best, empty_none}
 use Rattle.mtrace_replay.proofs.parts.cut.empty_from.Goals as goal
 

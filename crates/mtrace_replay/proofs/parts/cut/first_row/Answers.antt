@@ -1,4 +1,4 @@
-use Rattle.std.proofs.Common.{◌≡◌, ℕ, ◌<◌, ◌≤◌, ◌++◌, ◌∷◌, [], List, length, slice_index_or, Option, sym, subst, arith}
+use Rattle.std.proofs.Common.{ℕ, ◌<◌, List, length, slice_index_or, Option, sym, subst, arith}
 use Rattle.std.specs.List.{All}
 use Rattle.std.proofs.lemmas.List.Elements.{All-push}
 use Rattle.mtrace_replay.specs.declared.parts.cut.Cut.{Cut}

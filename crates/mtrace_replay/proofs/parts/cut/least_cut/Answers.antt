@@ -1,6 +1,5 @@
-use Rattle.std.proofs.Common.{◌≡◌, ℕ, suc, ◌<◌, ◌≤◌, ◌+◌, ◌*◌, length, slice_index_or, List, Option, Some, None, sym, subst, ap, ◌∙◌, arith}
+use Rattle.std.proofs.Common.{◌≡◌, suc, ◌≤◌, ◌+◌, Some, None, sym, subst, arith}
 use Rattle.std.specs.List.{All}
-use Rattle.mtrace_replay.specs.declared.parts.cut.Cut.{Cut}
 use Rattle.mtrace_replay.specs.Cuts.{IsSmall, IsBest, AreBest}
 use Rattle.mtrace_replay.proofs.CutLemmas.{some_cut, smaller}
 use Rattle.mtrace_replay.proofs.parts.cut.least_cut.Goals as goal

@@ -1,4 +1,4 @@
-use Rattle.std.proofs.Common.{◌≡◌, ℕ, suc, ◌<◌, length, slice_index_or, Option}
+use Rattle.std.proofs.Common.{◌≡◌, ℕ, suc, length}
 use Rattle.std.specs.List.{All}
 use Rattle.mtrace_replay.specs.Parts.{size_ranges, Part}
 use Rattle.mtrace_replay.specs.Cuts.{IsSmall, ArePartsIn, AreBest}

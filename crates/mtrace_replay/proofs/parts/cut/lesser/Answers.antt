@@ -1,4 +1,4 @@
-use Rattle.std.proofs.Common.{◌≡◌, Some, None, sym, ap, ◌∙◌, subst}
+use Rattle.std.proofs.Common.{Some, sym, ap, ◌∙◌, subst}
 use Rattle.std.specs.Ordering.{is_gt}
 use Rattle.mtrace_replay.specs.Cuts.{IsLesser}
 use Rattle.mtrace_replay.proofs.CutLemmas.{lesser_of_none, lesser_alone, lesser_first, lesser_second}

@@ -1,4 +1,3 @@
-use Rattle.std.proofs.Common.{◌∙◌}
 use Rattle.mtrace_log.specs.declared.call.Call.TheVariants.{Took, Flushed}
 use Rattle.mtrace_log.proofs.TraceLemmas.{moved_then_append, failed_after}
 use Rattle.mtrace_replay.specs.declared.no_heap.report.LedgerReport.TheVariants.{Nothing}

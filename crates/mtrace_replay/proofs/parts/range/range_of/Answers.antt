@@ -1,4 +1,4 @@
-use Rattle.std.proofs.Common.{arith, ap, sym, ◌∙◌}
+use Rattle.std.proofs.Common.{arith}
 use Rattle.std.proofs.lemmas.Bool.{le-leb}
 use Rattle.mtrace_replay.proofs.RangeLemmas.{range_is}
 use Rattle.mtrace_replay.proofs.parts.range.range_of.Goals as goal

@@ -1,4 +1,4 @@
-use Rattle.std.proofs.Common.{◌≡◌, ◌-◌, ◌*◌, ◌^◌, ◌<◌, ◌≤◌, ℕ, false}
+use Rattle.std.proofs.Common.{◌≡◌, ◌-◌, ◌^◌, ◌<◌, ◌≤◌, ℕ, false}
 use Rattle.std.specs.Prelude.{nat_le}
 use Rattle.mtrace_replay.specs.Parts.{range_end}
 use Rattle.mtrace_replay.proofs.parts.range.range_of.Given as goal

@@ -1,4 +1,4 @@
-use Rattle.std.proofs.Common.{◌≡◌, ◌∷◌, None, sym, ap, ◌∙◌, refl, subst, nat_eq}
+use Rattle.std.proofs.Common.{◌∷◌, None, sym, subst, nat_eq}
 use Rattle.std.specs.Prelude.{Some, if◌then◌else◌}
 use Rattle.std.specs.HashMap.{get}
 use Rattle.mtrace_replay.specs.Spans.{AreCountedOf, range_released}

@@ -1,4 +1,4 @@
-use Rattle.std.proofs.Common.{◌≡◌, inl, inr, refl, ap, ◌∙◌, arith, false, true}
+use Rattle.std.proofs.Common.{inr, refl, arith}
 use Rattle.std.specs.Prelude.{Ok, Err}
 use Rattle.mtrace_replay.proofs.PartsRun.{not_bad_heaps}
 use Rattle.mtrace_replay.proofs.parts.run.run_fit_heaps.Goals as goal

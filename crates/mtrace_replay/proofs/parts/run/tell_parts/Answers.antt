@@ -1,12 +1,8 @@
-use Rattle.std.proofs.Common.{◌≡◌, ℕ, List, ◌++◌, Some, None, refl, reverse, map, sym, ap, ◌∙◌, subst, nat_eq}
-use Rattle.std.specs.Prelude.{is_some}
-use Rattle.std.specs.List.{list_all}
+use Rattle.std.proofs.Common.{◌≡◌, ◌++◌, refl, reverse, map, sym, ap, ◌∙◌, subst, nat_eq}
 use Rattle.std.specs.HashMap.{get}
 use Rattle.mtrace_log.specs.Output.{Puts}
 use Rattle.mtrace_replay.specs.declared.no_heap.replay.LedgerTotals.{LedgerTotals}
-use Rattle.mtrace_replay.specs.declared.parts.span.Span.{Span}
-use Rattle.mtrace_replay.specs.Moment.{ReadLine}
-use Rattle.mtrace_replay.specs.Parts.{served_classes, TellsHeaps, no_parts_text, parts_text, peak_line_text, IsCut, parts_of}
+use Rattle.mtrace_replay.specs.Parts.{TellsHeaps, no_parts_text, parts_text, peak_line_text, IsCut, parts_of}
 use Rattle.mtrace_replay.specs.Spans.{AreCounted, AreCountedOf}
 use Rattle.mtrace_replay.specs.Cuts.{ArePartsIn}
 use Rattle.mtrace_replay.specs.PartsText.{part_in}

@@ -1,4 +1,4 @@
-use Rattle.std.proofs.Common.{Some, ◌≡◌, ℕ, suc, ◌+◌, get_or, length, arith, ap, ◌∙◌}
+use Rattle.std.proofs.Common.{Some, ◌≡◌, suc, ◌+◌, get_or, length, arith, ap, ◌∙◌}
 use Rattle.std.specs.Prelude.{slice_set}
 use Rattle.mtrace_replay.specs.Spans.{released}
 use Rattle.mtrace_replay.proofs.MappedLemmas.{no_span, mapped, mapped_all, mapped_next, mapped_more}

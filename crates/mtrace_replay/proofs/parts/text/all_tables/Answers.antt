@@ -1,4 +1,4 @@
-use Rattle.std.proofs.Common.{◌≡◌, ◌<◌, ◌≤◌, ◌-◌, length, sym, ◌∙◌, arith}
+use Rattle.std.proofs.Common.{◌<◌, ◌-◌, length, sym, ◌∙◌, arith}
 use Rattle.mtrace_replay.specs.Parts.{records_bytes}
 use Rattle.mtrace_replay.proofs.PartsTextLemmas.{none_there, no_part}
 use Rattle.mtrace_replay.proofs.parts.text.all_tables.Goals as goal

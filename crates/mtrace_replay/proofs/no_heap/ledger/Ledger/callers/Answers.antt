@@ -1,10 +1,10 @@
 -- The callers by slot, sorted, are those of the calls.
-use Rattle.std.proofs.Common.{◌≡◌, ℕ, List, reverse, refl, sym, subst, ap}
+use Rattle.std.proofs.Common.{List, reverse, refl, sym, subst, ap}
 use Rattle.std.specs.List.Sorted.{IsPermutation}
 use Rattle.std.proofs.lemmas.List.Sorted.{IsPermutation-reverse, IsPermutation-sym, IsPermutation-trans}
-use Rattle.mtrace_replay.specs.Calls.{Caller, Called, has_no_call, caller_of}
+use Rattle.mtrace_replay.specs.Calls.{Caller, has_no_call, caller_of}
 use Rattle.mtrace_replay.specs.Callers.{AreCounted}
-use Rattle.mtrace_replay.specs.Shares.{count_at, origins, callers_of}
+use Rattle.mtrace_replay.specs.Shares.{count_at}
 use Rattle.mtrace_replay.specs.Ledger.{LedgerState}
 use Rattle.mtrace_replay.proofs.CallersBySlot.{called_of, callers_of-some}
 use Rattle.mtrace_replay.proofs.RowsBySlot.{one_row}

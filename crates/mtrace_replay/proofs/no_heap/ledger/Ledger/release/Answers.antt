@@ -1,5 +1,5 @@
 -- The map loses the address, and so do the entries and the share of its location. Its call may be temporary.
-use Rattle.std.proofs.Common.{◌≡◌, ◌+◌, ◌<◌, nat_eq, ◌∙◌, sym, ap, subst, length, is_some, option_map, None, Some, arith}
+use Rattle.std.proofs.Common.{◌≡◌, ◌+◌, ◌<◌, nat_eq, ◌∙◌, sym, ap, subst, length, is_some, option_map, None, arith}
 use Rattle.std.specs.Prelude.{MatchBool}
 use Rattle.std.specs.Map.{values_of}
 use Rattle.mtrace_replay.specs.Locations.{location_of}

@@ -1,4 +1,4 @@
-use Rattle.std.proofs.Common.{◌≡◌, ◌∷◌, suc, None, Some, sym, ap, ◌∙◌, refl, subst}
+use Rattle.std.proofs.Common.{◌∷◌, suc, None, Some, sym, ◌∙◌, subst}
 use Rattle.std.specs.Prelude.{if◌then◌else◌}
 use Rattle.mtrace_replay.specs.declared.parts.replay.CountedReplay.{CountedReplay}
 use Rattle.mtrace_replay.specs.Spans.{AreCountedOf, AreFew}

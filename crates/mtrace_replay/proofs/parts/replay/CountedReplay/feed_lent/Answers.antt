@@ -1,6 +1,5 @@
-use Rattle.std.proofs.Common.{◌≡◌, ◌∷◌, ℕ, suc, List, true, false, sym, ap, ◌∙◌, refl, subst, arith}
+use Rattle.std.proofs.Common.{◌≡◌, ◌∷◌, suc, true, false, sym, ap, ◌∙◌, subst, arith}
 use Rattle.std.specs.Prelude.{Result, Ok, Err, OnOk, nat_lt}
-use Rattle.mtrace_replay.specs.Moment.{ReadLine}
 use Rattle.mtrace_replay.specs.Served.{Standing, IsServed}
 use Rattle.mtrace_replay.specs.Spans.{AreFew, released_by}
 use Rattle.mtrace_replay.specs.declared.no_heap.replay.LedgerTotals.{LedgerTotals}

@@ -1,4 +1,4 @@
-use Rattle.std.proofs.Common.{◌≡◌, ◌+◌, ◌<◌, ◌≤◌, nat_eq, sym, subst, arith}
+use Rattle.std.proofs.Common.{◌≤◌, nat_eq, sym, subst, arith}
 use Rattle.std.specs.List.{All}
 use Rattle.std.specs.HashMap.{get}
 use Rattle.mtrace_replay.specs.declared.parts.span.Span.{Span}

@@ -1,7 +1,7 @@
-use Rattle.std.proofs.Common.{nat_eq, ◌≡◌, List, [], ◌∷◌, map, None, Some, refl, sym, ap, ◌∙◌}
+use Rattle.std.proofs.Common.{nat_eq, ◌≡◌, List, [], ◌∷◌, map, None, refl, sym, ap, ◌∙◌}
 use Rattle.std.specs.HashMap.{get}
 use Rattle.mtrace_replay.specs.declared.parts.span.Span.{Span}
-use Rattle.mtrace_replay.specs.Spans.{released, range_released, unless_released}
+use Rattle.mtrace_replay.specs.Spans.{released, range_released}
 use Rattle.mtrace_replay.proofs.parts.spans.Spans.release.Goals as goal
 
 unchanged : (spans : List Span) → spans ≡ map (released None) spans
