@@ -28,7 +28,9 @@ use crate::check::check_image;
 use crate::files::{FileNumber, are_one, make_file};
 use crate::plan::{Streams, is_standard, planned};
 use crate::run::Run;
-use crate::service::{serve, serve_again, serve_help, serve_ledger, serve_parts, serve_save, serve_size};
+use crate::service::{
+    serve, serve_again, serve_help, serve_ledger, serve_parts, serve_save, serve_size,
+};
 use crate::setting_faults::{BAD_SETTINGS, tell_bad_bounds, tell_bad_heap, tell_bad_reading};
 use mtrace_replay::{Bounds, LedgerReport, RunFault, Settings};
 use std::alloc::Global;
@@ -150,13 +152,7 @@ fn parts<R: Read + Drop>(run: &Run<'_>, heaps: u32, log: Input<R>) -> Result<u8,
     let mut reader = run.reader(log.file);
     let mut errors = run.errors();
     let mut writer = run.output()?;
-    let status = serve_parts(
-        run.rt.alloc(),
-        heaps,
-        &mut reader,
-        &mut writer,
-        &mut errors,
-    );
+    let status = serve_parts(run.rt.alloc(), heaps, &mut reader, &mut writer, &mut errors);
     Ok(run.end(status, log.name.as_str(), ""))
 }
 

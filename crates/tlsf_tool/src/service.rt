@@ -13,8 +13,9 @@ use crate::statuses::{end_status, fault_status};
 use arrayvec::ArrayString;
 use mtrace_log::{Again, Failed, Sink, Source, put_all};
 use mtrace_replay::{
-    Bounds, LedgerReport, RunFault, Settings, Status, Watch, run_fit, run_fit_heaps, run_leaks, run_ledger,
-    run_ledger_timeline, run_peak, run_save, run_sites, run_size, run_timeline, run_walk,
+    Bounds, LedgerReport, RunFault, Settings, Status, Watch, run_fit, run_fit_heaps, run_leaks,
+    run_ledger, run_ledger_timeline, run_peak, run_save, run_sites, run_size, run_timeline,
+    run_walk,
 };
 use std::alloc::Global;
 use std::fmt::Write;

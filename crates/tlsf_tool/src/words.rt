@@ -170,11 +170,7 @@ fn asked_timeline(alloc: Global, found: &ArgMatches<'_>) -> Result<Command, Tool
 }
 
 /// What the matches ask for that tell how many heaps by size there are at most.
-fn asked_parts(
-    alloc: Global,
-    heaps: u32,
-    found: &ArgMatches<'_>,
-) -> Result<Command, ToolFault>
+fn asked_parts(alloc: Global, heaps: u32, found: &ArgMatches<'_>) -> Result<Command, ToolFault>
     requires heaps { HasNumber (rows_of (found_of found.now)) (codes "heaps") 32 heaps }
     ensures { MatchesGive (Some (codes "fit", rows_of (found_of found.now))) result }
 {
