@@ -11,10 +11,10 @@ from stacks import path_of
 
 # Libraries whose frames are of the standard library, whatever they are called.
 STANDARD_MODULE = re.compile(r"(?:libc|libm|libdl|librt|libpthread|libstdc\+\+|libc\+\+|libc\+\+abi|libgcc_s|ld|ld-linux[-\w]*)[-.\d]*\.so")
-STANDARD_FILE = re.compile(r"/usr/(?:lib/llvm[^/]*/)?include/c\+\+/|/rustc/|.*/rustlib/src/rust/library/|library/(?:alloc|core|std)/src/")
+STANDARD_FILE = re.compile(r"/usr/(?:lib/llvm[^/]*/)?include/c\+\+/|/rustc/|/rust/deps/|.*/rustlib/src/rust/library/|library/(?:alloc|core|std)/src/")
 STANDARD_NAME = re.compile(r"(?:std|core|alloc|hashbrown|__gnu_cxx|__cxxabiv1)::|operator (?:new|delete)\b|__rust_|__rdl_|__rustc|"
-                           r"<[^ :]* as (?:std|core|alloc)::|<[&*\[]*(?:mut )?(?:std|core|alloc)::")
-CLONE = re.compile(r" \[clone [^\]]*\]|\[abi:\w+\]|::h[0-9a-f]{16}$|(?:\.(?:constprop|isra|part|cold|llvm|lto_priv|localalias)(?:\.\d+)*)+$")
+                           r"<[^ :]* as (?:std|core|alloc)::|<[&*\[]*(?:mut )?(?:std|core|alloc|hashbrown)::")
+CLONE = re.compile(r" \[clone [^\]]*\]|\[abi:\w+\]|::h[0-9a-f]{16}$|(?<=\w)\[[0-9a-f]{16}\]|(?:\.(?:constprop|isra|part|cold|llvm|lto_priv|localalias)(?:\.\d+)*)+$")
 OPERATOR = re.compile(r"operator *(?:<=>|<<=|>>=|->\*|<<|>>|<=|>=|->|\(\)|<|>)")
 LINE = re.compile(r"(.*):(\d+|\?)(?: \(discriminator \d+\))?", re.S)
 
@@ -76,9 +76,9 @@ class Call:
 
     @property
     def is_standard(self):
-        """Whether it is of the standard library."""
-        return bool(STANDARD_MODULE.match(os.path.basename(self.module)) or STANDARD_FILE.match(self.file)
-                    or STANDARD_NAME.match(self.function))
+        """Whether it is of the standard library: by its module, its file, or its name where no file is known."""
+        return bool(STANDARD_MODULE.match(os.path.basename(self.module))
+                    or (STANDARD_FILE.match(self.file) if self.file else STANDARD_NAME.match(self.function)))
 
     def told(self, paths=False):
         """`grow shop.cc:14`, `strdup+0x1a libc.so.6`, or `libz.so.1:[0x7f]`."""
@@ -145,12 +145,13 @@ def symbols_of(path, addresses):
 
 
 class Module:
-    """A program or library of a log: the calls of its frames."""
+    """A program or library of a log: the calls of its frames, whether it can be read, and whether a line is known of one."""
 
     def __init__(self, name, offsets):
         # A name may stand as it is, or with its odd bytes told.
         self.path = name if os.path.isfile(name) else path_of(name).decode("utf-8", "surrogateescape")
         base = base_of(self.path) if os.path.isfile(self.path) else None
+        self.is_object = base is not None
         addresses = {} if base is None else {offset: base + offset - 1 for offset in offsets}
         lines = lines_of(self.path, addresses.values()) if addresses else {}
         self.has_lines = bool(lines)
@@ -160,6 +161,11 @@ class Module:
         for offset in offsets:
             address = addresses.get(offset)
             self.calls[offset] = [Call(*call, self.path, 0) for call in lines.get(address, [])] or [self.by_symbol(offset, address, symbols)]
+
+    @property
+    def lacks_lines(self):
+        """Whether it is one of the program's, and has no debug information."""
+        return self.is_object and not self.has_lines and not STANDARD_MODULE.match(os.path.basename(self.path))
 
     def by_symbol(self, offset, address, symbols):
         """The call at an address that has no line."""
