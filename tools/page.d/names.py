@@ -165,7 +165,8 @@ class Module:
     @property
     def lacks_lines(self):
         """Whether it is one of the program's, and has no debug information."""
-        return self.is_object and not self.has_lines and not STANDARD_MODULE.match(os.path.basename(self.path))
+        return (self.is_object and not self.has_lines and not STANDARD_MODULE.match(os.path.basename(self.path))
+                and ".debug_line" not in output_of(["readelf", "-SW", "--", self.path]))
 
     def by_symbol(self, offset, address, symbols):
         """The call at an address that has no line."""
