@@ -56,7 +56,7 @@ def without_result(name):
 
 def short_name(name):
     """A demangled name as it is told: `std::vector::push_back`, and not its arguments."""
-    name = CLONE.sub("", name).replace("(anonymous namespace)", "{anonymous}").replace("std::__cxx11::basic_string", "std::string")
+    name = CLONE.sub("", name.removeprefix("__GI_")).replace("(anonymous namespace)", "{anonymous}").replace("std::__cxx11::basic_string", "std::string")
     name = name.replace("std::__cxx11::", "std::").replace("::<", "<")
     if name.startswith("<"):
         end = end_of_type(name)
@@ -120,6 +120,11 @@ def lines_of(path, addresses):
     return found
 
 
+def demangled(names):
+    """Each name as its language has it."""
+    return dict(zip(names, output_of(["c++filt"], "".join(name + "\n" for name in names)).splitlines()))
+
+
 def symbols_in(path):
     """The code of a file by its symbols: start, size and name of each, in order."""
     symbols = set()
@@ -139,9 +144,8 @@ def symbols_of(path, addresses):
         at = bisect_right(starts, address) - 1
         if at >= 0 and address - starts[at] < symbols[at][1]:
             found[address] = symbols[at][2], starts[at]
-    mangled = sorted({name for name, _ in found.values()})
-    demangled = dict(zip(mangled, output_of(["c++filt"], "".join(name + "\n" for name in mangled)).splitlines()))
-    return {address: (short_name(demangled.get(name, name)), start) for address, (name, start) in found.items()}
+    plain = demangled(sorted({name for name, _ in found.values()}))
+    return {address: (short_name(plain.get(name, name)), start) for address, (name, start) in found.items()}
 
 
 class Module:

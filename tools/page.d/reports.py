@@ -202,7 +202,7 @@ def told_lines(tool, locations):
     locations = list(locations)
     report = b"".join(b"0x10 1 line 1 at " + location + b"\n" for location in locations)
     try:
-        run = subprocess.run([str(tool)], input=report, stdout=subprocess.PIPE, stderr=subprocess.DEVNULL, check=False)
+        run = subprocess.run([str(tool), "--all-sites"], input=report, stdout=subprocess.PIPE, stderr=subprocess.DEVNULL, check=False)
     except OSError:
         return locations
     lines = split_lines(run.stdout)
