@@ -1,4 +1,5 @@
 """The stacks of a log: frames of a location, and the stacks that a log tells once, as docs/FORMATS.md has them."""
+import gc
 import re
 from collections import namedtuple
 from urllib.parse import unquote_to_bytes
@@ -42,34 +43,44 @@ def whole_parts(parts):
 
 
 class Stacks:
-    """The stacks that a log tells, each as a linked list from its nearest frame on: a frame, and the list of those that called it."""
+    """The stacks that a log tells, or those of them that are wanted, each as a linked list from its nearest frame on: a frame, and the list
+    of those that called it."""
 
-    def __init__(self, log):
-        self.modules, self.lists = {}, {}
+    def __init__(self, log, wanted=None):
+        self.modules, self.lists, self.known = {}, {}, {}
         # The lists that the stack before ends in, by the number of their frames.
         self.ends = [None]
         for letter, number, text in whole_parts(parts_of(log)):
             if letter == "m":
                 self.modules[str(number)] = text
-            else:
-                self.lists[f"s{number}"] = self.take(text)
+                continue
+            stack, location = self.take(text), f"s{number}"
+            if wanted is None or location in wanted:
+                self.lists[location] = stack
 
     def take(self, text):
         """The list of a stack's text. Frames from the first on that isn't whole are left out."""
         own, ends, module = [], self.ends[:1], "?"
         for part in text.split("<"):
-            if shared := SHARED.fullmatch(part):
-                ends = self.ends[:int(shared[1]) + 1]
+            frame = self.known.get((module, part)) or self.frame(module, part)
+            if frame is None:
+                shared = SHARED.fullmatch(part)
+                ends = self.ends[:int(shared[1]) + 1] if shared else ends
                 break
-            found = TOLD_FRAME.fullmatch(part)
-            if not found:
-                break
-            module = self.modules.get(found[1], "?") if found[1] else module
-            own.append(Frame(module, int(found[2], 16)))
+            module = frame.module
+            own.append(frame)
         for frame in reversed(own):
             ends.append((frame, ends[-1]))
         self.ends = ends
         return ends[-1]
+
+    def frame(self, module, part):
+        """The frame that a part of a text is, behind one of a module; or nothing."""
+        found = TOLD_FRAME.fullmatch(part)
+        if not found:
+            return None
+        frame = Frame(self.modules.get(found[1], "?") if found[1] else module, int(found[2], 16))
+        return self.known.setdefault((module, part), frame)
 
     def frames(self, location):
         """The frames of a stack's number, the nearest first; none where the log doesn't tell it."""
@@ -108,10 +119,14 @@ def path_of(module):
     return unquote_to_bytes(module.encode("utf-8", "surrogateescape"))
 
 
-def stacks_of(path):
-    """The stacks of the log in a file."""
-    with open(path, "rb", buffering=1 << 20) as log:
-        return Stacks(log)
+def stacks_of(path, wanted=None):
+    """The stacks of the log in a file, or those of them that are wanted."""
+    gc.disable()
+    try:
+        with open(path, "rb", buffering=1 << 20) as log:
+            return Stacks(log, wanted)
+    finally:
+        gc.enable()
 
 
 def is_log(path):
