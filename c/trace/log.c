@@ -35,6 +35,8 @@ static pid_t process;
 static char *piece;
 static size_t piece_from;
 static size_t written;
+/* Whether the log was detached: what is written is lost. */
+static bool is_detached;
 
 /* 1 where this process has a log. It stands in a page that a child of a fork gets as zeros, so
  * that a child knows itself. */
@@ -87,6 +89,9 @@ static bool make_room(int file, size_t from)
 /* Maps the piece that begins with the page of the last byte written. */
 static bool map_piece(void)
 {
+    if (is_detached) {
+        return false;
+    }
     size_t from = written / PAGE * PAGE;
     int file = open_file(path, O_RDWR);
     if (file < 0) {
@@ -112,6 +117,9 @@ static bool map_piece(void)
 /* After the end: a line takes the place of the last, which is written again behind it. */
 static void write_before_end(const char *lines, size_t length)
 {
+    if (is_detached) {
+        return;
+    }
     char text[LINES_MOST + END_BYTES];
     memcpy(text, lines, length);
     memcpy(text + length, end_line, END_BYTES);
@@ -165,6 +173,18 @@ void log_forget(void)
     *alive = 0;
     process = 0;
     written = 0;
+    pthread_mutex_t fresh = PTHREAD_MUTEX_INITIALIZER;
+    lock = fresh;
+}
+
+void log_detach(void)
+{
+    if (piece != NULL) {
+        int kind = MAP_PRIVATE | MAP_ANONYMOUS | MAP_FIXED;
+        mmap(piece, PIECE, PROT_READ | PROT_WRITE, kind, -1, 0);
+    }
+    *alive = 0;
+    is_detached = true;
     pthread_mutex_t fresh = PTHREAD_MUTEX_INITIALIZER;
     lock = fresh;
 }
@@ -238,6 +258,8 @@ bool log_begin(const char *name)
 {
     static const char start_line[] = "= Start\n";
     make_alive();
+    told_forget();
+    is_detached = false;
     process = getpid();
     written = 0;
     if (!make_file(name)) {

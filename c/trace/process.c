@@ -134,6 +134,17 @@ static void forget_parent(void)
     stack_in_child();
 }
 
+/* In the child of a fork. */
+static void in_child(void)
+{
+    if (inside) {
+        log_detach();
+        stack_in_child();
+    } else {
+        forget_parent();
+    }
+}
+
 /* Reads the environment, once. */
 static void set(void)
 {
@@ -145,7 +156,7 @@ static void set(void)
     if (!is_off) {
         strcpy(name, given);
         stack_begin(most < 1 ? 1 : most > FRAMES_MOST ? FRAMES_MOST : (unsigned)most);
-        pthread_atfork(stack_before_fork, stack_in_parent, forget_parent);
+        pthread_atfork(stack_before_fork, stack_in_parent, in_child);
         /* Tied to no library, so that it runs behind the destructors of all. */
         __cxa_atexit(at_exit, NULL, NULL);
         at_quick_exit(at_quick);

@@ -40,7 +40,7 @@ static pthread_mutex_t lock = PTHREAD_MUTEX_INITIALIZER;
 /* Threads that look for a stack, and those that fork. A child may not find another thread amid the
  * modules, whose lock nobody would give back: so a fork waits for the first, and they for it. */
 static int writers, forks;
-static __thread bool forking;
+static __thread bool forking, searching;
 
 static unsigned frames_most = 1;
 static int (*unwind)(void **, int);
@@ -184,9 +184,14 @@ static void begin_search(void)
         sched_yield();
         __atomic_add_fetch(&writers, 1, __ATOMIC_SEQ_CST);
     }
+    searching = true;
 }
 
-static void end_search(void) { __atomic_sub_fetch(&writers, 1, __ATOMIC_SEQ_CST); }
+static void end_search(void)
+{
+    searching = false;
+    __atomic_sub_fetch(&writers, 1, __ATOMIC_SEQ_CST);
+}
 
 void stack_before_fork(void)
 {
@@ -209,10 +214,9 @@ void stack_in_child(void)
     pthread_mutex_t fresh = PTHREAD_MUTEX_INITIALIZER;
     lock = fresh;
     module_in_child();
-    told_forget();
     forking = false;
     forks = 0;
-    writers = 0;
+    writers = searching ? 1 : 0;
 }
 
 /* The addresses of a call's stack. With one frame only a call of `operator new` needs more. */
@@ -250,7 +254,8 @@ static unsigned find_number(void *const *stack, int count)
     struct place places[FRAMES_MOST];
     unsigned told = told_frames(stack, count, places);
     log_lock();
-    unsigned number = told_stack(places, told);
+    /* The child of a handler's fork comes back here without a log. */
+    unsigned number = log_is_on() ? told_stack(places, told) : 0;
     log_unlock();
     return number;
 }

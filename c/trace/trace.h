@@ -69,7 +69,7 @@ void leave(void);
 /* A line on standard error, behind the tracer's name. */
 void say(const char *what, const char *why);
 
-/* log.c: but for log_forget, with the lock held. */
+/* log.c: but for log_forget and log_detach, with the lock held. */
 
 void log_lock(void);
 void log_unlock(void);
@@ -95,6 +95,10 @@ pid_t log_process(void);
 
 /* In a child of a fork: the log is the parent's. */
 void log_forget(void);
+
+/* The same where a handler forked while its thread was in the tracer, to which the child returns: what it
+ * writes there is lost. */
+void log_detach(void);
 
 /* module.c */
 
@@ -166,7 +170,8 @@ void stack_in_child(void);
  * no memory for it. With the log's lock held. */
 unsigned told_stack(const struct place *frames, unsigned length);
 
-/* Nothing was told: the log is another. */
+/* Nothing was told: the log is a new one. In a child of a fork that isn't before its first call, since a
+ * handler's fork may have come amid told_stack, to which the child returns. */
 void told_forget(void);
 
 /* text.c: each writes a number, and returns where it ends. */

@@ -51,29 +51,43 @@ static int overflows(void)
     return calloc(SIZE_MAX / 2 + 2, 2) != NULL || reallocarray(block, SIZE_MAX / 4 + 2, 4) != NULL;
 }
 
-static volatile sig_atomic_t forks;
+static volatile sig_atomic_t forks, failures, is_child, returns;
 
+/* The child ends here, or behind the handler, with calls of its own. */
 static void fork_one(int number)
 {
     (void)number;
+    int status = 0;
+    if (is_child) {
+        return;
+    }
     pid_t child = fork();
+    if (child == 0 && returns) {
+        is_child = 1;
+        return;
+    }
     if (child == 0) {
         _exit(0);
     }
-    waitpid(child, NULL, 0);
+    waitpid(child, &status, 0);
+    failures += status != 0;
     forks++;
 }
 
 /* A handler that forks, while its thread may be in the tracer. */
-static int forks_in_handler(void)
+static int forks_in_handler(int with_return)
 {
     struct itimerval often = {{0, 2000}, {0, 2000}};
+    returns = with_return;
     signal(SIGALRM, fork_one);
     setitimer(ITIMER_REAL, &often, NULL);
-    while (forks < FORKS) {
+    while (forks < FORKS && !is_child) {
         free(malloc(10));
     }
-    return 0;
+    if (is_child) {
+        _exit(malloc(7) == NULL);
+    }
+    return failures > 0;
 }
 
 static void *sleep_on(void *unused)
@@ -118,7 +132,8 @@ int main(int count, char **words)
         : strcmp(word, "signals") == 0      ? has_signals()
         : strcmp(word, "preloaded") == 0    ? preloaded == NULL || preloaded() != 5
         : strcmp(word, "overflows") == 0    ? overflows()
-        : strcmp(word, "forks") == 0        ? forks_in_handler()
+        : strcmp(word, "forks") == 0        ? forks_in_handler(0)
+        : strcmp(word, "returns") == 0      ? forks_in_handler(1)
         : strcmp(word, "user") == 0         ? asks_for_user(0)
         : strcmp(word, "user, thread") == 0 ? asks_for_user(1)
         : strcmp(word, "torn") == 0         ? tears_realloc()
