@@ -21,7 +21,7 @@
 #include <time.h>
 #include <unistd.h>
 
-enum { PIECE = 1 << 20, NAMES_MOST = 1000 };
+enum { PIECE = 1 << 20, NAMES_MOST = 1000, LOOK_EACH = 100, TELL_EACH = 10000 };
 
 static const char end_line[] = "= End\n";
 enum { END_BYTES = sizeof end_line - 1 };
@@ -35,6 +35,8 @@ static pid_t process;
 static char *piece;
 static size_t piece_from;
 static size_t written;
+/* When the log began, and when its age was told last, in milliseconds; and how often it was written to. */
+static uint64_t begun, last_told, writes;
 /* Whether the log was detached: what is written is lost. */
 static bool is_detached;
 
@@ -131,11 +133,9 @@ static void write_before_end(const char *lines, size_t length)
     }
 }
 
-void log_write(const char *lines, size_t length)
+/* Writes whole lines behind the last one. */
+static void append(const char *lines, size_t length)
 {
-    if (!log_is_on()) {
-        return;
-    }
     if (piece == NULL) {
         write_before_end(lines, length);
         return;
@@ -145,6 +145,40 @@ void log_write(const char *lines, size_t length)
     }
     memcpy(piece + (written - piece_from), lines, length);
     written += length;
+}
+
+static uint64_t milliseconds(void)
+{
+    struct timespec now;
+    clock_gettime(CLOCK_MONOTONIC_COARSE, &now);
+    return (uint64_t)now.tv_sec * 1000 + (uint64_t)now.tv_nsec / 1000000;
+}
+
+/* Tells how old the log is, by a line without effect: `@ t1234 ! (nil) 0`. The clock is looked at each
+ * LOOK_EACH writes, and told where a second is over or there were TELL_EACH. */
+static void tell_time(void)
+{
+    static const char no_effect[] = " ! (nil) 0\n";
+    uint64_t now = milliseconds();
+    if (now - last_told < 1000 && writes % TELL_EACH != 0) {
+        return;
+    }
+    char line[64] = "@ t";
+    char *end = put_decimal(line + 3, now - begun);
+    memcpy(end, no_effect, sizeof no_effect - 1);
+    append(line, (size_t)(end - line) + sizeof no_effect - 1);
+    last_told = now;
+}
+
+void log_write(const char *lines, size_t length)
+{
+    if (!log_is_on()) {
+        return;
+    }
+    if (++writes % LOOK_EACH == 0) {
+        tell_time();
+    }
+    append(lines, length);
 }
 
 void log_end(void)
@@ -260,6 +294,8 @@ bool log_begin(const char *name)
     make_alive();
     told_forget();
     is_detached = false;
+    begun = last_told = milliseconds();
+    writes = 0;
     process = getpid();
     written = 0;
     if (!make_file(name)) {

@@ -9,6 +9,7 @@ Frame = namedtuple("Frame", "module offset")
 
 NUMBER = re.compile(r"s[1-9][0-9]*")
 NO_EFFECT = b" ! (nil) 0\n"
+TIME = re.compile(rb"@ t([0-9]{1,15})")
 PART = re.compile(rb"@ ([ms])([0-9]+)([=+])([\x21-\x7e\x80-\xff]*)")
 SHARED = re.compile(r"s[0-9]+\.([0-9]+)")
 TOLD_FRAME = re.compile(r"(?:([0-9]+):)?([0-9a-f]+)")
@@ -93,6 +94,13 @@ class Stacks:
     def whole(self, location):
         """A location with its frames for a stack's number; else as it is."""
         return joined(self.frames(location)) or location
+
+
+def times_of(path):
+    """The lines that tell a log's age: the number of each, and milliseconds."""
+    with open(path, "rb", buffering=1 << 20) as log:
+        return [(number, int(found[1])) for number, line in enumerate(log, 1)
+                if line.endswith(NO_EFFECT) and (found := TIME.fullmatch(line, 0, len(line) - len(NO_EFFECT)))]
 
 
 def joined(frames):

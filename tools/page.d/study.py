@@ -12,7 +12,7 @@ import reports
 import sizing
 from log import CHANGE, points_of, read_log
 from reports import Differs, Report, give_up
-from stacks import stacks_of
+from stacks import stacks_of, times_of
 from texts import shown, site_name
 
 # So many sites are told one by one, with so many bytes of names; and of the greatest of these so many changes between the points.
@@ -142,7 +142,7 @@ class Study:
     def keep_greatest(self):
         """The greatest sites that are told one by one, and how many of them also between the points."""
         order = sorted(range(len(self.locations)), key=lambda site: (-self.most[site], -self.asked[site], self.locations[site]))
-        self.stacks = stacks_of(self.path)
+        self.stacks, self.times = stacks_of(self.path), times_of(self.path)
         names = accumulate(room_of(self.whole(self.locations[site])) for site in order)
         self.kept = [site for site, text in zip(order[:MOST_SITES], names) if text <= MOST_TEXT]
         changes = accumulate(self.changed[site] for site in self.kept)
