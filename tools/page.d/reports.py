@@ -17,8 +17,9 @@ SECONDS_TO_FIT = 7
 
 
 def give_up(text, status=1):
-    """Says why there is no page, and ends."""
-    print(f"tlsf-page: {text}", file=sys.stderr)
+    """Says why there is no page, or what else was asked for, and ends."""
+    tool = Path(sys.argv[0]).name.removeprefix("tlsf-")
+    print(f"tlsf-{tool}: {text}", file=sys.stderr)
     sys.exit(status)
 
 
