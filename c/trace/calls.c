@@ -52,12 +52,17 @@ static void *move_own(const void *address, size_t bytes)
 
 /* ---- lines */
 
-/* A line that begins: `@ LOCATION `. */
+/* A line that begins: `@ s17 `, or nothing where there was no memory for the stack. */
 static char *put_place(char *to, void *caller)
 {
+    unsigned number = stack_number(caller);
+    if (number == 0) {
+        return to;
+    }
     *to++ = '@';
     *to++ = ' ';
-    to = put_location(to, caller);
+    *to++ = 's';
+    to = put_decimal(to, number);
     *to++ = ' ';
     return to;
 }

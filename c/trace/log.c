@@ -21,7 +21,7 @@
 #include <time.h>
 #include <unistd.h>
 
-enum { PIECE = 1 << 20, NAMES_MOST = 1000 };
+enum { PIECE = 1 << 20, NAMES_MOST = 1000, LOOK_EACH = 100, TELL_EACH = 10000 };
 
 static const char end_line[] = "= End\n";
 enum { END_BYTES = sizeof end_line - 1 };
@@ -35,6 +35,10 @@ static pid_t process;
 static char *piece;
 static size_t piece_from;
 static size_t written;
+/* When the log began, and when its age was told last, in milliseconds; and how often it was written to. */
+static uint64_t begun, last_told, writes;
+/* Whether the log was detached: what is written is lost. */
+static bool is_detached;
 
 /* 1 where this process has a log. It stands in a page that a child of a fork gets as zeros, so
  * that a child knows itself. */
@@ -87,6 +91,9 @@ static bool make_room(int file, size_t from)
 /* Maps the piece that begins with the page of the last byte written. */
 static bool map_piece(void)
 {
+    if (is_detached) {
+        return false;
+    }
     size_t from = written / PAGE * PAGE;
     int file = open_file(path, O_RDWR);
     if (file < 0) {
@@ -112,6 +119,9 @@ static bool map_piece(void)
 /* After the end: a line takes the place of the last, which is written again behind it. */
 static void write_before_end(const char *lines, size_t length)
 {
+    if (is_detached) {
+        return;
+    }
     char text[LINES_MOST + END_BYTES];
     memcpy(text, lines, length);
     memcpy(text + length, end_line, END_BYTES);
@@ -123,11 +133,9 @@ static void write_before_end(const char *lines, size_t length)
     }
 }
 
-void log_write(const char *lines, size_t length)
+/* Writes whole lines behind the last one. */
+static void append(const char *lines, size_t length)
 {
-    if (!log_is_on()) {
-        return;
-    }
     if (piece == NULL) {
         write_before_end(lines, length);
         return;
@@ -137,6 +145,40 @@ void log_write(const char *lines, size_t length)
     }
     memcpy(piece + (written - piece_from), lines, length);
     written += length;
+}
+
+static uint64_t milliseconds(void)
+{
+    struct timespec now;
+    clock_gettime(CLOCK_MONOTONIC_COARSE, &now);
+    return (uint64_t)now.tv_sec * 1000 + (uint64_t)now.tv_nsec / 1000000;
+}
+
+/* Tells how old the log is, by a line without effect: `@ t1234 ! (nil) 0`. The clock is looked at each
+ * LOOK_EACH writes, and told where a second is over or there were TELL_EACH. */
+static void tell_time(void)
+{
+    static const char no_effect[] = " ! (nil) 0\n";
+    uint64_t now = milliseconds();
+    if (now - last_told < 1000 && writes % TELL_EACH != 0) {
+        return;
+    }
+    char line[64] = "@ t";
+    char *end = put_decimal(line + 3, now - begun);
+    memcpy(end, no_effect, sizeof no_effect - 1);
+    append(line, (size_t)(end - line) + sizeof no_effect - 1);
+    last_told = now;
+}
+
+void log_write(const char *lines, size_t length)
+{
+    if (!log_is_on()) {
+        return;
+    }
+    if (++writes % LOOK_EACH == 0) {
+        tell_time();
+    }
+    append(lines, length);
 }
 
 void log_end(void)
@@ -165,6 +207,18 @@ void log_forget(void)
     *alive = 0;
     process = 0;
     written = 0;
+    pthread_mutex_t fresh = PTHREAD_MUTEX_INITIALIZER;
+    lock = fresh;
+}
+
+void log_detach(void)
+{
+    if (piece != NULL) {
+        int kind = MAP_PRIVATE | MAP_ANONYMOUS | MAP_FIXED;
+        mmap(piece, PIECE, PROT_READ | PROT_WRITE, kind, -1, 0);
+    }
+    *alive = 0;
+    is_detached = true;
     pthread_mutex_t fresh = PTHREAD_MUTEX_INITIALIZER;
     lock = fresh;
 }
@@ -238,6 +292,10 @@ bool log_begin(const char *name)
 {
     static const char start_line[] = "= Start\n";
     make_alive();
+    told_forget();
+    is_detached = false;
+    begun = last_told = milliseconds();
+    writes = 0;
     process = getpid();
     written = 0;
     if (!make_file(name)) {

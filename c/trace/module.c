@@ -5,8 +5,12 @@
 #define _GNU_SOURCE
 #include "trace.h"
 
+#include <fcntl.h>
 #include <link.h>
+#include <pthread.h>
+#include <stdlib.h>
 #include <string.h>
+#include <sys/syscall.h>
 #include <unistd.h>
 
 /* The functions whose frames aren't told. */
@@ -36,7 +40,15 @@ static const struct {
 };
 _Static_assert(sizeof known / sizeof *known == KNOWN, "each known function has a range");
 
+/* The table of modules, and the text of their paths. The first module is that of code without a
+ * file. Where either is full, further modules are that one. */
+enum { TEXT_MOST = 1 << 19, ENCODED_MOST = 3 * PATH_MOST };
+static struct module modules[MODULES_MOST] = {{.text = "?", .length = 1}};
+static unsigned module_count = 1;
+static char texts[TEXT_MOST];
+static size_t text_used;
 static char program[PATH_MOST];
+static pthread_mutex_t lock = PTHREAD_MUTEX_INITIALIZER;
 
 /* The text of a byte of a path: the number of its bytes. */
 static unsigned encode(char *to, unsigned char byte)
@@ -52,24 +64,62 @@ static unsigned encode(char *to, unsigned char byte)
     return 3;
 }
 
-/* A path as text: what fits of its end. Threads may have small stacks, so no more is kept. */
-static unsigned put_path(char *to, const char *path)
+/* A path as text: its length. */
+static size_t put_path(char *to, const char *path)
 {
-    char text[3];
-    size_t length = 0, used = 0;
-    for (const char *from = path; *from != 0; from++) {
-        length += encode(text, (unsigned char)*from);
+    size_t length = 0;
+    for (const char *from = path; *from != 0 && length + 3 <= ENCODED_MOST; from++) {
+        length += encode(to + length, (unsigned char)*from);
     }
-    for (const char *from = path; *from != 0; from++) {
-        unsigned bytes = encode(text, (unsigned char)*from);
-        if (length <= MODULE_MOST) {
-            memcpy(to + used, text, bytes);
-            used += bytes;
-        } else {
-            length -= bytes;
+    return length;
+}
+
+/* A file that is read line by line, by system calls alone: stdio would ask for memory. */
+struct reader {
+    int file;
+    ssize_t at, end;
+    char piece[1024];
+    char line[PATH_MOST + 128];
+};
+
+/* Reads the next line, whose end may be cut off. Returns whether there is one. */
+static bool next_line(struct reader *reader)
+{
+    size_t length = 0;
+    for (;;) {
+        if (reader->at == reader->end) {
+            reader->at = 0;
+            reader->end = syscall(SYS_read, reader->file, reader->piece, sizeof reader->piece);
+            if (reader->end <= 0) {
+                return false;
+            }
+        }
+        char byte = reader->piece[reader->at++];
+        if (byte == '\n') {
+            reader->line[length] = 0;
+            return true;
+        }
+        if (length + 1 < sizeof reader->line) {
+            reader->line[length++] = byte;
         }
     }
-    return (unsigned)used;
+}
+
+/* The whole path of the file that is mapped at an address, as the kernel tells it, or null. Each line
+ * of the kernel's list begins with an address. With the lock held. */
+static const char *mapped_path(uintptr_t address)
+{
+    static struct reader reader;
+    const char *path = NULL;
+    reader.at = reader.end = 0;
+    reader.file = (int)syscall(SYS_openat, AT_FDCWD, "/proc/self/maps", O_RDONLY | O_CLOEXEC);
+    while (path == NULL && reader.file >= 0 && next_line(&reader)) {
+        path = strtoul(reader.line, NULL, 16) == address ? strchr(reader.line, '/') : NULL;
+    }
+    if (reader.file >= 0) {
+        syscall(SYS_close, reader.file);
+    }
+    return path;
 }
 
 struct names {
@@ -145,42 +195,74 @@ static void find_known(struct module *module, const struct dl_phdr_info *info)
     }
 }
 
+/* The path of a module: the whole one, where it was loaded by a part of it. With the lock held. */
+static const char *path_of(const struct dl_phdr_info *info, uintptr_t base)
+{
+    const char *name = info->dlpi_name[0] == 0 ? program : info->dlpi_name;
+    const char *whole = name[0] != '/' && strchr(name, '/') != NULL ? mapped_path(base) : NULL;
+    return whole == NULL ? name : whole;
+}
+
+/* The number of a module, which gets one where it is new, and 0 where there is no room. With the
+ * lock held. */
+static unsigned number_of(const struct dl_phdr_info *info, uintptr_t base)
+{
+    static char text[ENCODED_MOST];
+    size_t length = put_path(text, path_of(info, base));
+    for (unsigned k = 1; k < module_count; k++) {
+        const struct module *other = &modules[k];
+        if (other->base == base && other->length == length && memcmp(other->text, text, length) == 0) {
+            return k;
+        }
+    }
+    if (module_count == MODULES_MOST || length > TEXT_MOST - text_used) {
+        return 0;
+    }
+    struct module *module = &modules[module_count];
+    module->base = base;
+    module->text = memcpy(texts + text_used, text, length);
+    module->length = length;
+    text_used += length;
+    find_known(module, info);
+    return module_count++;
+}
+
 /* What is asked of dl_iterate_phdr, and what it finds. */
 struct search {
     uintptr_t address;
-    bool found;
-    struct module *module;
+    unsigned module;
 };
 
 static int look_at_module(struct dl_phdr_info *info, size_t size, void *data)
 {
     struct search *search = data;
     uintptr_t lowest = UINTPTR_MAX;
+    bool found = false;
     (void)size;
     for (int k = 0; k < info->dlpi_phnum; k++) {
         const ElfW(Phdr) *part = &info->dlpi_phdr[k];
         uintptr_t start = info->dlpi_addr + part->p_vaddr;
         if (part->p_type == PT_LOAD) {
             lowest = start < lowest ? start : lowest;
-            search->found |= start <= search->address && search->address - start < part->p_memsz;
+            found |= start <= search->address && search->address - start < part->p_memsz;
         }
     }
-    if (search->found) {
-        const char *path = info->dlpi_name[0] == 0 ? program : info->dlpi_name;
-        search->module->base = lowest & ~(uintptr_t)4095;
-        search->module->length = put_path(search->module->text, path);
-        search->module->ranges = 0;
-        find_known(search->module, info);
+    if (found) {
+        pthread_mutex_lock(&lock);
+        search->module = number_of(info, lowest & ~(uintptr_t)4095);
+        pthread_mutex_unlock(&lock);
     }
-    return search->found;
+    return found;
 }
 
-bool find_module(struct module *module, uintptr_t address)
+unsigned find_module(uintptr_t address)
 {
-    struct search search = {address, false, module};
+    struct search search = {address, 0};
     dl_iterate_phdr(look_at_module, &search);
-    return search.found;
+    return search.module;
 }
+
+const struct module *module_at(unsigned number) { return &modules[number]; }
 
 enum kind kind_of(const struct module *module, uintptr_t address)
 {
@@ -196,4 +278,10 @@ void module_begin(void)
 {
     ssize_t length = readlink("/proc/self/exe", program, sizeof program - 1);
     program[length < 0 ? 0 : length] = 0;
+}
+
+void module_in_child(void)
+{
+    pthread_mutex_t fresh = PTHREAD_MUTEX_INITIALIZER;
+    lock = fresh;
 }

@@ -13,7 +13,7 @@
 #include <sys/syscall.h>
 #include <unistd.h>
 
-enum { FRAMES_USUAL = 8 };
+enum { FRAMES_USUAL = 32 };
 
 __thread bool inside __attribute__((tls_model("initial-exec")));
 struct real real;
@@ -134,6 +134,17 @@ static void forget_parent(void)
     stack_in_child();
 }
 
+/* In the child of a fork. */
+static void in_child(void)
+{
+    if (inside) {
+        log_detach();
+        stack_in_child();
+    } else {
+        forget_parent();
+    }
+}
+
 /* Reads the environment, once. */
 static void set(void)
 {
@@ -144,8 +155,8 @@ static void set(void)
     is_off = given == NULL || given[0] == 0 || strlen(given) >= sizeof name;
     if (!is_off) {
         strcpy(name, given);
-        stack_begin(most < 1 ? 1 : most > FRAMES_MOST ? FRAMES_MOST : most);
-        pthread_atfork(stack_before_fork, stack_in_parent, forget_parent);
+        stack_begin(most < 1 ? 1 : most > FRAMES_MOST ? FRAMES_MOST : (unsigned)most);
+        pthread_atfork(stack_before_fork, stack_in_parent, in_child);
         /* Tied to no library, so that it runs behind the destructors of all. */
         __cxa_atexit(at_exit, NULL, NULL);
         at_quick_exit(at_quick);

@@ -2,8 +2,10 @@
  * tools/trace, and writes the log that docs/FORMATS.md describes. Not proved.
  *
  *     calls.c    the calls of malloc that stand in for those of the C library
- *     stack.c    the location of a call: its stack as text
+ *     stack.c    the stack of a call: its frames, and its number
  *     module.c   the program or library that an address is in
+ *     told.c     the modules and stacks that the log has told
+ *     text.c     numbers as text
  *     log.c      the log: a file that is mapped piece by piece
  *     process.c  where a log begins and ends: start, fork, exec, exit
  *
@@ -27,7 +29,7 @@
  * of a realloc. A path has at most PATH_MOST bytes with its end. */
 enum { LOCATION_MOST = 255, LINE_MOST = 317, LINES_MOST = 2 * LINE_MOST, PATH_MOST = 4096 };
 
-/* The most frames that a location can be asked to have. */
+/* The most frames that a stack can be asked to have. */
 enum { FRAMES_MOST = 64 };
 
 /* Whether this thread is in the tracer: what it asks for then isn't written. */
@@ -67,7 +69,7 @@ void leave(void);
 /* A line on standard error, behind the tracer's name. */
 void say(const char *what, const char *why);
 
-/* log.c: but for log_forget, with the lock held. */
+/* log.c: but for log_forget and log_detach, with the lock held. */
 
 void log_lock(void);
 void log_unlock(void);
@@ -94,15 +96,18 @@ pid_t log_process(void);
 /* In a child of a fork: the log is the parent's. */
 void log_forget(void);
 
+/* The same where a handler forked while its thread was in the tracer, to which the child returns: what it
+ * writes there is lost. */
+void log_detach(void);
+
 /* module.c */
 
 /* Frames that aren't told: of `operator new` or `delete`, and those from the C library's start of
  * `main` on. */
 enum kind { PROGRAM, OPERATOR, START };
 
-/* A module's text has at most MODULE_MOST bytes: that leaves room for one frame. KNOWN is the
- * number of known functions. */
-enum { MODULE_MOST = 230, KNOWN = 19 };
+/* The most modules, and the number of known functions. */
+enum { MODULES_MOST = 2048, KNOWN = 19 };
 
 /* Code of one kind: what returns there was called by it. */
 struct range {
@@ -113,13 +118,18 @@ struct range {
 /* A module: where it begins in memory, its path as text, and its known functions. */
 struct module {
     uintptr_t base;
-    unsigned length, ranges;
-    char text[MODULE_MOST];
+    const char *text;
+    size_t length;
+    unsigned ranges;
     struct range range[KNOWN];
 };
 
-/* Finds the module of an address. Returns whether there is one. */
-bool find_module(struct module *module, uintptr_t address);
+/* The number of the module that an address is in. That of code which no file has is 0: it begins at
+ * 0, and its path is `?`. */
+unsigned find_module(uintptr_t address);
+
+/* The module of a number. */
+const struct module *module_at(unsigned number);
 
 /* The kind of the code that an address returns to, in its module. */
 enum kind kind_of(const struct module *module, uintptr_t address);
@@ -127,25 +137,59 @@ enum kind kind_of(const struct module *module, uintptr_t address);
 /* Looks for the program's own path. */
 void module_begin(void);
 
+/* In a child of a fork, where there is no other thread. */
+void module_in_child(void);
+
 /* stack.c */
 
-/* Looks for the unwinder, and takes the most frames of a location. */
-void stack_begin(int frames);
+/* A frame that is told: its module, and the address that it returns to, less the module's base. */
+struct place {
+    uint64_t offset;
+    unsigned module;
+};
 
-/* Writes the location of a call that returns to an address, of at most LOCATION_MOST bytes, and
- * returns where it ends. */
-char *put_location(char *to, void *caller);
+/* Looks for the unwinder, and takes the most frames of a stack. */
+void stack_begin(unsigned frames);
+
+/* The number of the stack of a call that returns to an address, which the log has told then; or 0
+ * where there is no memory for it. */
+unsigned stack_number(void *caller);
 
 /* Modules were unloaded: their addresses may be those of others. */
 void stack_forget(void);
 
-/* Before a fork, until no other thread writes a location; behind it in the parent; and in the
+/* Before a fork, until no other thread looks for a stack; behind it in the parent; and in the
  * child, where there is no other thread. */
 void stack_before_fork(void);
 void stack_in_parent(void);
 void stack_in_child(void);
 
-/* Writes a number as `0x` and hexadecimal digits, and returns where it ends. */
+/* told.c */
+
+/* The number of a stack of 1 to FRAMES_MOST frames, which is told where it is new. 0 where there is
+ * no memory for it. With the log's lock held. */
+unsigned told_stack(const struct place *frames, unsigned length);
+
+/* Nothing was told: the log is a new one. In a child of a fork that isn't before its first call, since a
+ * handler's fork may have come amid told_stack, to which the child returns. */
+void told_forget(void);
+
+/* text.c: each writes a number, and returns where it ends. */
+
+/* Hexadecimal digits. */
+char *put_digits(char *to, uintptr_t number);
+
+/* `0x` and hexadecimal digits. */
 char *put_hex(char *to, uintptr_t number);
+
+/* Decimal digits. */
+char *put_decimal(char *to, size_t number);
+
+/* A number whose bits all depend on all of another's. */
+static inline uint64_t mix(uint64_t number)
+{
+    number *= 0x9E3779B97F4A7C15u;
+    return (number ^ number >> 32) * 0xD6E8FEB86659FD93u;
+}
 
 #endif

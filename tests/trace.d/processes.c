@@ -78,6 +78,9 @@ int main(int count, char **words)
         execlp(words[0], words[0], "end", NULL);
     } else if (strcmp(word, "failed exec") == 0) {
         execl("/nothing", "nothing", NULL);
+    } else if (strcmp(word, "failed exec, kill at once") == 0) {
+        execl("/nothing", "nothing", NULL);
+        raise(SIGKILL);
     } else if (strcmp(word, "failed exec, kill") == 0) {
         execl("/nothing", "nothing", NULL);
         malloc(5);

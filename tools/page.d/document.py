@@ -324,7 +324,7 @@ def page_of(folder, log):
     """The page of one log."""
     sites, series = stacked(log)
     legend = "".join(f'<li><span class="key {name}"></span> {escaped(told)}</li>' for name, told in legend_entries(log, sites, series))
-    parts = {"head": head_html(head_lines(log)), "chart": chart_svg(draw_chart(log.rows, log.peak, log.first_refused, series), chart_words(log)),
+    parts = {"head": head_html(head_lines(log)), "chart": chart_svg(draw_chart(log.rows, log.peak, log.first_refused, series, log.times), chart_words(log)),
              "legend": legend, "heaps": heaps_html(log)}
     return write_document(folder, "page.html", f"{log.name}: who holds its memory", page_data(log, sites), parts)
 
@@ -335,5 +335,5 @@ def picture_of(log):
     heaps = [(name, pools) for name, pools in (("The heap at the peak: used blocks by place", log.walk_at_peak),
                                                ("The heap at the end", log.walk_at_end))]
     return whole_picture(f"{log.name}: bytes held after each line, by site; dashed: the heap's reach",
-                         draw_chart(log.rows, log.peak, log.first_refused, series), legend_entries(log, sites, series), heaps,
+                         draw_chart(log.rows, log.peak, log.first_refused, series, log.times), legend_entries(log, sites, series), heaps,
                          max(reach_of(pools) for _, pools in heaps))

@@ -1,4 +1,6 @@
 """Draws bytes held over the lines, stacked by site, and the heap's blocks by place, as SVG."""
+from bisect import bisect_right
+
 from texts import counted, escaped, shortened
 
 WIDTH, HEIGHT = 960, 340
@@ -84,14 +86,24 @@ def byte_ticks(chart):
                    f'dy="4" text-anchor="end">{short_bytes(value, chart.most)}</text>' for value in ticks(chart.most))
 
 
-def line_ticks(chart, unit=""):
-    """Line numbers, or shares of the lines."""
+def seconds_at(times, line):
+    """When a line was written, in seconds since the log began, by the times that the log tells: in between as if lines came evenly."""
+    told = [(0, 0), *times]
+    at = max(1, min(bisect_right(told, (line, 0)), len(told) - 1))
+    (first, before), (second, after) = told[at - 1], told[at]
+    share = min(1, (line - first) / max(1, second - first))
+    return (before + share * (after - before)) / 1000
+
+
+def line_ticks(chart, unit="", times=()):
+    """Line numbers, with seconds where the log tells times; or shares of the lines."""
     parts = []
     for line in ticks(chart.lines):
         x = chart.x(line)
         anchor, text_x = ("middle", x) if x < RIGHT - 20 else ("end", WIDTH - 1)
+        seconds = f" · {seconds_at(times, line):.1f} s" if times else ""
         parts.append(f'<path class="grid" d="M{number(x)} {BOTTOM}v5"/><text x="{number(text_x)}" y="{BOTTOM + 18}" '
-                     f'text-anchor="{anchor}">{line:,}{unit}</text>')
+                     f'text-anchor="{anchor}">{line:,}{unit}{seconds}</text>')
     return "".join(parts)
 
 
@@ -138,13 +150,14 @@ def refused_mark(chart, line):
             f'y="{TOP + 28}" text-anchor="{side}">too little behind line {line:,}</text>')
 
 
-def draw_chart(rows, peak, refused, series):
+def draw_chart(rows, peak, refused, series, times=()):
     """Bytes held after each row's line, by site; the greatest end of a live block is a dashed line."""
     lines = [row[0] for row in rows]
     chart = Chart(lines[-1], int(1.08 * max(max(row[1], row[3]) for row in rows)))
     held = dict((row[0], row[1]) for row in rows)[peak]
     reach = f'<path class="reach" d="M{chart.steps(lines, [row[3] for row in rows])}"/>'
-    axes = byte_ticks(chart) + line_ticks(chart) + below_axis("line of the log")
+    axes = byte_ticks(chart) + line_ticks(chart, times=times)
+    axes += below_axis("line of the log, and seconds since it began" if times else "line of the log")
     return axes + areas(chart, lines, series) + reach + (refused_mark(chart, refused) if refused else "") + (peak_mark(chart, peak, held) if held else "")
 
 

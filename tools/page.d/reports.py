@@ -17,8 +17,9 @@ SECONDS_TO_FIT = 7
 
 
 def give_up(text, status=1):
-    """Says why there is no page, and ends."""
-    print(f"tlsf-page: {text}", file=sys.stderr)
+    """Says why there is no page, or what else was asked for, and ends."""
+    tool = Path(sys.argv[0]).name.removeprefix("tlsf-")
+    print(f"tlsf-{tool}: {text}", file=sys.stderr)
     sys.exit(status)
 
 
@@ -197,15 +198,17 @@ def place_behind(piece, count):
 
 
 def told_lines(tool, locations):
-    """Each location as tools/source-lines tells it; as it stands where that finds nothing."""
-    report = b"".join(b"1 bytes in 1 blocks at " + location + b"\n" for location in locations)
+    """Each location as tools/source-lines tells it, in a report of leaks, whose lines it keeps apart; as it stands where that finds
+    nothing."""
+    locations = list(locations)
+    report = b"".join(b"0x10 1 line 1 at " + location + b"\n" for location in locations)
     try:
-        run = subprocess.run([str(tool)], input=report, stdout=subprocess.PIPE, stderr=subprocess.DEVNULL, check=False)
+        run = subprocess.run([str(tool), "--all-sites"], input=report, stdout=subprocess.PIPE, stderr=subprocess.DEVNULL, check=False)
     except OSError:
-        return list(locations)
+        return locations
     lines = split_lines(run.stdout)
     if run.returncode or len(lines) != len(locations):
-        return list(locations)
+        return locations
     return [line.partition(b" at ")[2] for line in lines]
 
 

@@ -12,6 +12,7 @@ import reports
 import sizing
 from log import CHANGE, points_of, read_log
 from reports import Differs, Report, give_up
+from stacks import stacks_of, times_of
 from texts import shown, site_name
 
 # So many sites are told one by one, with so many bytes of names; and of the greatest of these so many changes between the points.
@@ -141,7 +142,8 @@ class Study:
     def keep_greatest(self):
         """The greatest sites that are told one by one, and how many of them also between the points."""
         order = sorted(range(len(self.locations)), key=lambda site: (-self.most[site], -self.asked[site], self.locations[site]))
-        names = accumulate(room_of(self.locations[site]) for site in order)
+        self.stacks, self.times = stacks_of(self.path), times_of(self.path)
+        names = accumulate(room_of(self.whole(self.locations[site])) for site in order)
         self.kept = [site for site, text in zip(order[:MOST_SITES], names) if text <= MOST_TEXT]
         changes = accumulate(self.changed[site] for site in self.kept)
         self.followed = sum(count <= MOST_CHANGES for count in changes)
@@ -155,7 +157,7 @@ class Study:
         """Source lines of the sites that are kept, where there is a tool for them."""
         self.progress.tell("source lines are looked for")
         locations = [self.locations[site] for site in self.kept if self.locations[site]]
-        self.told = dict(zip(locations, reports.told_lines(tool, locations))) if tool else {}
+        self.told = dict(zip(locations, reports.told_lines(tool, map(self.whole, locations)))) if tool else {}
         for module in self.newer_modules() if tool else []:
             self.progress.end()
             print(f"tlsf-page: {module} is newer than {self.name}: its source lines may be others", file=sys.stderr)
@@ -163,17 +165,22 @@ class Study:
     def newer_modules(self):
         """Programs and libraries that were changed after the log was written, whose source lines are told."""
         written = os.stat(self.path).st_mtime_ns
-        names = {unquote_to_bytes(module) for location, told in self.told.items() if told != location for module in MODULE.findall(location)}
+        whole = [self.whole(location) for location, told in self.told.items() if told != self.whole(location)]
+        names = {unquote_to_bytes(module) for location in whole for module in MODULE.findall(location)}
         return [shown(name) for name in sorted(names) if os.path.exists(name) and os.stat(name).st_mtime_ns > written]
+
+    def whole(self, location):
+        """A location with its frames, where the log tells these once, by a number."""
+        return os.fsencode(self.stacks.whole(os.fsdecode(location)))
 
     def told_of(self, location):
         """A location as source-lines tells it."""
-        return self.told.get(location, location)
+        return self.told.get(location) or self.whole(location)
 
     def frames_of(self, location):
         """The frames of a site, nearest first: as source-lines tells them, else as they stand."""
-        told = self.told_of(location)
-        return told.split(b" < ") if told != location else plain_frames(location)
+        told, whole = self.told_of(location), self.whole(location)
+        return told.split(b" < ") if told != whole else plain_frames(whole)
 
     def name_of(self, location):
         """A site as it is shown."""

@@ -1,0 +1,193 @@
+"""The names of frames: function, file and line, by binutils. Frames in inlined calls have several."""
+import os
+import re
+import subprocess
+from bisect import bisect_right
+from collections import defaultdict
+from concurrent.futures import ThreadPoolExecutor
+from dataclasses import dataclass
+
+from stacks import path_of
+
+# Libraries whose frames are of the standard library, whatever they are called.
+STANDARD_MODULE = re.compile(r"(?:libc|libm|libdl|librt|libpthread|libstdc\+\+|libc\+\+|libc\+\+abi|libgcc_s|ld|ld-linux[-\w]*)[-.\d]*\.so")
+STANDARD_FILE = re.compile(r"/usr/(?:lib/llvm[^/]*/)?include/c\+\+/|/rustc/|/rust/deps/|.*/rustlib/src/rust/library/|library/(?:alloc|core|std)/src/")
+STANDARD_NAME = re.compile(r"(?:std|core|alloc|hashbrown|__gnu_cxx|__cxxabiv1)::|operator (?:new|delete)\b|__rust_|__rdl_|__rustc|"
+                           r"<[^ :]* as (?:std|core|alloc)::|<[&*\[]*(?:mut )?(?:std|core|alloc|hashbrown)::")
+CLONE = re.compile(r" \[clone [^\]]*\]|\[abi:\w+\]|::h[0-9a-f]{16}$|(?<=\w)\[[0-9a-f]{16}\]|(?:\.(?:constprop|isra|part|cold|llvm|lto_priv|localalias)(?:\.\d+)*)+$")
+OPERATOR = re.compile(r"operator *(?:<=>|<<=|>>=|->\*|<<|>>|<=|>=|->|\(\)|<|>)")
+LINE = re.compile(r"(.*):(\d+|\?)(?: \(discriminator \d+\))?", re.S)
+
+
+def without_arguments(name):
+    """A demangled name without what stands in brackets, but for names of operators and for a type in front, as of Rust."""
+    kept, depth, at = [], 0, 0
+    while at < len(name):
+        found = OPERATOR.match(name, at) if depth == 0 else None
+        if found:
+            kept.append(found[0])
+            at = found.end()
+            continue
+        byte = name[at]
+        depth -= byte in ")>" and name[at - 1:at + 1] != "->"
+        if depth == 0 and byte not in "()<>":
+            kept.append(byte)
+        depth += byte in "(<"
+        at += 1
+    return "".join(kept)
+
+
+def end_of_type(name):
+    """Where the type that a name of Rust has in front ends, as in `<shop::Item as core::clone::Clone>::clone`."""
+    depth = 0
+    for at, byte in enumerate(name):
+        depth += (byte == "<") - (byte == ">" and name[at - 1] != "-")
+        if depth == 0:
+            return at + 1
+    return len(name)
+
+
+def without_result(name):
+    """A name without the type of its result, and what stands behind its arguments."""
+    name = re.sub(r"(?: const| volatile|&)+$", "", name.strip())
+    end = name.rfind("operator ")
+    return name[name.rfind(" ", 0, end if end >= 0 else len(name)) + 1:]
+
+
+def short_name(name):
+    """A demangled name as it is told: `std::vector::push_back`, and not its arguments."""
+    name = CLONE.sub("", name.removeprefix("__GI_")).replace("(anonymous namespace)", "{anonymous}").replace("std::__cxx11::basic_string", "std::string")
+    name = name.replace("std::__cxx11::", "std::").replace("::<", "<")
+    if name.startswith("<"):
+        end = end_of_type(name)
+        return name[:end] + without_arguments(name[end:])
+    return without_result(without_arguments(name))
+
+
+@dataclass(frozen=True)
+class Call:
+    """One call of a frame: its function, or nothing, and where that stands. A call without a line has a symbol and an offset in
+    it, or an offset in its module alone."""
+    function: str
+    file: str
+    line: int
+    module: str
+    offset: int
+
+    @property
+    def is_standard(self):
+        """Whether it is of the standard library: by its module, its file, or its name where no file is known."""
+        return bool(STANDARD_MODULE.match(os.path.basename(self.module))
+                    or (STANDARD_FILE.match(self.file) if self.file else STANDARD_NAME.match(self.function)))
+
+    def told(self, paths=False):
+        """`grow shop.cc:14`, `strdup+0x1a libc.so.6`, or `libz.so.1:[0x7f]`."""
+        if self.file:
+            place = (self.file if paths else os.path.basename(self.file)) + (f":{self.line}" if self.line else "")
+            return f"{self.function} {place}" if self.function else place
+        module = os.path.basename(self.module)
+        return f"{self.function}+0x{self.offset:x} {module}" if self.function else f"{module}:[0x{self.offset:x}]"
+
+
+def output_of(words, given=""):
+    """What a tool of binutils writes, or nothing where it fails."""
+    run = subprocess.run(words, input=given.encode("utf-8", "surrogateescape"), stdout=subprocess.PIPE, stderr=subprocess.DEVNULL,
+                         check=False, env={**os.environ, "LC_ALL": "C"})
+    return run.stdout.decode("utf-8", "surrogateescape")
+
+
+def base_of(path):
+    """The page of the lowest address that a file is linked for, or None where it is no object."""
+    for line in output_of(["readelf", "-lW", "--", path]).splitlines():
+        words = line.split()
+        if words[:1] == ["LOAD"]:
+            return int(words[2], 16) & ~4095
+    return None
+
+
+def lines_of(path, addresses):
+    """For each address its calls, innermost first, as function, file and line, where one is known."""
+    found = defaultdict(list)
+    lines = iter(output_of(["addr2line", "-a", "-f", "-i", "-C", "-e", path], "".join(f"0x{address:x}\n" for address in addresses)).splitlines())
+    address = None
+    for line in lines:
+        if re.fullmatch(r"0x[0-9a-f]{8,16}", line):
+            address = int(line, 16)
+            continue
+        told = LINE.fullmatch(next(lines, ""))
+        if told and told[1] != "??" and told[2] not in "0?":
+            found[address].append(("" if line == "??" else short_name(line), told[1], int(told[2])))
+    return found
+
+
+def demangled(names):
+    """Each name as its language has it."""
+    return dict(zip(names, output_of(["c++filt"], "".join(name + "\n" for name in names)).splitlines()))
+
+
+def symbols_in(path):
+    """The code of a file by its symbols: start, size and name of each, in order."""
+    symbols = set()
+    for words in (["nm", "-S", "--defined-only", "--", path], ["nm", "-D", "-S", "--defined-only", "--", path]):
+        for line in output_of(words).splitlines():
+            parts = line.split(" ", 3)
+            if len(parts) == 4 and parts[2] in "tTwWi":
+                symbols.add((int(parts[0], 16), int(parts[1], 16), parts[3].partition("@")[0]))
+    return sorted(symbols)
+
+
+def symbols_of(path, addresses):
+    """For each address the symbol whose code it is in, and where that begins."""
+    symbols, found = symbols_in(path), {}
+    starts = [start for start, _, _ in symbols]
+    for address in addresses:
+        at = bisect_right(starts, address) - 1
+        if at >= 0 and address - starts[at] < symbols[at][1]:
+            found[address] = symbols[at][2], starts[at]
+    plain = demangled(sorted({name for name, _ in found.values()}))
+    return {address: (short_name(plain.get(name, name)), start) for address, (name, start) in found.items()}
+
+
+class Module:
+    """A program or library of a log: the calls of its frames, whether it can be read, and whether a line is known of one."""
+
+    def __init__(self, name, offsets):
+        # A name may stand as it is, or with its odd bytes told.
+        self.path = name if os.path.isfile(name) else path_of(name).decode("utf-8", "surrogateescape")
+        base = base_of(self.path) if os.path.isfile(self.path) else None
+        self.is_object = base is not None
+        addresses = {} if base is None else {offset: base + offset - 1 for offset in offsets}
+        lines = lines_of(self.path, addresses.values()) if addresses else {}
+        self.has_lines = bool(lines)
+        missing = [address for address in addresses.values() if address not in lines]
+        symbols = symbols_of(self.path, missing) if missing else {}
+        self.calls = {}
+        for offset in offsets:
+            address = addresses.get(offset)
+            self.calls[offset] = [Call(*call, self.path, 0) for call in lines.get(address, [])] or [self.by_symbol(offset, address, symbols)]
+
+    @property
+    def lacks_lines(self):
+        """Whether it is one of the program's, and has no debug information."""
+        return (self.is_object and not self.has_lines and not STANDARD_MODULE.match(os.path.basename(self.path))
+                and ".debug_line" not in output_of(["readelf", "-SW", "--", self.path]))
+
+    def by_symbol(self, offset, address, symbols):
+        """The call at an address that has no line."""
+        name, start = symbols.get(address, ("", None))
+        return Call(name, "", 0, self.path, offset if start is None else address + 1 - start)
+
+
+class Names:
+    """The calls of all frames. Each module is asked once."""
+
+    def __init__(self, frames):
+        offsets = defaultdict(set)
+        for frame in frames:
+            offsets[frame.module].add(frame.offset)
+        with ThreadPoolExecutor(4) as pool:
+            self.modules = dict(zip(offsets, pool.map(lambda name: Module(name, sorted(offsets[name])), offsets)))
+
+    def calls(self, frame):
+        """The calls of a frame, innermost first: at least one."""
+        return self.modules[frame.module].calls[frame.offset]

@@ -1,0 +1,102 @@
+"""Sites that are known and left out: suppressions of valgrind's Memcheck (`Memcheck:Leak`, `fun:`, `obj:`, `...`), and `leak:` lines of
+LeakSanitizer."""
+import re
+from dataclasses import dataclass
+from fnmatch import fnmatchcase
+
+from names import demangled, short_name
+
+ALLOCATORS = ("malloc", "calloc", "realloc", "memalign", "aligned_alloc", "posix_memalign", "_Znwm", "_Znam")
+ANY_FRAMES = "..."
+
+
+class Malformed(Exception):
+    """A line that is no part of a suppression."""
+
+
+@dataclass(frozen=True)
+class AnyCall:
+    """LeakSanitizer's: a text that stands in the function, file or module of any call."""
+    pattern: re.Pattern
+
+    def matches(self, calls):
+        return any(self.pattern.search(text) for call in calls for text in (call.function, call.file, call.module) if text)
+
+
+@dataclass(frozen=True)
+class FirstCalls:
+    """Valgrind's: patterns of the innermost calls, each with its kind."""
+    frames: tuple
+
+    def matches(self, calls):
+        return matches_from(self.frames, calls)
+
+
+def matches_from(frames, calls):
+    """Whether calls begin as these frames have it."""
+    if not frames:
+        return True
+    kind, pattern = frames[0]
+    if kind == ANY_FRAMES:
+        return any(matches_from(frames[1:], calls[at:]) for at in range(len(calls) + 1))
+    text = calls[0].module if calls and kind == "obj" else calls[0].function if calls else ""
+    return bool(text) and fnmatchcase(text, pattern) and matches_from(frames[1:], calls[1:])
+
+
+def any_call(text):
+    """A pattern of LeakSanitizer: `*` is any text, `^` and `$` are the ends of a name."""
+    front, back = text.startswith("^"), text.endswith("$")
+    body = ".*".join(re.escape(part) for part in text[front:len(text) - back].split("*"))
+    return AnyCall(re.compile(("^" if front else "") + body + ("$" if back else "")))
+
+
+def frame_of(line):
+    """A line of a suppression of valgrind: its kind and its pattern."""
+    kind, _, pattern = line.partition(":")
+    if line == ANY_FRAMES:
+        return ANY_FRAMES, ""
+    if kind == "fun":
+        return kind, short_name(demangled([pattern])[pattern]) if pattern.startswith("_Z") and "*" not in pattern else pattern
+    if kind == "obj":
+        return kind, pattern
+    raise Malformed(line)
+
+
+def first_calls(lines):
+    """The suppression of lines between braces: its name, its kind, and frames; or nothing where it is of no leak. The call of malloc in
+    front isn't told in a stack."""
+    if len(lines) < 3 or ":" not in lines[1]:
+        raise Malformed(lines[0] if lines else "}")
+    if not lines[1].split(":")[1].startswith("Leak"):
+        return None
+    frames = [line for line in lines[2:] if not line.startswith("match-leak-kinds:")]
+    if frames and frames[0].startswith("fun:") and any(fnmatchcase(name, frames[0][4:]) for name in ALLOCATORS):
+        frames = frames[1:]
+    return FirstCalls(tuple(frame_of(line) for line in frames))
+
+
+def read_suppressions(text):
+    """The suppressions of a file, of either form."""
+    found, block = [], None
+    for line in (line.strip() for line in text.splitlines()):
+        if not line or line.startswith("#"):
+            continue
+        if line == "{" and block is None:
+            block = []
+        elif line == "}" and block is not None:
+            found.append(first_calls(block))
+            block = None
+        elif block is not None:
+            block.append(line)
+        elif line.startswith("leak:") and len(line) > 5:
+            found.append(any_call(line[5:]))
+        else:
+            raise Malformed(line)
+    if block is not None:
+        raise Malformed("{ without its }")
+    return [suppression for suppression in found if suppression]
+
+
+def is_known(suppressions, calls):
+    """Whether the calls of a stack are of a known site."""
+    return any(suppression.matches(calls) for suppression in suppressions)

@@ -1,0 +1,33 @@
+"""Stacks as they are told: the program's own calls, and those of the standard library between them as one."""
+from itertools import groupby
+
+
+def calls_of(names, frames):
+    """All calls of the frames of a stack, innermost first."""
+    return [call for frame in frames for call in names.calls(frame)]
+
+
+def without_start(calls):
+    """Calls up to the last that isn't of the standard library, whose others start a program or a thread. `main` without a line, which
+    called one of these, is that of Rust."""
+    own = [k for k, call in enumerate(calls) if not call.is_standard]
+    if len(own) > 1 and own[-1] == len(calls) - 1 and calls[-1].function == "main" and not calls[-1].file and calls[-2].is_standard:
+        own.pop()
+    return calls[:own[-1] + 1] if own else calls
+
+
+def folded(calls):
+    """Calls of the standard library as one: that which the program called."""
+    named = next((call for call in reversed(calls) if call.function), calls[-1])
+    return f"{named.function or named.told()} .."
+
+
+def told_calls(calls, all_frames=False, paths=False):
+    """A stack's calls as they are told, innermost first."""
+    if all_frames or all(call.is_standard for call in calls):
+        return [call.told(paths) for call in calls]
+    told = []
+    for is_standard, group in groupby(without_start(calls), lambda call: call.is_standard):
+        run = list(group)
+        told += [folded(run)] if is_standard and len(run) > 1 else [call.told(paths) for call in run]
+    return told
