@@ -1,6 +1,7 @@
 """The names of frames: function, file and line, by binutils. Frames in inlined calls have several."""
 import os
 import re
+import shutil
 import subprocess
 from bisect import bisect_right
 from collections import defaultdict
@@ -120,6 +121,21 @@ def lines_of(path, addresses):
     return found
 
 
+def debug_file_of(path):
+    """The file of debug information that debuginfod's client has for a program or library, by its build id; or nothing. The client is
+    asked only where a server is named, as it is itself."""
+    if not os.environ.get("DEBUGINFOD_URLS") or not shutil.which("debuginfod-find"):
+        return None
+    build_id = re.search(r"Build ID: ([0-9a-f]+)", output_of(["readelf", "-n", "--", path]))
+    found = output_of(["debuginfod-find", "debuginfo", build_id[1]]).strip() if build_id else ""
+    return found if os.path.isfile(found) else None
+
+
+def has_line_table(path):
+    """Whether a file has debug information that tells lines."""
+    return ".debug_line" in output_of(["readelf", "-SW", "--", path])
+
+
 def demangled(names):
     """Each name as its language has it."""
     return dict(zip(names, output_of(["c++filt"], "".join(name + "\n" for name in names)).splitlines()))
@@ -157,7 +173,7 @@ class Module:
         base = base_of(self.path) if os.path.isfile(self.path) else None
         self.is_object = base is not None
         addresses = {} if base is None else {offset: base + offset - 1 for offset in offsets}
-        lines = lines_of(self.path, addresses.values()) if addresses else {}
+        lines = self.lines_at(addresses.values()) if addresses else {}
         self.has_lines = bool(lines)
         missing = [address for address in addresses.values() if address not in lines]
         symbols = symbols_of(self.path, missing) if missing else {}
@@ -170,7 +186,13 @@ class Module:
     def lacks_lines(self):
         """Whether it is one of the program's, and has no debug information."""
         return (self.is_object and not self.has_lines and not STANDARD_MODULE.match(os.path.basename(self.path))
-                and ".debug_line" not in output_of(["readelf", "-SW", "--", self.path]))
+                and not has_line_table(self.path))
+
+    def lines_at(self, addresses):
+        """The calls at addresses whose lines are known: by the file, by debug information that is installed for it, or by debuginfod."""
+        lines = lines_of(self.path, addresses)
+        debug_file = None if lines or has_line_table(self.path) else debug_file_of(self.path)
+        return lines_of(debug_file, addresses) if debug_file else lines
 
     def by_symbol(self, offset, address, symbols):
         """The call at an address that has no line."""
