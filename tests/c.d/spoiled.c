@@ -66,17 +66,19 @@ static void calls(tlsf_heap *heap, struct run *run, uint32_t from, unsigned many
 }
 
 /* The bytes of a record that mean something, the others as zeros: of a vacant one the next, of a
- * live one no links of lists. Each state but vacant and free is live. */
+ * live one no links of lists. Each state but vacant and live is free. */
 static void meaning(const unsigned char *record, unsigned char told[RECORD])
 {
+    enum { VACANT = 0, LIVE = 2 };
     unsigned state = record[4] & 15u;
     memcpy(told, record, RECORD);
-    if (state > 1) {
-        told[4] |= 15u;
+    if (state == LIVE) {
         memset(told + 12, 0, 4);
-    } else if (state == 0) {
+    } else if (state == VACANT) {
         memset(told, 0, RECORD);
         memcpy(told + 10, record + 10, 2);
+    } else {
+        told[4] |= 15u;
     }
 }
 
