@@ -243,6 +243,19 @@ fn settings_beside_no_heap(rt: HostRuntime) -> Result<(), Fail> {
         ["tlsf", "peak", "--no-heap", "--no-heap", "a.log"],
         ["tlsf", "walk", "--no-heap", "--", "a.log"],
         ["tlsf", "sites", "--no-heap", "--", "a.log"],
+    ] {
+        let words = strings(alloc, &words)?;
+        let Err(ToolFault::Usage(_)) = command(alloc, words.as_slice()) else {
+            panic!(rt; "taken");
+        };
+    }
+    Ok(())
+}
+
+#[test]
+fn settings_beside_calls(rt: HostRuntime) -> Result<(), Fail> {
+    let alloc = rt.alloc();
+    for words in [
         ["tlsf", "sites", "--calls", "--pool=4096", "a.log"],
         ["tlsf", "sites", "--pools=1", "--calls", "a.log"],
         ["tlsf", "sites", "--records=9", "--calls", "a.log"],
