@@ -42,6 +42,7 @@ mod SiteLemmas
 mod SiteRows
 mod SitesBySlot
 mod SitesLemmas
+mod SizePartsLemmas
 mod SlotLemmas
 mod SortedLemmas
 mod OneLineMore

@@ -32,6 +32,7 @@ pub mod Settings
 pub mod Shares
 pub mod Sites
 pub mod Size
+pub mod SizeParts
 pub mod Started
 pub mod Step
 pub mod Survey
