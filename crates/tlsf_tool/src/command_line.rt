@@ -19,10 +19,11 @@ const VERSION: &str = "1.0.0";
 
 /// What `tlsf` is for.
 const ABOUT: &str =
-    "Replays a log of glibc's tracer mtrace(3) on a heap, and reports what it finds.";
+    "Tells who holds a program's memory, what leaks, and how large a pool it needs, from a log of tlsf-trace or of glibc's mtrace(3).";
 
 /// The end of the program's help.
 const EXAMPLES: &str = "Examples:
+  tlsf-trace -o a.log ./program             the log of a program, with the stack of each call
   tlsf sites a.log                          who holds the memory of a.log, at its peak and at its end
   tlsf timeline a.log                       what a.log holds over its lines
   tlsf leaks a.log                          what is not freed at the end of a.log
