@@ -60,11 +60,7 @@ fn size_of(bounds: Bounds) -> Option<u32>
 fn sure_of(bounds: Bounds) -> Option<u64>
     ensures { result ≡ sure_pool bounds.blocks (blocks_bytes bounds.blocks bounds.largest bounds.bytes) (class_size (align_of bounds) bounds.largest) }
 {
-    sure_pool(
-        u64::from(bounds.blocks),
-        bytes_of(bounds),
-        size_of(bounds),
-    )
+    sure_pool(u64::from(bounds.blocks), bytes_of(bounds), size_of(bounds))
 }
 
 /// The bytes of one pool that is always enough for blocks of one size alone. `None` where no pool is so large.

@@ -1,4 +1,4 @@
-use Rattle.std.proofs.Common.{List, [], ◌∷◌, ℕ, refl, ◌≡◌, ◌++◌, length, map, flat_map, codes, sym, subst, ap, ◌∙◌, append_assoc}
+use Rattle.std.proofs.Common.{List, ℕ, ◌≡◌, ◌++◌, length, map, flat_map, codes, sym, subst, ap, ◌∙◌, append_assoc}
 use Rattle.std.proofs.lemmas.List.{length-map}
 use Rattle.mtrace_log.specs.Output.{Puts, PutsPart, PutsAll}
 use Rattle.mtrace_log.proofs.Writing.{puts_then, fails_early, puts_exit}
