@@ -3,6 +3,8 @@ import os
 import re
 import shutil
 import subprocess
+import sys
+from array import array
 from bisect import bisect_right
 from collections import defaultdict
 from concurrent.futures import ThreadPoolExecutor
@@ -74,6 +76,8 @@ class Call:
     line: int
     module: str
     offset: int
+    # Where its function begins in the module, of one without a name; 0 where that isn't known.
+    start: int = 0
 
     @property
     def is_standard(self):
@@ -164,6 +168,22 @@ def symbols_of(path, addresses):
     return {address: (short_name(plain.get(name, name)), start) for address, (name, start) in found.items()}
 
 
+def starts_of(path):
+    """Where each function of a file begins, by the table that exceptions are thrown with, which no stripping takes away."""
+    found = re.search(r" \.eh_frame_hdr +\S+ +([0-9a-f]+) ([0-9a-f]+) ([0-9a-f]+)", output_of(["readelf", "-SW", "--", path]))
+    if not found:
+        return []
+    address, offset, size = (int(number, 16) for number in found.groups())
+    with open(path, "rb") as file:
+        file.seek(offset)
+        table = file.read(size)
+    # Version 1, a count of four bytes, and pairs of four bytes from the table's own begin.
+    if len(table) < 12 or table[0] != 1 or table[2:4] != b"\x03\x3b":
+        return []
+    pairs = array("i", table[12:12 + 8 * int.from_bytes(table[8:12], sys.byteorder)])
+    return [address + start for start in pairs[::2]]
+
+
 class Module:
     """A program or library of a log: the calls of its frames, whether it can be read, and whether a line is known of one."""
 
@@ -177,7 +197,8 @@ class Module:
         self.has_lines = bool(lines)
         missing = [address for address in addresses.values() if address not in lines]
         symbols = symbols_of(self.path, missing) if missing else {}
-        self.calls = {}
+        self.starts = starts_of(self.path) if len(symbols) < len(missing) else []
+        self.base, self.calls = base or 0, {}
         for offset in offsets:
             address = addresses.get(offset)
             self.calls[offset] = [Call(*call, self.path, 0) for call in lines.get(address, [])] or [self.by_symbol(offset, address, symbols)]
@@ -197,7 +218,8 @@ class Module:
     def by_symbol(self, offset, address, symbols):
         """The call at an address that has no line."""
         name, start = symbols.get(address, ("", None))
-        return Call(name, "", 0, self.path, offset if start is None else address + 1 - start)
+        at = bisect_right(self.starts, address) - 1 if address is not None and start is None else -1
+        return Call(name, "", 0, self.path, offset if start is None else address + 1 - start, self.starts[at] - self.base if at >= 0 else 0)
 
 
 class Names:
