@@ -158,7 +158,7 @@ class Chart {
   }
 
   listen() {
-    new ResizeObserver(() => { if (this.width !== widthOf(this.box)) this.redraw(); }).observe(this.box);
+    window.addEventListener("resize", () => { if (this.width !== widthOf(this.box)) this.redraw(); });
     this.svg.addEventListener("pointerdown", (event) => {
       this.dragged = this.pointAt(event);
       this.svg.setPointerCapture(event.pointerId);

@@ -15,7 +15,7 @@ class Flame {
       this.zoom(this.root);
     }), this.svg, this.told);
     this.svg.addEventListener("keydown", (event) => this.key(event));
-    new ResizeObserver(() => { if (this.width !== widthOf(home)) this.zoom(this.from); }).observe(home);
+    window.addEventListener("resize", () => { if (this.width !== widthOf(home)) this.zoom(this.from); });
     this.zoom(this.root);
   }
 

@@ -3,7 +3,7 @@ import os
 import re
 from collections import defaultdict
 from dataclasses import dataclass
-from urllib.parse import unquote_to_bytes
+from functools import lru_cache
 
 from names import OPERATOR, Names, end_of_type
 from stacks import frames_of, text_of
@@ -19,9 +19,10 @@ MANY_CALLERS, MOST_WRAPPERS = 8, 6
 NO_NAME = "(no location)"
 
 
-def raw(text):
-    """The bytes of a text that a log or binutils gave."""
-    return os.fsencode(text)
+@lru_cache(maxsize=None)
+def told_text(text):
+    """A text that a log or binutils gave, as it is shown."""
+    return shown(os.fsencode(text))
 
 
 def without_types(name):
@@ -42,6 +43,7 @@ def without_types(name):
     return "".join(kept)
 
 
+@lru_cache(maxsize=None)
 def brief(name):
     """The last two parts of a function's name, as `Arena::grow` of `<core_arena::Arena<T> as Grow>::grow`."""
     if name.startswith("<"):
@@ -50,6 +52,12 @@ def brief(name):
     parts = [part for part in without_types(name).split("::") if part] or [name]
     count = next((count for count in range(2, len(parts)) if not parts[-count + 1].startswith("{")), len(parts))
     return "::".join(parts[-count:])
+
+
+@lru_cache(maxsize=None)
+def only_allocates(name):
+    """Whether a function is named for asking for memory alone."""
+    return bool(ALLOCATES.search(brief(name).rpartition("::")[2]))
 
 
 @dataclass(frozen=True)
@@ -74,7 +82,7 @@ def own_call(calls, general=frozenset()):
     call it; else the first of its own, or of all."""
     own = [call for call in calls if not call.is_standard]
     return next((call for call in own if (call.module, call.start) not in general
-                 and not (call.function and ALLOCATES.search(brief(call.function).rpartition("::")[2]))), (own or calls)[0])
+                 and not (call.function and only_allocates(call.function))), (own or calls)[0])
 
 
 def general_functions(stacks):
@@ -98,14 +106,15 @@ def general_functions(stacks):
 
 def function_of(call):
     """The function of a call. One without a name is told by where it begins in its module."""
-    module = shown(raw(os.path.basename(call.module)))
+    module = told_text(os.path.basename(call.module))
     if call.function:
-        return Function(shown(raw(call.function)), shown(raw(os.path.basename(call.file))), module)
+        return Function(told_text(call.function), told_text(os.path.basename(call.file)), module)
     if call.file:
-        return Function("", shown(raw(os.path.basename(call.file))), module)
+        return Function("", told_text(os.path.basename(call.file)), module)
     return Function(f"{module}:[0x{call.start or call.offset:x}]", "", module)
 
 
+@lru_cache(maxsize=None)
 def brief_frame(told):
     """A frame as source-lines tells it, with a brief name."""
     head, space, place = told.rpartition(" ")
@@ -135,11 +144,11 @@ class Functions:
 
     def __init__(self, stacks, locations, named):
         self.frames = {location: stacks.frames(text_of(location)) or frames_of(text_of(location)) for location in locations if location}
-        self.whole = {location: raw(stacks.whole(text_of(location))) for location in locations}
+        self.whole = {location: os.fsencode(stacks.whole(text_of(location))) for location in locations}
         self.names = Names({frame for frames in self.frames.values() for frame in frames}) if named else None
         self.calls = {tuple(frames): calls_of(self.names, frames) for frames in self.frames.values() if self.is_named(frames)}
         self.general = general_functions(self.calls.values())
-        told = {}
+        told, self.labels = {}, {}
         self.sites = [self.site(location, told) for location in locations]
         lines = defaultdict(set)
         for site in self.sites:
@@ -159,12 +168,18 @@ class Functions:
         if key not in told:
             calls = self.calls[key]
             call = own_call(calls, self.general)
-            names = tuple(shown(raw(name)) for name in told_calls(calls))
+            names = tuple(told_text(name) for name in told_calls(calls))
             told[key] = Site(function_of(call), call.line, names, tuple(map(brief_frame, names)))
         return told[key]
 
     def label(self, function):
         """A function's short name: `Arena::grow arena.rs:210`, with the line where it is one."""
+        if function not in self.labels:
+            self.labels[function] = self.new_label(function)
+        return self.labels[function]
+
+    def new_label(self, function):
+        """The same, made."""
         line = self.one_line.get(function)
         place = function.file + (f":{line}" if function.file and line else "")
         return " ".join(filter(None, (brief(function.name) if function.file or self.names else function.name, place))) or NO_NAME
@@ -172,5 +187,5 @@ class Functions:
     def newer_than(self, written):
         """Programs and libraries that were changed behind a time, whose functions are told."""
         modules = self.names.modules.values() if self.names else []
-        return sorted(shown(raw(module.path)) for module in modules
+        return sorted(told_text(module.path) for module in modules
                       if module.is_object and os.stat(module.path).st_mtime_ns > written)

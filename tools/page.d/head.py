@@ -26,25 +26,36 @@ def kept_growth(log, values):
 
 
 def slope(log, values):
-    """Bytes a line over the last half of the lines, by the line that is nearest to all its points."""
+    """Bytes in 1,000 lines over the last half of the log, by the line that is nearest to all its points."""
     points = [(row[0], value) for row, value in zip(log.rows, values) if 2 * row[0] >= log.lines]
     middle = sum(line for line, _ in points) / len(points)
     spread = sum((line - middle) ** 2 for line, _ in points)
-    return sum((line - middle) * value for line, value in points) / spread if spread else 0
+    return 1000 * sum((line - middle) * value for line, value in points) / spread if spread else 0
 
 
 def grown_most(log, groups):
-    """The group that grows most and keeps what it grew to, in words."""
-    best = None
+    """The group that grows most and keeps what it grew to, in words; and the one that grows fastest over the last half, where that is
+    another. No group grows by more than it ever held."""
+    grows = []
     for group, values in zip(groups, series_of(log, groups)):
-        grown, low = kept_growth(log, values)
-        if values[-1] and grown > 0 and (best is None or grown > best[0]):
-            best = grown, low, group, values
-    if best is None:
+        if values[-1] and max(values) > (grows[0][0] if grows else 0):
+            grown, low = kept_growth(log, values)
+            if grown > 0:
+                grows.append((grown, low, group, values))
+                grows.sort(key=lambda entry: -entry[0])
+    if not grows:
         return "Nothing: what grew was given back."
-    _, low, group, values = best
+    _, low, group, values = grows[0]
+    steady = max(grows[:20], key=lambda entry: slope(log, entry[3]))
     return f"{group.told}: {counted(values[low], 'byte')} after line {log.rows[low][0]:,}, {values[-1]:,} at the end; " \
-        f"over the last half {1000 * slope(log, values):+,.0f} bytes in 1,000 lines."
+        f"over the last half {slope_words(log, values)}." + \
+        (f" Fastest over the last half: {steady[2].told}, {slope_words(log, steady[3])}." if steady[2] is not group else "")
+
+
+def slope_words(log, values):
+    """A slope, in words."""
+    told = round(slope(log, values))
+    return f"{told:+,} bytes in 1,000 lines" if told else "it stays as it is"
 
 
 def head_lines(log, choice):

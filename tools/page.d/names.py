@@ -9,6 +9,7 @@ from bisect import bisect_right
 from collections import defaultdict
 from concurrent.futures import ThreadPoolExecutor
 from dataclasses import dataclass
+from functools import cached_property
 
 from stacks import path_of
 
@@ -79,7 +80,7 @@ class Call:
     # Where its function begins in the module, of one without a name; 0 where that isn't known.
     start: int = 0
 
-    @property
+    @cached_property
     def is_standard(self):
         """Whether it is of the standard library: by its module, its file, or its name where no file is known."""
         return bool(STANDARD_MODULE.match(os.path.basename(self.module))
