@@ -59,6 +59,56 @@ function bandsOf(groups) {
   return bands;
 }
 
+// Where lines and bytes stand in a drawing that is as wide as its home.
+class Frame {
+  constructor(home, span, most) {
+    this.width = widthOf(home);
+    this.narrow = this.width < 600;
+    this.left = this.narrow ? 52 : 80;
+    this.right = this.width - 16;
+    this.bottom = this.narrow ? 220 : 300;
+    this.height = this.bottom + 40;
+    this.span = span;
+    this.most = Math.max(1, Math.floor(1.08 * most));
+  }
+
+  x(line) {
+    return this.left + (this.right - this.left) * line / this.span;
+  }
+
+  y(value) {
+    return this.bottom - (this.bottom - TOP) * value / this.most;
+  }
+
+  // Bytes at the left, and below what `named` tells of each tick.
+  axes(named, words) {
+    const parts = [];
+    for (const value of ticks(this.most, 6)) {
+      parts.push(draw("path", { class: "grid", d: `M${this.left} ${this.y(value)}H${this.right}` }),
+        draw("text", { x: this.left - 6, y: this.y(value), dy: 4, "text-anchor": "end" }, shortBytes(value, this.most, this.narrow)));
+    }
+    for (const line of ticks(this.span, this.narrow ? 3 : 6)) {
+      const x = this.x(line), atEnd = x > this.right - 30;
+      parts.push(draw("path", { class: "grid", d: `M${x} ${this.bottom}v5` }), draw("text", { x: atEnd ? this.width - 1 : x, y: this.bottom + 18,
+        "text-anchor": atEnd ? "end" : "middle" }, named(line)));
+    }
+    return [...parts, draw("text", { class: "soft", x: (this.left + this.right) / 2, y: this.bottom + 35, "text-anchor": "middle" }, words)];
+  }
+
+  // A path along values, from line to line.
+  steps(lines, values) {
+    return values.map((value, at) => at ? `H${this.x(lines[at]).toFixed(1)}V${this.y(value).toFixed(1)}`
+      : `M${this.x(lines[0]).toFixed(1)} ${this.y(value).toFixed(1)}`).join("");
+  }
+
+  // The same path from its end to its begin.
+  back(lines, values) {
+    const parts = [`V${this.y(values[values.length - 1]).toFixed(1)}`];
+    for (let at = values.length - 1; at > 0; at--) parts.push(`H${this.x(lines[at]).toFixed(1)}V${this.y(values[at - 1]).toFixed(1)}`);
+    return `${parts.join("")}Z`;
+  }
+}
+
 class Chart {
   constructor(changed) {
     this.changed = changed;
@@ -88,46 +138,17 @@ class Chart {
 
   // Draws the chart for the width that there is.
   redraw() {
-    this.width = widthOf(this.box);
-    this.narrow = this.width < 600;
-    this.left = this.narrow ? 52 : 80;
-    this.right = this.width - 16;
-    this.bottom = this.narrow ? 220 : 300;
-    this.most = Math.max(1, Math.floor(1.08 * Math.max(...data.points.map((point) => Math.max(point[1], point[3] || 0)))));
-    this.svg.setAttribute("viewBox", `0 0 ${this.width} ${this.bottom + 40}`);
-    this.svg.replaceChildren(...this.axes(), ...this.areas(), ...this.marks(), this.shade, this.cursor);
+    const most = Math.max(...data.points.map((point) => Math.max(point[1], point[3] || 0)));
+    this.frame = new Frame(this.box, this.span, most);
+    const seconds = data.ages.length && !this.frame.narrow;
+    const axes = this.frame.axes((line) => told(line) + (seconds ? ` · ${secondsAt(line).toFixed(1)} s` : ""),
+      seconds ? "line of the log, and seconds since it began" : "line of the log");
+    this.svg.setAttribute("viewBox", `0 0 ${this.frame.width} ${this.frame.height}`);
+    this.svg.replaceChildren(...axes, ...this.areas(), ...this.marks(), this.shade, this.cursor);
     this.shade.setAttribute("y", TOP);
-    this.shade.setAttribute("height", this.bottom - TOP);
+    this.shade.setAttribute("height", this.frame.bottom - TOP);
     this.cover();
     if (this.cursor.getAttribute("visibility") === "visible") this.tell(this.at);
-  }
-
-  axes() {
-    const parts = [];
-    for (const value of ticks(this.most, 6)) {
-      parts.push(draw("path", { class: "grid", d: `M${this.left} ${this.y(value)}H${this.right}` }),
-        draw("text", { x: this.left - 6, y: this.y(value), dy: 4, "text-anchor": "end" }, shortBytes(value, this.most, this.narrow)));
-    }
-    for (const line of ticks(this.span, this.narrow ? 3 : 6)) {
-      const x = this.left + (this.right - this.left) * line / this.span, atEnd = x > this.right - 30;
-      const seconds = data.ages.length && !this.narrow ? ` · ${secondsAt(line).toFixed(1)} s` : "";
-      parts.push(draw("path", { class: "grid", d: `M${x} ${this.bottom}v5` }), draw("text", { x: atEnd ? this.width - 1 : x, y: this.bottom + 18,
-        "text-anchor": atEnd ? "end" : "middle" }, told(line) + seconds));
-    }
-    const words = data.ages.length && !this.narrow ? "line of the log, and seconds since it began" : "line of the log";
-    return [...parts, draw("text", { class: "soft", x: (this.left + this.right) / 2, y: this.bottom + 35, "text-anchor": "middle" }, words)];
-  }
-
-  // A path along values, from point to point.
-  steps(values) {
-    return values.map((value, point) => point ? `H${this.x(point).toFixed(1)}V${this.y(value).toFixed(1)}`
-      : `M${this.x(0).toFixed(1)} ${this.y(value).toFixed(1)}`).join("");
-  }
-
-  back(values) {
-    const parts = [`V${this.y(values[this.last]).toFixed(1)}`];
-    for (let point = this.last; point > 0; point--) parts.push(`H${this.x(point).toFixed(1)}V${this.y(values[point - 1]).toFixed(1)}`);
-    return `${parts.join("")}Z`;
   }
 
   // The bands, one on the other, each named on hovering.
@@ -135,30 +156,28 @@ class Chart {
     let below = this.lines.map(() => 0);
     return this.bands.map((band) => {
       const above = band.values.map((value, point) => value + below[point]);
-      const path = draw("path", { class: band.name, d: this.steps(above) + this.back(below) }, draw("title", {}, band.told));
+      const path = draw("path", { class: band.name, d: this.frame.steps(this.lines, above) + this.frame.back(this.lines, below) }, draw("title", {}, band.told));
       below = above;
       return path;
     });
   }
 
   marks() {
-    const parts = [], x = this.x(data.peak), behind = x > (this.left + this.right) / 2, [line, bytes] = data.points[data.peak];
-    if (data.fits) parts.push(draw("path", { class: "reach", d: this.steps(data.points.map((point) => point[3])) }));
-    if (!bytes) return parts;
-    return [...parts, draw("path", { class: "mark", d: `M${x} ${TOP}V${this.bottom}` }), draw("text", { class: "marked", x: x + (behind ? -6 : 6),
-      y: TOP + 10, "text-anchor": behind ? "end" : "start" }, this.narrow ? `peak: ${counted(bytes, "byte")}` : `peak, line ${told(line)}: ${counted(bytes, "byte")}`)];
+    const { left, right, bottom, narrow } = this.frame, x = this.x(data.peak), behind = x > (left + right) / 2;
+    const [line, bytes] = data.points[data.peak];
+    const reach = data.fits ? [draw("path", { class: "reach", d: this.frame.steps(this.lines, data.points.map((point) => point[3])) })] : [];
+    if (!bytes) return reach;
+    const words = `peak${narrow ? "" : `, line ${told(line)}`}: ${counted(bytes, "byte")}`;
+    return [...reach, draw("path", { class: "mark", d: `M${x} ${TOP}V${bottom}` }),
+      draw("text", { class: "marked", x: x + (behind ? -6 : 6), y: TOP + 10, "text-anchor": behind ? "end" : "start" }, words)];
   }
 
   x(point) {
-    return this.left + (this.right - this.left) * this.lines[point] / this.span;
-  }
-
-  y(value) {
-    return this.bottom - (this.bottom - TOP) * value / this.most;
+    return this.frame.x(this.lines[point]);
   }
 
   listen() {
-    window.addEventListener("resize", () => { if (this.width !== widthOf(this.box)) this.redraw(); });
+    window.addEventListener("resize", () => { if (this.frame.width !== widthOf(this.box)) this.redraw(); });
     this.svg.addEventListener("pointerdown", (event) => {
       this.dragged = this.pointAt(event);
       this.svg.setPointerCapture(event.pointerId);
@@ -190,8 +209,8 @@ class Chart {
 
   pointAt(event) {
     const box = this.svg.getBoundingClientRect();
-    const x = (event.clientX - box.left) / box.width * this.width;
-    return this.nearest(this.span * (x - this.left) / (this.right - this.left));
+    const x = (event.clientX - box.left) / box.width * this.frame.width;
+    return this.nearest(this.span * (x - this.frame.left) / (this.frame.right - this.frame.left));
   }
 
   nearest(line) {
@@ -207,7 +226,7 @@ class Chart {
     const groups = between(0, point).filter((group) => group.numbers[AFTER]).sort((one, other) => other.numbers[AFTER] - one.numbers[AFTER]).slice(0, 5);
     const words = groups.map((group) => `${told(group.numbers[AFTER])} at ${group.told}`).join("; ");
     const heap = data.fits ? `, reach ${told(reach)}, largest free block ${told(largest)}` : "";
-    this.cursor.setAttribute("d", `M${this.x(point)} ${TOP}V${this.bottom}`);
+    this.cursor.setAttribute("d", `M${this.x(point)} ${TOP}V${this.frame.bottom}`);
     this.cursor.setAttribute("visibility", "visible");
     find("readout").replaceChildren(isolated(`Line ${told(line)}${point === data.peak && bytes ? " (peak)" : ""}: ${counted(bytes, "byte")} in ` +
       `${counted(blocks, "block")}${heap}. ${words}`));

@@ -1,7 +1,7 @@
 """The page of two logs: what grew by function."""
 from document import head_html, write_document
 from drawing import draw_shares, chart_svg
-from functions import NO_NAME, brief
+from functions import NO_NAME
 from texts import counted, escaped
 
 MOST_SITES, MOST_TEXT = 5000, 1_200_000
@@ -10,8 +10,7 @@ MOST_SITES, MOST_TEXT = 5000, 1_200_000
 def name_of(log, site):
     """What a site is compared by: its function and file, and no line, since a line that is inserted moves those behind it."""
     function = log.sites[site].function
-    place = function.file or (function.module if log.functions.names and function.name and not function.name.startswith(function.module) else "")
-    return " ".join(filter(None, (brief(function.name) if log.functions.names else function.name, place))) or NO_NAME
+    return " ".join(filter(None, (function.short, function.file))) or NO_NAME
 
 
 def sums_by_name(log):
@@ -96,7 +95,9 @@ def grown_words(row, at):
 
 
 def comparison_of(folder, old, new):
-    """The page."""
+    """The page. What only asks for memory in one log does so in the other."""
+    for log in (old, new):
+        log.tell_by(old.functions.general | new.functions.general)
     rows = rows_of(old, new)
     data = {"rows": kept_rows(rows), "all": all_rows(old, new), "points": [[list(row[:3]) for row in log.rows] for log in (old, new)]}
     chart = draw_shares([[(row[0], row[1]) for row in log.rows] for log in (old, new)], ("old", "new"))

@@ -62,8 +62,10 @@ def only_allocates(name):
 
 @dataclass(frozen=True)
 class Function:
-    """A function of the program's own: its whole name, the file that has it, or nothing, and its module."""
+    """A function of the program's own: its whole name, a brief one, the file that has it, or nothing, and its module. What has no name
+    is told by a place."""
     name: str
+    short: str
     file: str
     module: str
 
@@ -108,10 +110,11 @@ def function_of(call):
     """The function of a call. One without a name is told by where it begins in its module."""
     module = told_text(os.path.basename(call.module))
     if call.function:
-        return Function(told_text(call.function), told_text(os.path.basename(call.file)), module)
+        return Function(told_text(call.function), told_text(brief(call.function)), told_text(os.path.basename(call.file)), module)
     if call.file:
-        return Function("", told_text(os.path.basename(call.file)), module)
-    return Function(f"{module}:[0x{call.start or call.offset:x}]", "", module)
+        return Function("", "", told_text(os.path.basename(call.file)), module)
+    place = f"{module}:[0x{call.start or call.offset:x}]"
+    return Function(place, place, "", module)
 
 
 @lru_cache(maxsize=None)
@@ -136,7 +139,7 @@ def plain_site(location):
         frames = [location]
     told = tuple(map(site_name, frames))
     of = shown(modules[0]) if modules else shown(location.partition(b":")[0]) or NO_NAME
-    return Site(Function(told[0], "", of), 0, told, told)
+    return Site(Function(told[0], told[0], "", of), 0, told, told)
 
 
 class Functions:
@@ -147,8 +150,11 @@ class Functions:
         self.whole = {location: os.fsencode(stacks.whole(text_of(location))) for location in locations}
         self.names = Names({frame for frames in self.frames.values() for frame in frames}) if named else None
         self.calls = {tuple(frames): calls_of(self.names, frames) for frames in self.frames.values() if self.is_named(frames)}
-        self.general = general_functions(self.calls.values())
-        told, self.labels = {}, {}
+        self.tell_by(locations, general_functions(self.calls.values()))
+
+    def tell_by(self, locations, general):
+        """The site of each location, where the functions that only ask for memory are known."""
+        self.general, self.labels, told = general, {}, {}
         self.sites = [self.site(location, told) for location in locations]
         lines = defaultdict(set)
         for site in self.sites:
@@ -182,7 +188,7 @@ class Functions:
         """The same, made."""
         line = self.one_line.get(function)
         place = function.file + (f":{line}" if function.file and line else "")
-        return " ".join(filter(None, (brief(function.name) if function.file or self.names else function.name, place))) or NO_NAME
+        return " ".join(filter(None, (function.short, place))) or NO_NAME
 
     def newer_than(self, written):
         """Programs and libraries that were changed behind a time, whose functions are told."""

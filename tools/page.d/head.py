@@ -5,6 +5,8 @@ from texts import counted
 TENTHS = 10
 # So many groups are named for the peak and for the end.
 NAMED = 3
+# So many groups are looked at for the one that grows.
+MOST_LOOKED_AT = 1000
 KIND_NAMES = ("too long", "not a line", "not held", "already held", "refused", "half of a reallocation", "no < before >")
 
 
@@ -15,7 +17,7 @@ def greatest(log, groups, part):
     return "; ".join(f"{told}: {number:,} ({100 * number / whole:.0f} %)" for number, told in held[:NAMED] if number)
 
 
-def kept_growth(log, values):
+def kept_growth(values):
     """By how much a group's bytes grew and stay: the least of the last tenth of the lines over the least before. Of the first tenth it is
     what is held at its end, since what a program takes at its start is no growth. And the point of that least."""
     edges = [-(-tenth * len(values) // TENTHS) for tenth in range(TENTHS + 1)]
@@ -34,28 +36,25 @@ def slope(log, values):
 
 
 def grown_most(log, groups):
-    """The group that grows most and keeps what it grew to, in words; and the one that grows fastest over the last half, where that is
-    another. No group grows by more than it ever held."""
-    grows = []
-    for group, values in zip(groups, series_of(log, groups)):
-        if values[-1] and max(values) > (grows[0][0] if grows else 0):
-            grown, low = kept_growth(log, values)
-            if grown > 0:
-                grows.append((grown, low, group, values))
-                grows.sort(key=lambda entry: -entry[0])
-    if not grows:
-        return "Nothing: what grew was given back."
-    _, low, group, values = grows[0]
-    steady = max(grows[:20], key=lambda entry: slope(log, entry[3]))
-    return f"{group.told}: {counted(values[low], 'byte')} after line {log.rows[low][0]:,}, {values[-1]:,} at the end; " \
-        f"over the last half {slope_words(log, values)}." + \
-        (f" Fastest over the last half: {steady[2].told}, {slope_words(log, steady[3])}." if steady[2] is not group else "")
+    """The group that grows most and keeps what it grew to, in words; and the one that rises fastest over the last half, where that is
+    another. Of many groups those that held most are looked at."""
+    series = sorted(zip(series_of(log, groups), groups), key=lambda entry: -max(entry[0], default=0))[:MOST_LOOKED_AT]
+    kept = [(*kept_growth(values), group, values) for values, group in series if values[-1]]
+    best = max(kept, key=lambda entry: entry[0], default=None)
+    rising = max(((slope(log, values), group) for values, group in series), key=lambda entry: entry[0], default=(0, None))
+    told = "Nothing: what grew was given back."
+    if best and best[0] > 0:
+        _, low, group, values = best
+        told = f"{group.told}: {counted(values[low], 'byte')} after line {log.rows[low][0]:,}, {values[-1]:,} at the end; " \
+            f"over the last half {slope_words(slope(log, values))}."
+        if rising[1] is group:
+            return told
+    return told + (f" Rises fastest over the last half: {rising[1].told}, {slope_words(rising[0])}." if rising[0] >= 1 else "")
 
 
-def slope_words(log, values):
+def slope_words(number):
     """A slope, in words."""
-    told = round(slope(log, values))
-    return f"{told:+,} bytes in 1,000 lines" if told else "it stays as it is"
+    return f"{round(number):+,} bytes in 1,000 lines" if round(number) else "it stays as it is"
 
 
 def head_lines(log, choice):

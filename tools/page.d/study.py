@@ -162,12 +162,22 @@ class Study:
 
     # ---- the sites that are told one by one
 
-    def keep_greatest(self):
-        """The greatest sites that are told one by one, and how many of them also between the points."""
+    def tell_by(self, general):
+        """The functions of the sites, where those that only ask for memory are known by more than this log."""
+        if general != self.functions.general:
+            self.functions.tell_by(list(self.by_calls), general)
+            self.find_functions()
+
+    def find_functions(self):
+        """The function of each site, and each function's number."""
         place = {location: row for row, location in enumerate(self.by_calls)}
         self.sites = [self.functions.sites[place[location]] if location in place else plain_site(location) for location in self.locations]
         self.function_ids = {}
         self.function_of = [self.function_ids.setdefault(site.function, len(self.function_ids)) for site in self.sites]
+
+    def keep_greatest(self):
+        """The greatest sites that are told one by one, and how many of them also between the points."""
+        self.find_functions()
         order = sorted(range(len(self.locations)), key=lambda site: (-self.most[site], -self.asked[site], self.locations[site]))
         self.times = times_of(self.path)
         kept, text, seen = [], 0, set()

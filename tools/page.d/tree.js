@@ -1,6 +1,6 @@
 // ---- the tree of calls
 
-const DIRECTIONS = { down: "who calls: from the outermost function down", up: "who is called: from the function that asks up" };
+const DIRECTIONS = { down: "who calls, top down", up: "who is called, bottom up" };
 const FIRST_NODES = 20, MOST_FOUND = 300;
 
 // A node of the tree: a function, and the rows whose stacks go through it, each with its frames. Its children are looked for when it is
