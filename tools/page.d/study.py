@@ -179,7 +179,9 @@ class Study:
         """The greatest sites that are told one by one, and how many of them also between the points."""
         self.find_functions()
         order = sorted(range(len(self.locations)), key=lambda site: (-self.most[site], -self.asked[site], self.locations[site]))
-        self.times = times_of(self.path)
+        # Of a log of less than a second no time is told.
+        times = times_of(self.path)
+        self.times = times if times and times[-1][1] >= 1000 else []
         kept, text, seen = [], 0, set()
         for site in order[:MOST_SITES]:
             frames = self.sites[site].frames
