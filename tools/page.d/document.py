@@ -193,7 +193,7 @@ def heaps_html(log):
 def no_heap_words(log):
     """Which lines the heap refused."""
     return f"The log doesn't fit one heap: the one tried refuses {counted(log.refused, 'line')}, first line {log.first_refused:,}. " \
-        "All sums of this page are those without a heap. Below are heaps by size that serve it."
+        "All sums of this page are those without a heap. Heaps by size are told below."
 
 
 def drawn_chart(log, bands):

@@ -28,11 +28,18 @@ def kept_growth(values):
 
 
 def slope(log, values):
-    """Bytes in 1,000 lines over the last half of the log, by the line that is nearest to all its points."""
-    points = [(row[0], value) for row, value in zip(log.rows, values) if 2 * row[0] >= log.lines]
+    """Bytes in 1,000 lines over the last half of the log, by the line that is nearest to all its points. What is given back when a program
+    ends is no part of it: of a group that is at its most in the last quarter points behind that are left out."""
+    end = values.index(max(values)) if is_rising(log, values) else len(values) - 1
+    points = [(row[0], value) for row, value in zip(log.rows[:end + 1], values) if 2 * row[0] >= log.lines]
     middle = sum(line for line, _ in points) / len(points)
     spread = sum((line - middle) ** 2 for line, _ in points)
     return 1000 * sum((line - middle) * value for line, value in points) / spread if spread else 0
+
+
+def is_rising(log, values):
+    """Whether a group is first at its most in the last quarter of the log."""
+    return 4 * log.rows[values.index(max(values))][0] >= 3 * log.lines
 
 
 def grown_most(log, groups):
@@ -41,7 +48,7 @@ def grown_most(log, groups):
     series = sorted(zip(series_of(log, groups), groups), key=lambda entry: -max(entry[0], default=0))[:MOST_LOOKED_AT]
     kept = [(*kept_growth(values), group, values) for values, group in series if values[-1]]
     best = max(kept, key=lambda entry: entry[0], default=None)
-    rising = max(((slope(log, values), group) for values, group in series), key=lambda entry: entry[0], default=(0, None))
+    rising = max(((slope(log, values), group) for values, group in series if is_rising(log, values)), key=lambda entry: entry[0], default=(0, None))
     told = "Nothing: what grew was given back."
     if best and best[0] > 0:
         _, low, group, values = best
@@ -77,9 +84,8 @@ def head_lines(log, choice):
 def pool_words(log):
     """What `fit` tells, in a line, and what the sure pool rests on."""
     if not log.fits:
-        parts = dict(log.parts)
         return f"No single heap serves this log: the one tried refuses {counted(log.refused, 'line')}, the first is line " \
-            f"{log.first_refused:,}. {parts.get('heaps', 'No')} heaps by size serve it: {parts.get('sum', 'none')} in all."
+            f"{log.first_refused:,}. {parts_words(dict(log.parts))}"
     fit = dict(log.fit)
     sure, safe, least = (told_pool(fit, f"{name} pool") for name in ("sure", "safe", "least"))
     tried = f", tried in steps of {log.step:,}" if log.step else ""
@@ -87,6 +93,15 @@ def pool_words(log):
         (f"safe {safe}, for this log; least {least}; {told_number(fit['records'])} records{tried}." if safe else
          "no single pool serves this log, as the largest refuses lines.") + \
         (f" The sure pool serves any log {within_words(log)}." if sure else f" {needs_words(log)}" if log.limits else "")
+
+
+def parts_words(parts):
+    """Which heaps by size serve a log, by the report of `fit --heaps`."""
+    count, sum_of_all = parts.get("heaps", "-"), told_pool(parts, "sum")
+    if not count.isdigit():
+        return "No heaps by size serve it."
+    heaps = f"{counted(int(count), 'heap')} by size"
+    return f"{heaps} serve it, with {sum_of_all} in all." if sum_of_all else f"{heaps} don't: one would need more blocks than a heap has."
 
 
 def within_words(log):
@@ -116,7 +131,7 @@ def told_number(text):
 
 def told_pool(fit, name):
     """A pool's bytes, or nothing where there is none."""
-    text = fit[name].removesuffix(" bytes")
+    text = fit.get(name, "-").removesuffix(" bytes")
     return f"{int(text):,} bytes" if text.isdigit() else ""
 
 
