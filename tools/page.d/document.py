@@ -3,13 +3,18 @@ import base64
 import hashlib
 import json
 import re
+from collections import defaultdict
+from itertools import accumulate
 
 from drawing import STYLE, chart_svg, draw_chart, heap_svg, reach_of, whole_picture
 from grouping import CHOICES, groups_of, stacked
-from head import KIND_NAMES, head_lines
+from head import head_lines
 from log import CHANGE
 from texts import counted, escaped, shown
 
+# So many changes of functions are told whose sites aren't followed. Those of the others are told by this name.
+MOST_REST_CHANGES = 25_000
+OTHERS = ["other functions", "", "other files", "other modules"]
 # The scripts of a page, in this order.
 SCRIPTS = ("page.js", "table.js", "sites.js", "tree.js", "flame.js", "chart.js", "log_page.js", "comparison.js")
 
@@ -34,26 +39,40 @@ def sites_data(log):
 
 
 def functions_data(log):
-    """Short name, whole name, file and module of each function."""
-    return [[log.functions.label(told), told.name, told.file or told.module, told.module] for told in log.function_ids]
+    """Short name, whole name, file and module of each function; and of those that share a row."""
+    return [[log.functions.label(told), told.name, told.file or told.module, told.module] for told in log.function_ids] + [OTHERS]
 
 
-def rest_rows(log, sites, first):
-    """A row for each function that has some of these sites, from a first row on: how many they are, and which row each site has."""
+def rest_rows(log, sites, first, told=None):
+    """A row for each function that has some of these sites, from a first row on: which function, how many sites, and which row each site
+    has. Where the functions to tell are given all others share a row."""
     rests, rows = {}, {}
     for site in sites:
         of = log.function_of[site]
+        of = of if told is None or of in told else len(log.function_ids)
         at, count = rests.get(of, (first + len(rests), 0))
         rests[of] = at, count + 1
         rows[site] = at
     return [[of, count] for of, (_, count) in rests.items()], rows
 
 
+def functions_to_follow(log, sites):
+    """The functions of these sites, those first that held most, for whose changes there is room."""
+    points, most = defaultdict(int), defaultdict(int)
+    for site in sites:
+        points[log.function_of[site]] += log.changed[site]
+        most[log.function_of[site]] += log.most[site]
+    order = sorted(points, key=lambda of: (-most[of], of))
+    room = accumulate(min(points[of], len(log.rows)) for of in order)
+    return {of for of, taken in zip(order, room) if taken <= MOST_REST_CHANGES}
+
+
 def changes_data(log):
     """For each site that is followed, and for the others of each function together, the points at which it changed, with what changed
     there: bytes and blocks held, calls, bytes asked for, temporary blocks. And these others."""
     followed = log.kept[:log.followed]
-    rests, rows = rest_rows(log, [site for site in range(len(log.locations)) if log.row.get(site, log.followed) >= log.followed], len(followed))
+    others = [site for site in range(len(log.locations)) if log.row.get(site, log.followed) >= log.followed]
+    rests, rows = rest_rows(log, others, len(followed), functions_to_follow(log, others))
     rows.update({site: row for row, site in enumerate(followed)})
     sums = [{} for _ in range(len(followed) + len(rests))]
     for point, changes in enumerate(log.changes):

@@ -1,5 +1,4 @@
 """Reads a log for what no report tells: what each site holds, asks for and gives back between the points."""
-import gc
 import sys
 import time
 from array import array
@@ -176,14 +175,12 @@ def read_log(path, points, found, progress):
     faulty = faulty_lines(found)
     bad = next(faulty)
     changes, powers = [], []
-    gc.disable()
     with open(path, "rb", buffering=1 << 20) as log:
         for before, point in zip([0, *points], points):
             progress.tell(f"{before:,} of {points[-1]:,} lines are read", often=True)
             bad = read_up_to(log, reading, before, point, faulty, bad)
             changes.append(snapshot(reading, indices))
             powers.append([tuple(power) for power in reading.numbers.powers])
-    gc.enable()
     return list(indices), changes, powers, reading.requests()
 
 

@@ -131,14 +131,28 @@ def debug_file_of(path):
     asked only where a server is named, as it is itself."""
     if not os.environ.get("DEBUGINFOD_URLS") or not shutil.which("debuginfod-find"):
         return None
-    build_id = re.search(r"Build ID: ([0-9a-f]+)", output_of(["readelf", "-n", "--", path]))
-    found = output_of(["debuginfod-find", "debuginfo", build_id[1]]).strip() if build_id else ""
+    build_id = build_id_of(path)
+    found = output_of(["debuginfod-find", "debuginfo", build_id]).strip() if build_id else ""
     return found if os.path.isfile(found) else None
+
+
+def build_id_of(path):
+    """The build id of a program or library, or nothing."""
+    found = re.search(r"Build ID: ([0-9a-f]+)", output_of(["readelf", "-n", "--", path]))
+    return found[1] if found else ""
+
+
+def has_debug_file(path):
+    """Whether debug information of a file is installed where addr2line looks for it: by its build id, or by the name that it gives."""
+    build_id, folder = build_id_of(path), os.path.dirname(os.path.realpath(path))
+    found = re.search(r"\]\s+(\S.*)", output_of(["readelf", "-p", ".gnu_debuglink", "--", path]))
+    links = [f"{home}/{found[1].strip()}" for home in (folder, f"{folder}/.debug", f"/usr/lib/debug{folder}")] if found else []
+    return any(map(os.path.isfile, [f"/usr/lib/debug/.build-id/{build_id[:2]}/{build_id[2:]}.debug", *links]))
 
 
 def has_line_table(path):
     """Whether a file has debug information that tells lines."""
-    return ".debug_line" in output_of(["readelf", "-SW", "--", path])
+    return "debug_line" in output_of(["readelf", "-SW", "--", path])
 
 
 def demangled(names):
@@ -212,8 +226,10 @@ class Module:
 
     def lines_at(self, addresses):
         """The calls at addresses whose lines are known: by the file, by debug information that is installed for it, or by debuginfod."""
-        lines = lines_of(self.path, addresses)
-        debug_file = None if lines or has_line_table(self.path) else debug_file_of(self.path)
+        has_table = has_line_table(self.path)
+        # To be asked of each address takes long where no line can be found.
+        lines = lines_of(self.path, addresses) if has_table or has_debug_file(self.path) else {}
+        debug_file = None if lines or has_table else debug_file_of(self.path)
         return lines_of(debug_file, addresses) if debug_file else lines
 
     def by_symbol(self, offset, address, symbols):

@@ -15,7 +15,7 @@ from stacks import stacks_of, times_of
 from texts import shown
 
 # So many sites are told one by one, with so many bytes of names; and of the greatest of these so many changes between the points.
-MOST_SITES, MOST_TEXT, MOST_CHANGES = 5000, 800_000, 50_000
+MOST_SITES, MOST_TEXT, MOST_CHANGES = 5000, 700_000, 40_000
 MOST_DIAGNOSTICS = 500
 
 
@@ -99,7 +99,8 @@ class Study:
         return self.first_refused is None
 
     def look_at_heap(self, on_heap, timeline, points):
-        """The rows of the timeline. Where the heap refuses no line: what it holds at the peak and at the end, and the pools that the log needs. Else heaps by size."""
+        """The rows of the timeline. Where the heap refuses no line: what it holds at the peak and at the end, and the pools that the log
+        needs. Else heaps by size."""
         self.rows = reports.read_timeline(timeline.text(), reports.LINES)
         if [row[0] for row in self.rows] != points:
             raise Differs(f"the timeline has other lines than {', '.join(map(str, points[:9]))}..")
