@@ -41,20 +41,25 @@ function seriesOf() {
   }));
 }
 
+// Whether a group is that of the functions that share a row.
+function areOthers(group) {
+  return group.rows[0].of === data.functions.length - 1;
+}
+
 // The greatest groups, the greatest first, and the rest as one, which names its own greatest.
 function bandsOf(groups) {
   groups.forEach((group) => { group.most = Math.max(...group.numbers); group.peak = group.numbers[data.peak]; });
-  const held = groups.filter((group) => group.most > 0);
+  const held = groups.filter((group) => group.most > 0 && !areOthers(group)), others = groups.filter(areOthers);
   held.sort((one, other) => other.most - one.most || (one.told < other.told ? -1 : 1));
-  const all = held.reduce((sum, group) => sum + group.peak, 0);
+  const all = groups.reduce((sum, group) => sum + group.peak, 0);
   const shown = held.slice(0, MOST_BANDS).reduce((sum, group) => sum + group.peak, 0);
   if (shown < SHARE_OF_PEAK * all) held.sort((one, other) => other.peak - one.peak || (one.told < other.told ? -1 : 1));
   const bands = held.slice(0, MOST_BANDS).map((group, at) => ({ name: `s${at}`, told: group.told, values: group.numbers }));
   const rest = held.slice(MOST_BANDS);
   if (rest.length) {
     const greatest = rest.reduce((best, group) => group.most > best.most ? group : best);
-    bands.push({ name: "rest", told: `${counted(rest.length, "other")}, the greatest ${greatest.told}`,
-      values: data.points.map((_, point) => rest.reduce((sum, group) => sum + group.numbers[point], 0)) });
+    bands.push({ name: "rest", told: `${counted(rest.length, "other")}${others.length ? " and more" : ""}, the greatest ${greatest.told}`,
+      values: data.points.map((_, point) => [...rest, ...others].reduce((sum, group) => sum + group.numbers[point], 0)) });
   }
   return bands;
 }
