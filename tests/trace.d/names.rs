@@ -5,9 +5,7 @@ struct Item {
 
 impl Clone for Item {
     fn clone(&self) -> Self {
-        Item {
-            name: self.name.clone(),
-        }
+        Item { name: self.name.clone() }
     }
 }
 
@@ -21,16 +19,12 @@ fn main() {
     let mut list = Vec::new();
     grow(&mut list);
     std::mem::forget(list);
-    let item = Item {
-        name: String::from("apple"),
-    };
+    let item = Item { name: String::from("apple") };
     std::mem::forget(item.clone());
     std::mem::forget(item);
     std::mem::forget(format!("{} {}", 1, "pear"));
     std::mem::forget(Box::new([0u8; 50]));
     let map: std::collections::HashMap<u32, u32> = (0..10).map(|k| (k, k)).collect();
     std::mem::forget(map);
-    std::thread::spawn(|| std::mem::forget(vec![1u8; 33]))
-        .join()
-        .unwrap();
+    std::thread::spawn(|| std::mem::forget(vec![1u8; 33])).join().unwrap();
 }
