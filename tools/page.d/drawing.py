@@ -123,13 +123,14 @@ def draw_shares(curves, names):
     return "".join(parts)
 
 
-def areas(chart, lines, series):
-    """The series, one on the other: the first is lowest."""
+def areas(chart, lines, bands):
+    """The bands, one on the other: the first is lowest. Each is named on hovering."""
     below, parts = [0] * len(lines), []
-    for name, values in series:
-        above = [low + value for low, value in zip(below, values)]
-        if any(values):
-            parts.append(f'<path class="{name}" d="M{chart.steps(lines, above)}{chart.back(lines, below)}"/>')
+    for band in bands:
+        above = [low + value for low, value in zip(below, band.values)]
+        if any(band.values):
+            parts.append(f'<path class="{band.name}" d="M{chart.steps(lines, above)}{chart.back(lines, below)}">'
+                         f'<title>{escaped(band.told)}</title></path>')
         below = above
     return "".join(parts)
 
@@ -142,23 +143,15 @@ def peak_mark(chart, line, value):
             f'text-anchor="{side}">peak, line {line:,}: {counted(value, "byte")}</text>')
 
 
-def refused_mark(chart, line):
-    """A line where the heap first refused a block: what is drawn behind it is too little."""
-    x = chart.x(line)
-    side, shift = ("end", -6) if x > (LEFT + RIGHT) / 2 else ("start", 6)
-    return (f'<path class="mark" stroke-dasharray="2 3" d="M{number(x)} {TOP}V{BOTTOM}"/><text class="marked" x="{number(x + shift)}" '
-            f'y="{TOP + 28}" text-anchor="{side}">too little behind line {line:,}</text>')
-
-
-def draw_chart(rows, peak, refused, series, times=()):
-    """Bytes held after each row's line, by site; the greatest end of a live block is a dashed line."""
-    lines = [row[0] for row in rows]
-    chart = Chart(lines[-1], int(1.08 * max(max(row[1], row[3]) for row in rows)))
+def draw_chart(rows, peak, bands, times=()):
+    """Bytes held after each row's line, by function; the greatest end of a live block is a dashed line, where a heap serves the log."""
+    lines, has_reach = [row[0] for row in rows], len(rows[0]) > 3
+    chart = Chart(lines[-1], int(1.08 * max(max(row[1:4:2]) for row in rows)))
     held = dict((row[0], row[1]) for row in rows)[peak]
-    reach = f'<path class="reach" d="M{chart.steps(lines, [row[3] for row in rows])}"/>'
+    reach = f'<path class="reach" d="M{chart.steps(lines, [row[3] for row in rows])}"/>' if has_reach else ""
     axes = byte_ticks(chart) + line_ticks(chart, times=times)
     axes += below_axis("line of the log, and seconds since it began" if times else "line of the log")
-    return axes + areas(chart, lines, series) + reach + (refused_mark(chart, refused) if refused else "") + (peak_mark(chart, peak, held) if held else "")
+    return axes + areas(chart, lines, bands) + reach + (peak_mark(chart, peak, held) if held else "")
 
 
 def chart_svg(drawn, told):

@@ -1,11 +1,10 @@
 """Reads a log for what no report tells: what each site holds, asks for and gives back between the points."""
-import gc
 import sys
 import time
 from array import array
 from itertools import islice
 
-from reports import ALREADY_HELD, HALF, NOT_A_LINE, NOT_HELD, REFUSED, STRAY, TOO_LONG
+from reports import ALREADY_HELD, HALF, NOT_A_LINE, NOT_HELD, STRAY, TOO_LONG
 
 NIL = b"(nil)"
 # Numbers of a change: site, bytes and blocks held more, calls, bytes asked for, temporary blocks.
@@ -80,6 +79,7 @@ class Reading:
                 counts[3] += 1
                 if words[3] == last:
                     counts[4] += 1
+                last = None
                 continue
             if len(words) == 5:
                 _, location, form, address, size = words
@@ -88,6 +88,7 @@ class Reading:
                 if form == b"*":
                     self.aligned.add((words[-2], size))
             if form != b"+" and not self.gives(form, address, last) or address == NIL:
+                last = None
                 continue
             number, power = numbers[size]
             power[0] += 1
@@ -113,11 +114,12 @@ class Reading:
             counts = self.sites[location]
             counts[FREED] += number
             counts[FREES] += 1
-            counts[TEMPORARY] += old == last
+            counts[TEMPORARY] += form == b"-" and old == last
         return form == b">" or form == b"*"
 
     def take_faulty(self, line, kinds):
         """Reads a line with diagnostics. What is held after it is as docs/FORMATS.md, "What a line does", has it."""
+        self.last = None
         if not kinds.isdisjoint((TOO_LONG, NOT_A_LINE, HALF, STRAY, ALREADY_HELD)):
             return
         words = line.split()
@@ -125,7 +127,7 @@ class Reading:
         form, *rest = words[len(place):]
         if form == b">" and NOT_HELD not in kinds:
             self.take_whole([b"- " + self.taken])
-        if form == b">" and REFUSED not in kinds:
+        if form == b">":
             self.take_whole([b" ".join([*place, b"+", *rest])])
 
 
@@ -173,14 +175,12 @@ def read_log(path, points, found, progress):
     faulty = faulty_lines(found)
     bad = next(faulty)
     changes, powers = [], []
-    gc.disable()
     with open(path, "rb", buffering=1 << 20) as log:
         for before, point in zip([0, *points], points):
             progress.tell(f"{before:,} of {points[-1]:,} lines are read", often=True)
             bad = read_up_to(log, reading, before, point, faulty, bad)
             changes.append(snapshot(reading, indices))
             powers.append([tuple(power) for power in reading.numbers.powers])
-    gc.enable()
     return list(indices), changes, powers, reading.requests()
 
 

@@ -3,10 +3,13 @@ import os
 import re
 import shutil
 import subprocess
+import sys
+from array import array
 from bisect import bisect_right
 from collections import defaultdict
 from concurrent.futures import ThreadPoolExecutor
 from dataclasses import dataclass
+from functools import cached_property
 
 from stacks import path_of
 
@@ -74,8 +77,10 @@ class Call:
     line: int
     module: str
     offset: int
+    # Where its function begins in the module, of one without a name; 0 where that isn't known.
+    start: int = 0
 
-    @property
+    @cached_property
     def is_standard(self):
         """Whether it is of the standard library: by its module, its file, or its name where no file is known."""
         return bool(STANDARD_MODULE.match(os.path.basename(self.module))
@@ -126,14 +131,28 @@ def debug_file_of(path):
     asked only where a server is named, as it is itself."""
     if not os.environ.get("DEBUGINFOD_URLS") or not shutil.which("debuginfod-find"):
         return None
-    build_id = re.search(r"Build ID: ([0-9a-f]+)", output_of(["readelf", "-n", "--", path]))
-    found = output_of(["debuginfod-find", "debuginfo", build_id[1]]).strip() if build_id else ""
+    build_id = build_id_of(path)
+    found = output_of(["debuginfod-find", "debuginfo", build_id]).strip() if build_id else ""
     return found if os.path.isfile(found) else None
+
+
+def build_id_of(path):
+    """The build id of a program or library, or nothing."""
+    found = re.search(r"Build ID: ([0-9a-f]+)", output_of(["readelf", "-n", "--", path]))
+    return found[1] if found else ""
+
+
+def has_debug_file(path):
+    """Whether debug information of a file is installed where addr2line looks for it: by its build id, or by the name that it gives."""
+    build_id, folder = build_id_of(path), os.path.dirname(os.path.realpath(path))
+    found = re.search(r"\]\s+(\S.*)", output_of(["readelf", "-p", ".gnu_debuglink", "--", path]))
+    links = [f"{home}/{found[1].strip()}" for home in (folder, f"{folder}/.debug", f"/usr/lib/debug{folder}")] if found else []
+    return any(map(os.path.isfile, [f"/usr/lib/debug/.build-id/{build_id[:2]}/{build_id[2:]}.debug", *links]))
 
 
 def has_line_table(path):
     """Whether a file has debug information that tells lines."""
-    return ".debug_line" in output_of(["readelf", "-SW", "--", path])
+    return "debug_line" in output_of(["readelf", "-SW", "--", path])
 
 
 def demangled(names):
@@ -164,6 +183,22 @@ def symbols_of(path, addresses):
     return {address: (short_name(plain.get(name, name)), start) for address, (name, start) in found.items()}
 
 
+def starts_of(path):
+    """Where each function of a file begins, by the table that exceptions are thrown with, which no stripping takes away."""
+    found = re.search(r" \.eh_frame_hdr +\S+ +([0-9a-f]+) ([0-9a-f]+) ([0-9a-f]+)", output_of(["readelf", "-SW", "--", path]))
+    if not found:
+        return []
+    address, offset, size = (int(number, 16) for number in found.groups())
+    with open(path, "rb") as file:
+        file.seek(offset)
+        table = file.read(size)
+    # Version 1, a count of four bytes, and pairs of four bytes from the table's own begin.
+    if len(table) < 12 or table[0] != 1 or table[2:4] != b"\x03\x3b":
+        return []
+    pairs = array("i", table[12:12 + 8 * int.from_bytes(table[8:12], sys.byteorder)])
+    return [address + start for start in pairs[::2]]
+
+
 class Module:
     """A program or library of a log: the calls of its frames, whether it can be read, and whether a line is known of one."""
 
@@ -177,7 +212,8 @@ class Module:
         self.has_lines = bool(lines)
         missing = [address for address in addresses.values() if address not in lines]
         symbols = symbols_of(self.path, missing) if missing else {}
-        self.calls = {}
+        self.starts = starts_of(self.path) if len(symbols) < len(missing) else []
+        self.base, self.calls = base or 0, {}
         for offset in offsets:
             address = addresses.get(offset)
             self.calls[offset] = [Call(*call, self.path, 0) for call in lines.get(address, [])] or [self.by_symbol(offset, address, symbols)]
@@ -190,14 +226,17 @@ class Module:
 
     def lines_at(self, addresses):
         """The calls at addresses whose lines are known: by the file, by debug information that is installed for it, or by debuginfod."""
-        lines = lines_of(self.path, addresses)
-        debug_file = None if lines or has_line_table(self.path) else debug_file_of(self.path)
+        has_table = has_line_table(self.path)
+        # To be asked of each address takes long where no line can be found.
+        lines = lines_of(self.path, addresses) if has_table or has_debug_file(self.path) else {}
+        debug_file = None if lines or has_table else debug_file_of(self.path)
         return lines_of(debug_file, addresses) if debug_file else lines
 
     def by_symbol(self, offset, address, symbols):
         """The call at an address that has no line."""
         name, start = symbols.get(address, ("", None))
-        return Call(name, "", 0, self.path, offset if start is None else address + 1 - start)
+        at = bisect_right(self.starts, address) - 1 if address is not None and start is None else -1
+        return Call(name, "", 0, self.path, offset if start is None else address + 1 - start, self.starts[at] - self.base if at >= 0 else 0)
 
 
 class Names:

@@ -114,24 +114,31 @@ def read_peak(text):
     return dict(line.split(b": ", 1) for line in body(text))
 
 
-def read_timeline(text):
-    """Each row: line, bytes, blocks, reach, free, largest."""
+# The first line of a timeline, without a heap and with one.
+LINES, HEAP_LINES = b"line bytes blocks", b"line bytes blocks reach free largest"
+
+
+def read_timeline(text, header):
+    """Each row: line, bytes, blocks, and with a heap reach, free, largest."""
     lines = body(text)
-    if not lines or lines[0] != b"line bytes blocks reach free largest":
+    if not lines or lines[0] != header:
         raise Differs("the timeline has no header")
-    return [tuple(map(int, line.split())) for line in lines[1:] if not line.startswith(b"refused: ")]
+    return [tuple(map(int, line.split())) for line in lines[1:]]
 
 
 def read_sites(text):
-    """Who holds the memory at the peak and at the end: for each location its bytes and blocks."""
+    """Who holds the memory at the peak and at the end, for each location bytes and blocks; and who asks, calls, bytes and temporary
+    blocks."""
     parts = []
     for line in body(text):
-        if line.startswith(b"Held at the "):
+        if line.startswith((b"Held at the ", b"Asked over the log: ")):
             parts.append({})
         elif found := re.fullmatch(rb"(\d+) bytes in (\d+) blocks(?: at (.*))?", line, re.S):
             parts[-1][found[3] or b""] = int(found[1]), int(found[2])
-    if len(parts) != 2:
-        raise Differs("the report of sites has no two parts")
+        elif found := re.fullmatch(rb"(\d+) bytes in (\d+) calls, (\d+) temporary(?: at (.*))?", line, re.S):
+            parts[-1][found[4] or b""] = int(found[2]), int(found[1]), int(found[3])
+    if len(parts) != 3:
+        raise Differs("the report of sites has no three parts")
     return parts
 
 
@@ -195,24 +202,3 @@ def place_behind(piece, count):
     for _ in range(count):
         at = piece.index(b"\n", at) + 1
     return at
-
-
-def told_lines(tool, locations):
-    """Each location as tools/source-lines tells it, in a report of leaks, whose lines it keeps apart; as it stands where that finds
-    nothing."""
-    locations = list(locations)
-    report = b"".join(b"0x10 1 line 1 at " + location + b"\n" for location in locations)
-    try:
-        run = subprocess.run([str(tool), "--all-sites"], input=report, stdout=subprocess.PIPE, stderr=subprocess.DEVNULL, check=False)
-    except OSError:
-        return locations
-    lines = split_lines(run.stdout)
-    if run.returncode or len(lines) != len(locations):
-        return locations
-    return [line.partition(b" at ")[2] for line in lines]
-
-
-def source_lines_beside(folder):
-    """The command that names source lines."""
-    installed = folder / "tlsf-source-lines"
-    return installed if installed.exists() else Path(folder) / "source-lines"

@@ -129,12 +129,14 @@ def path_of(module):
 
 def stacks_of(path, wanted=None):
     """The stacks of the log in a file, or those of them that are wanted."""
+    was_on = gc.isenabled()
     gc.disable()
     try:
         with open(path, "rb", buffering=1 << 20) as log:
             return Stacks(log, wanted)
     finally:
-        gc.enable()
+        if was_on:
+            gc.enable()
 
 
 def is_log(path):

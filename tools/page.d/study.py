@@ -1,47 +1,45 @@
 """All that is told of one log: the reports, side by side with a reading of its own, and whether both agree."""
 import json
 import os
-import re
 import sys
 from collections import Counter
 from concurrent.futures import ThreadPoolExecutor
 from itertools import accumulate
-from urllib.parse import unquote_to_bytes
 
 import reports
 import sizing
+from functions import Functions, plain_site
 from log import CHANGE, points_of, read_log
 from reports import Differs, Report, give_up
 from stacks import stacks_of, times_of
-from texts import shown, site_name
+from texts import shown
 
 # So many sites are told one by one, with so many bytes of names; and of the greatest of these so many changes between the points.
-MOST_SITES, MOST_TEXT, MOST_CHANGES = 5000, 800_000, 60_000
+MOST_SITES, MOST_TEXT, MOST_CHANGES = 5000, 700_000, 40_000
 MOST_DIAGNOSTICS = 500
-MODULE = re.compile(rb"(?:^|<)([^<]+?):[\[(]")
-FRAME = re.compile(rb"(?:(.+):)?\[(0x[0-9a-f]+)\]", re.S)
 
 
 class Study:
-    """One log, replayed on one heap."""
+    """One log. Its sums are those of the reports without a heap; a heap is told beside them."""
 
-    def __init__(self, program, lines_tool, path, heap, count, progress):
+    def __init__(self, program, named, log, heap, count, progress):
         # A name that begins with a dash is no option, nor standard input.
-        self.path = os.path.join(".", path) if path.startswith("-") else path
-        self.name, self.heap = shown(os.fsencode(os.path.basename(path))), reports.heap_words(heap)
+        self.path = os.path.join(".", log) if log.startswith("-") else log
+        self.name, self.heap = shown(os.fsencode(os.path.basename(log))), reports.heap_words(heap)
         self.program, self.progress = program, progress
-        self.running, self.limits = [], None
+        self.running, self.limits, self.fit, self.parts = [], None, [], []
+        self.walk_at_peak = self.walk_at_end = self.first_refused = self.step = None
         before = self.state()
         try:
-            self.read(count)
+            self.read(count, named)
             self.agree()
         except Differs as told:
-            give_up(str(told) if self.state() == before else f"{path} changed while it was read: copy it first")
+            give_up(str(told) if self.state() == before else f"{log} changed while it was read: copy it first")
         finally:
             for report in self.running:
                 report.stop()
         self.keep_greatest()
-        self.tell_lines(lines_tool)
+        self.tell_newer()
 
     def state(self):
         """What tells whether the log has changed."""
@@ -53,54 +51,74 @@ class Study:
         self.running.append(Report(self.program, [*words, "-" if given else self.path], given))
         return self.running[-1]
 
-    def read(self, count):
-        """Runs the reports, four at a time, and reads the log beside them."""
+    def read(self, count, named):
+        """Runs the reports, and reads the log beside them."""
         self.progress.tell("the peak is looked for")
-        first = self.report("peak", *self.heap).text()
-        end = reports.end_of_diagnostics(first)
-        told = reports.read_peak(first)
+        sums, sites = self.report("peak", "--no-heap"), self.report("sites", "--calls")
+        leaks, timeline = self.report("leaks", "--no-heap"), self.report("timeline", "--points", str(count))
+        on_heap = self.report("peak", *self.heap)
+        text = sums.text()
+        end = reports.end_of_diagnostics(text)
+        told = reports.read_peak(text)
         self.lines, self.peak = int(told[b"lines"]), int(told[b"peak"].split()[-1])
-        timeline = self.report("timeline", "--points", str(count), *self.heap)
-        sites, leaks = self.report("sites", *self.heap), self.report("leaks", *self.heap)
         self.kinds = Counter()
         self.first_diagnostics, self.unserved = [], set()
-        self.first_refused = None
         points = points_of(self.lines, self.peak, count)
-        later = ThreadPoolExecutor(1).submit(self.look_at_heap, timeline, points)
+        workers = ThreadPoolExecutor(2)
+        heap = workers.submit(self.look_at_heap, on_heap, timeline, points)
+        names = workers.submit(self.look_for_names, sites, named)
         try:
-            self.locations, self.changes, self.powers, requests = read_log(self.path, points, self.counted(first, end), self.progress)
+            self.locations, self.changes, self.powers, requests = read_log(self.path, points, self.counted(text, end), self.progress)
         except (IndexError, KeyError, ValueError) as error:
             raise Differs(f"{self.path} isn't what the reports say of it") from error
-        self.progress.tell("the pools that the log needs are tried")
-        later.result()
-        if self.first_refused is None:
+        self.progress.tell("names of functions and the pools that the log needs are looked for")
+        names.result()
+        heap.result()
+        if self.fits:
             self.limits = sizing.limits_of(self.path, requests, self.unserved, dict(self.fit))
-        self.at_peak, self.at_end = reports.read_sites(sites.text())
         self.leaks = reports.read_leaks(leaks.text())
 
     def counted(self, text, end):
         """The diagnostics, counted by kind as they are read; the first are kept."""
         for line, kind, said in reports.diagnostics(text, end):
             self.kinds[kind] += 1
-            if kind == reports.REFUSED and self.first_refused is None:
-                self.first_refused = line
             if kind in sizing.ASKS_NOTHING:
                 self.unserved.add(line)
             if len(self.first_diagnostics) < MOST_DIAGNOSTICS:
                 self.first_diagnostics.append((line, said))
             yield line, kind, said
 
-    def look_at_heap(self, timeline, points):
-        """The rows of the timeline, the heap at the peak and at the end, and the pools that the log needs."""
-        self.rows = reports.read_timeline(timeline.text())
+    def look_for_names(self, sites, named):
+        """The report of sites, and the functions of all that it names."""
+        self.at_peak, self.at_end, self.by_calls = reports.read_sites(sites.text())
+        self.functions = Functions(stacks_of(self.path), list(self.by_calls), named)
+
+    @property
+    def fits(self):
+        """Whether the heap serves each line of the log."""
+        return self.first_refused is None
+
+    def look_at_heap(self, on_heap, timeline, points):
+        """The rows of the timeline. Where the heap refuses no line: what it holds at the peak and at the end, and the pools that the log
+        needs. Else heaps by size."""
+        self.rows = reports.read_timeline(timeline.text(), reports.LINES)
         if [row[0] for row in self.rows] != points:
             raise Differs(f"the timeline has other lines than {', '.join(map(str, points[:9]))}..")
+        text, self.refused = on_heap.text(), 0
+        for line, kind, _ in reports.diagnostics(text, reports.end_of_diagnostics(text)):
+            if kind == reports.REFUSED:
+                self.first_refused, self.refused = self.first_refused or line, self.refused + 1
+        if not self.fits:
+            self.parts = reports.read_fit(self.report("fit", "--heaps", "4").text())
+            return
         at_peak = next(row for row in self.rows if row[0] == self.peak)
         self.step = reports.coarse_step(self.lines, at_peak[2], at_peak[1])
         fit = self.report("fit", *(["--step", str(self.step)] if self.step else []))
+        timeline = self.report("timeline", *timeline.words[1:3], *self.heap)
         with reports.first_lines(self.path, self.peak) as kept:
             walk, last = self.report("walk", *self.heap, given=kept), self.report("walk", *self.heap)
             self.walk_at_peak, self.walk_at_end = reports.read_walk(walk.text()), reports.read_walk(last.text())
+        self.heap_rows = reports.read_timeline(timeline.text(), reports.HEAP_LINES)
         self.fit = reports.read_fit(fit.text())
 
     # ---- whether all agree
@@ -128,7 +146,13 @@ class Study:
             if row[0] == self.peak:
                 expect_same(f"by site at the peak, line {row[0]}", self.by_site(held, blocks), self.at_peak)
         expect_same("by site at the end", self.by_site(held, blocks), self.at_end)
+        expect_same("by site over the log", {location: (self.calls[site], self.asked[site], self.temporary[site])
+                                             for site, location in enumerate(self.locations) if self.calls[site]}, self.by_calls)
         expect_same("not freed", (sum(leak[0] for leak in self.leaks), len(self.leaks)), self.rows[-1][1:3])
+        if not self.fits:
+            return
+        expect_same("over the lines with a heap", tuple(self.rows), tuple(row[:3] for row in self.heap_rows))
+        self.rows = self.heap_rows
         for name, pools, line in (("peak", self.walk_at_peak, self.peak), ("end", self.walk_at_end, self.lines)):
             row = next(row for row in self.rows if row[0] == line)
             expect_same(f"reach, free and largest free block at the {name}", measures(pools), row[3:])
@@ -139,70 +163,47 @@ class Study:
 
     # ---- the sites that are told one by one
 
+    def tell_by(self, general):
+        """The functions of the sites, where those that only ask for memory are known by more than this log."""
+        if general != self.functions.general:
+            self.functions.tell_by(list(self.by_calls), general)
+            self.find_functions()
+
+    def find_functions(self):
+        """The function of each site, and each function's number."""
+        place = {location: row for row, location in enumerate(self.by_calls)}
+        self.sites = [self.functions.sites[place[location]] if location in place else plain_site(location) for location in self.locations]
+        self.function_ids = {}
+        self.function_of = [self.function_ids.setdefault(site.function, len(self.function_ids)) for site in self.sites]
+
     def keep_greatest(self):
         """The greatest sites that are told one by one, and how many of them also between the points."""
+        self.find_functions()
         order = sorted(range(len(self.locations)), key=lambda site: (-self.most[site], -self.asked[site], self.locations[site]))
-        self.stacks, self.times = stacks_of(self.path), times_of(self.path)
-        names = accumulate(room_of(self.whole(self.locations[site])) for site in order)
-        self.kept = [site for site, text in zip(order[:MOST_SITES], names) if text <= MOST_TEXT]
-        changes = accumulate(self.changed[site] for site in self.kept)
-        self.followed = sum(count <= MOST_CHANGES for count in changes)
-        self.row = {site: row for row, site in enumerate(self.kept)}
+        # Of a log of less than a second no time is told.
+        times = times_of(self.path)
+        self.times = times if times and times[-1][1] >= 1000 else []
+        kept, text, seen = [], 0, set()
+        for site in order[:MOST_SITES]:
+            frames = self.sites[site].frames
+            text += 5 * len(frames) + sum(len(json.dumps(frame)) for frame in {*frames} - seen) + 16
+            seen.update(frames)
+            if text > MOST_TEXT:
+                break
+            kept.append(site)
+        changes = accumulate(self.changed[site] for site in kept)
+        self.kept, self.followed = kept, sum(count <= MOST_CHANGES for count in changes)
+        self.row = {site: row for row, site in enumerate(kept)}
 
-    def row_of(self, site):
-        """The row of a site, or that of all others."""
-        return self.row.get(site, len(self.kept))
+    def short_name(self, location):
+        """A location by its function."""
+        return self.functions.label(self.sites[self.locations.index(location)].function)
 
-    def tell_lines(self, tool):
-        """Source lines of the sites that are kept, where there is a tool for them."""
-        self.progress.tell("source lines are looked for")
-        locations = [self.locations[site] for site in self.kept if self.locations[site]]
-        self.told = dict(zip(locations, reports.told_lines(tool, map(self.whole, locations)))) if tool else {}
-        for module in self.newer_modules() if tool else []:
+    def tell_newer(self):
+        """Says which programs and libraries were changed after the log was written."""
+        for module in self.functions.newer_than(os.stat(self.path).st_mtime_ns):
             self.progress.end()
             print(f"tlsf-page: {module} is newer than {self.name}: its source lines may be others", file=sys.stderr)
-
-    def newer_modules(self):
-        """Programs and libraries that were changed after the log was written, whose source lines are told."""
-        written = os.stat(self.path).st_mtime_ns
-        whole = [self.whole(location) for location, told in self.told.items() if told != self.whole(location)]
-        names = {unquote_to_bytes(module) for location in whole for module in MODULE.findall(location)}
-        return [shown(name) for name in sorted(names) if os.path.exists(name) and os.stat(name).st_mtime_ns > written]
-
-    def whole(self, location):
-        """A location with its frames, where the log tells these once, by a number."""
-        return os.fsencode(self.stacks.whole(os.fsdecode(location)))
-
-    def told_of(self, location):
-        """A location as source-lines tells it."""
-        return self.told.get(location) or self.whole(location)
-
-    def frames_of(self, location):
-        """The frames of a site, nearest first: as source-lines tells them, else as they stand."""
-        told, whole = self.told_of(location), self.whole(location)
-        return told.split(b" < ") if told != whole else plain_frames(whole)
-
-    def name_of(self, location):
-        """A site as it is shown."""
-        return " < ".join(site_name(frame) for frame in self.frames_of(location))
-
-
-def room_of(location):
-    """About how many bytes a site takes on the page: of a stack the location and its frames."""
-    text, frames = len(json.dumps(site_name(location))), location.count(b"<")
-    return 2 * text + 8 * frames if frames else text + 16
-
-
-def plain_frames(location):
-    """The frames of a stack as tools/trace writes it; what isn't one is one frame."""
-    module, frames = b"", []
-    for part in location.split(b"<"):
-        found = FRAME.fullmatch(part)
-        if not found or not (found[1] or module):
-            return [location]
-        module = found[1] or module
-        frames.append(module.rpartition(b"/")[2] + b"[" + found[2] + b"]")
-    return frames if len(frames) > 1 else [location]
 
 
 def measures(pools):

@@ -6,6 +6,8 @@ def shown(raw):
     """Bytes as text, from which they can be told: a byte that isn't UTF-8 is \\xNN, a character that nobody sees \\u{N}, and a
     backslash stands twice."""
     text = raw.replace(b"\\", b"\\\\").decode("utf-8", "backslashreplace")
+    if text.isprintable():
+        return text
     return "".join(letter if letter.isprintable() else f"\\u{{{ord(letter):x}}}" for letter in text)
 
 
