@@ -49,6 +49,7 @@ void log_lock(void) { pthread_mutex_lock(&lock); }
 void log_unlock(void) { pthread_mutex_unlock(&lock); }
 bool log_is_on(void) { return *alive != 0; }
 pid_t log_process(void) { return process; }
+const char *log_path(void) { return path; }
 
 static int open_file(const char *name, int flags)
 {

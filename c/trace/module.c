@@ -74,16 +74,7 @@ static size_t put_path(char *to, const char *path)
     return length;
 }
 
-/* A file that is read line by line, by system calls alone: stdio would ask for memory. */
-struct reader {
-    int file;
-    ssize_t at, end;
-    char piece[1024];
-    char line[PATH_MOST + 128];
-};
-
-/* Reads the next line, whose end may be cut off. Returns whether there is one. */
-static bool next_line(struct reader *reader)
+bool next_line(struct reader *reader)
 {
     size_t length = 0;
     for (;;) {

@@ -21,6 +21,8 @@ static char name[PATH_MOST];
 /* Whether settings were read, and whether nothing is to be traced. */
 static bool is_set;
 static bool is_off;
+/* Whether what is still reachable is told at the end. */
+static bool tells_reachable;
 
 extern int __cxa_atexit(void (*)(void *), void *, void *);
 
@@ -68,8 +70,9 @@ void find_real(void)
 /* ---- the end */
 
 /* Ends the log where it is this process's: a child of vfork shares the memory of its parent. A
- * signal's handler that came while its thread was in the tracer may not wait for the lock. */
-static bool end(void)
+ * signal's handler that came while its thread was in the tracer may not wait for the lock. Registers
+ * are put onto the stack, where reach_tell looks for pointers. */
+__attribute__((noinline)) static bool end(void)
 {
     if (inside || !log_is_on() || getpid() != log_process()) {
         return false;
@@ -77,6 +80,10 @@ static bool end(void)
     inside = true;
     log_lock();
     log_end();
+    if (tells_reachable) {
+        __builtin_unwind_init();
+        reach_tell();
+    }
     log_unlock();
     inside = false;
     return true;
@@ -132,6 +139,7 @@ static void forget_parent(void)
 {
     log_forget();
     stack_in_child();
+    reach_in_child();
 }
 
 /* In the child of a fork. */
@@ -140,6 +148,7 @@ static void in_child(void)
     if (inside) {
         log_detach();
         stack_in_child();
+        reach_in_child();
     } else {
         forget_parent();
     }
@@ -150,12 +159,17 @@ static void set(void)
 {
     const char *given = getenv("TLSF_TRACE_LOG");
     const char *frames = getenv("TLSF_TRACE_FRAMES");
+    const char *reachable = getenv("TLSF_TRACE_REACHABLE");
     int most = frames == NULL ? FRAMES_USUAL : atoi(frames);
     is_set = true;
     is_off = given == NULL || given[0] == 0 || strlen(given) >= sizeof name;
     if (!is_off) {
         strcpy(name, given);
         stack_begin(most < 1 ? 1 : most > FRAMES_MOST ? FRAMES_MOST : (unsigned)most);
+        tells_reachable = reachable != NULL && reachable[0] != 0;
+        if (tells_reachable) {
+            reach_begin();
+        }
         pthread_atfork(stack_before_fork, stack_in_parent, in_child);
         /* Tied to no library, so that it runs behind the destructors of all. */
         __cxa_atexit(at_exit, NULL, NULL);
@@ -221,6 +235,9 @@ static int back(bool ended, int result)
         inside = true;
         log_lock();
         log_resume();
+        if (tells_reachable) {
+            reach_resume();
+        }
         log_unlock();
         inside = false;
         errno = code;
@@ -327,3 +344,7 @@ EXPORT int dlclose(void *library)
     stack_forget();
     return result;
 }
+
+/* c/Makefile makes the tracer of the files that it names. These two are made as parts of this one. */
+#include "held.c"
+#include "reach.c"

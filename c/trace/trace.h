@@ -7,10 +7,13 @@
  *     told.c     the modules and stacks that the log has told
  *     text.c     numbers as text
  *     log.c      the log: a file that is mapped piece by piece
+ *     held.c     the blocks that are held at the end, by the log
+ *     reach.c    which of them the process's memory still points to
  *     process.c  where a log begins and ends: start, fork, exec, exit
  *
  * The environment has TLSF_TRACE_LOG, the log's name; TLSF_TRACE_FRAMES, the most frames of a
- * location; and TLSF_TRACE_INDEX, a file to which each process adds its log's name.
+ * location; TLSF_TRACE_INDEX, a file to which each process adds its log's name; and
+ * TLSF_TRACE_REACHABLE, with which each process tells what is still reachable at its end.
  */
 #ifndef TLSF_TRACE_H
 #define TLSF_TRACE_H
@@ -100,7 +103,69 @@ void log_forget(void);
  * writes there is lost. */
 void log_detach(void);
 
+/* The name of the log's file, as long as this process has one. */
+const char *log_path(void);
+
+/* held.c: with the lock held. */
+
+/* How a block is pointed to: by nothing that is reachable; by a chain of pointers of which one points
+ * amid its block; or by a chain of pointers to where blocks begin. */
+enum reach { LOST, POSSIBLY_LOST, REACHABLE, REACHES };
+
+/* A block that is held: its address, the bytes that were asked for, and the number of its stack, or 0. */
+struct block {
+    uintptr_t start;
+    size_t size;
+    uint32_t stack;
+    uint32_t reach;
+};
+
+/* The blocks that are held, in order of address, and the greatest number of a stack. While the log is
+ * read they stand in a table of these places. */
+struct held {
+    struct block *blocks;
+    size_t count, places;
+    uint32_t stacks;
+};
+
+/* Reads what is held at the end of a log of this tracer. Returns whether it could. */
+bool held_read(struct held *held, const char *log);
+
+/* The block that has an address, or null. */
+struct block *held_find(const struct held *held, uintptr_t address);
+
+/* Memory of the system for the search, as zeros, or null; whether an address is in it; and its end. */
+void *take_pages(size_t bytes);
+bool is_taken(uintptr_t address);
+void give_pages(void *memory);
+
+/* reach.c */
+
+/* Looks up where the C library has its data. */
+void reach_begin(void);
+
+/* The process is a child of a fork: blocks of its parent aren't in its log. */
+void reach_in_child(void);
+
+/* Writes LOG.reachable: what is lost, and what is still reachable. With the lock of the log held,
+ * behind its end. Each register that the caller may not change is to stand in the caller's frame. */
+void reach_tell(void);
+
+/* The process goes on: the file is taken away. */
+void reach_resume(void);
+
 /* module.c */
+
+/* A file that is read line by line, by system calls alone: stdio would ask for memory. */
+struct reader {
+    int file;
+    ssize_t at, end;
+    char piece[1024];
+    char line[PATH_MOST + 128];
+};
+
+/* Reads the next line, whose end may be cut off. Returns whether there is one. */
+bool next_line(struct reader *reader);
 
 /* Frames that aren't told: of `operator new` or `delete`, and those from the C library's start of
  * `main` on. */

@@ -1,0 +1,424 @@
+/* reach.c: which held blocks the memory of the process still points to where it ends, as LeakSanitizer
+ * and valgrind look for them.
+ *
+ * Roots are the words of each mapping that can be read and written: data of the program and its
+ * libraries, stacks from where a thread is, and what mmap gave. A held block is no root: its words
+ * count where the block itself is pointed to. Memory is read by the kernel, so that a page which can't
+ * be read is passed over.
+ *
+ * What glibc's malloc has beside held blocks isn't looked at: its lists and free blocks have stale
+ * pointers. In a child of a fork it is looked at, since blocks of the parent stand there.
+ */
+#define _GNU_SOURCE
+#include "trace.h"
+
+#include <dlfcn.h>
+#include <fcntl.h>
+#include <stdio.h>
+#include <stdlib.h>
+#include <string.h>
+#include <sys/resource.h>
+#include <sys/syscall.h>
+#include <sys/uio.h>
+#include <unistd.h>
+
+/* Bytes that are read at once, the most threads whose stacks are told apart, the bytes below a stack's
+ * pointer that are in use, and what the arenas of glibc's threads are a multiple of. */
+enum { PIECE = 1 << 16, WORD = sizeof(uintptr_t), THREADS_MOST = 1024, RED_ZONE = 128, ARENA = 1 << 26 };
+enum { WORDS = PIECE / WORD, NAME_MOST = PATH_MOST + 16, ARGUMENTS = 6 };
+
+/* A part of the memory: a line of the kernel's list. */
+struct mapping {
+    uintptr_t from, to;
+    bool is_written, is_guard;
+    const char *path;
+};
+
+/* A search. The queue has blocks whose words are still to be looked at. Each block gets into it twice at
+ * most, as its reach rises. */
+struct search {
+    struct held held;
+    uint32_t *queue;
+    size_t queued;
+    /* Where each thread's stack is in use from, and whether one isn't known. */
+    uintptr_t stacks[THREADS_MOST];
+    size_t threads;
+    bool is_unknown;
+    struct reader reader;
+    uintptr_t words[WORDS];
+    char name[NAME_MOST];
+};
+
+/* What is held by the blocks of one stack. */
+struct sum {
+    uint64_t blocks, bytes;
+};
+
+/* An address in glibc's data, where its malloc has its lists, or 0 where malloc is another's. */
+static uintptr_t library_data;
+static bool is_child;
+
+void reach_begin(void)
+{
+    void *data = dlsym(RTLD_NEXT, "_IO_2_1_stdout_"), *start = dlsym(RTLD_NEXT, "__libc_start_main");
+    uintptr_t allocator;
+    memcpy(&allocator, &real.malloc, sizeof allocator);
+    library_data = find_module(allocator) == find_module((uintptr_t)start) ? (uintptr_t)data : 0;
+}
+
+void reach_in_child(void) { is_child = true; }
+
+/* ---- what points where */
+
+/* Reads memory of this process: how many bytes could be. */
+static size_t read_memory(void *to, uintptr_t from, size_t bytes)
+{
+    /* An address is no pointer to what the compiler knows. */
+    void *source;
+    memcpy(&source, &from, sizeof source);
+    struct iovec here = {to, bytes}, there = {source, bytes};
+    long got = syscall(SYS_process_vm_readv, getpid(), &here, 1ul, &there, 1ul, 0ul);
+    return got < 0 ? 0 : (size_t)got;
+}
+
+/* Whether an address in a block is what a program knows it by: its start; behind its length, as
+ * sqlite has it; behind the number of its elements, as of `new[]`; or the text of an old std::string.
+ * These are valgrind's rules. */
+static bool is_start(const struct block *block, uintptr_t address)
+{
+    uintptr_t head[2], at = address - block->start;
+    if (at == 0) {
+        return true;
+    }
+    if ((at != WORD && at != 3 * WORD) || block->size <= at || read_memory(head, block->start, sizeof head) < sizeof head) {
+        return false;
+    }
+    if (at == WORD) {
+        return head[0] > 0 && (block->size - WORD) % head[0] == 0;
+    }
+    return head[0] <= head[1] && block->size - 3 * WORD - 1 == head[1];
+}
+
+/* Takes a word of memory into account, from which a block is pointed to in at most this way. */
+static void look_at(struct search *search, uintptr_t word, enum reach most)
+{
+    struct block *block = held_find(&search->held, word);
+    if (block == NULL || block->reach >= most) {
+        return;
+    }
+    enum reach reach = most == REACHABLE && is_start(block, word) ? REACHABLE : POSSIBLY_LOST;
+    if (block->reach < reach) {
+        block->reach = reach;
+        search->queue[search->queued++] = (uint32_t)(block - search->held.blocks);
+    }
+}
+
+/* Whether a word can be the address of a held block. */
+static bool is_near(const struct held *held, uintptr_t word)
+{
+    const struct block *last = &held->blocks[held->count - 1];
+    return word >= held->blocks[0].start && word - last->start <= (word < last->start ? UINTPTR_MAX : last->size);
+}
+
+/* Looks at the words of a held block. */
+static void look_at_block(struct search *search, const struct block *block)
+{
+    uintptr_t from = (block->start + WORD - 1) / WORD * WORD, end = block->start + block->size;
+    while (from + WORD <= end) {
+        size_t wanted = end - from < PIECE ? (end - from) / WORD * WORD : PIECE;
+        size_t got = read_memory(search->words, from, wanted) / WORD;
+        for (size_t k = 0; k < got; k++) {
+            if (is_near(&search->held, search->words[k])) {
+                look_at(search, search->words[k], (enum reach)block->reach);
+            }
+        }
+        from += wanted;
+    }
+}
+
+/* Looks at the words of a part of the memory, but for those of held blocks and of the search. */
+static void look_at_roots(struct search *search, uintptr_t from, uintptr_t to, bool starts_only)
+{
+    while (from + WORD <= to) {
+        size_t wanted = to - from < PIECE ? (to - from) / WORD * WORD : PIECE;
+        size_t got = read_memory(search->words, from, wanted) / WORD;
+        for (size_t k = 0; k < got; k++) {
+            uintptr_t word = search->words[k], place = from + k * WORD;
+            bool counts = is_near(&search->held, word) && !is_taken(place) && held_find(&search->held, place) == NULL;
+            const struct block *block = counts ? held_find(&search->held, word) : NULL;
+            if (block != NULL && (!starts_only || block->start == word)) {
+                look_at(search, word, REACHABLE);
+            }
+        }
+        /* Behind what can't be read the next page may be one that can. */
+        from = got * WORD == wanted ? from + wanted : (from + got * WORD) / PAGE * PAGE + PAGE;
+    }
+}
+
+static void follow(struct search *search)
+{
+    while (search->queued > 0) {
+        look_at_block(search, &search->held.blocks[search->queue[--search->queued]]);
+    }
+}
+
+/* ---- the stacks */
+
+/* Opens a file of the kernel's. */
+static int open_told(const char *name)
+{
+    return (int)syscall(SYS_openat, AT_FDCWD, name, O_RDONLY | O_CLOEXEC, 0);
+}
+
+/* Takes a thread by the kernel's line on its system call: number, arguments, stack and code. The
+ * arguments are in registers. Where it isn't in one, where its stack is in use from isn't known. */
+static void read_thread(struct search *search, const char *name)
+{
+    char file[64], line[256];
+    snprintf(file, sizeof file, "/proc/self/task/%.16s/syscall", name);
+    int told = open_told(file);
+    long length = told < 0 ? 0 : syscall(SYS_read, told, line, sizeof line - 1);
+    syscall(SYS_close, told);
+    line[length < 0 ? 0 : length] = 0;
+    char *next = strchr(line, ' ');
+    if (next == NULL || search->threads == THREADS_MOST) {
+        search->is_unknown = true;
+        return;
+    }
+    bool in_call = line[0] != '-';
+    for (int k = 0; in_call && k < ARGUMENTS; k++) {
+        look_at(search, strtoul(next, &next, 16), REACHABLE);
+    }
+    search->stacks[search->threads++] = strtoul(next, NULL, 16) - RED_ZONE;
+}
+
+/* One entry of a folder, as the kernel writes it. */
+struct entry {
+    uint64_t number, next;
+    uint16_t length;
+    uint8_t kind;
+    char name[];
+};
+
+/* Takes the stacks of the other threads. */
+static void read_threads(struct search *search)
+{
+    uint64_t entries[512];
+    int folder = open_told("/proc/self/task");
+    long length;
+    while (folder >= 0 && (length = syscall(SYS_getdents64, folder, entries, sizeof entries)) > 0) {
+        const char *at = (const char *)entries;
+        for (long k = 0; k < length;) {
+            uint16_t step;
+            const char *name = at + k + offsetof(struct entry, name);
+            memcpy(&step, at + k + offsetof(struct entry, length), sizeof step);
+            if (name[0] != '.' && atoi(name) != (int)syscall(SYS_gettid)) {
+                read_thread(search, name);
+            }
+            k += step;
+        }
+    }
+    search->is_unknown |= folder < 0;
+    syscall(SYS_close, folder);
+}
+
+/* The lowest place of a mapping that a thread's stack is in use from, or where the mapping ends. */
+static uintptr_t stack_in(const struct search *search, const struct mapping *mapping)
+{
+    uintptr_t lowest = mapping->to;
+    for (size_t k = 0; k < search->threads; k++) {
+        uintptr_t from = search->stacks[k];
+        lowest = from >= mapping->from && from < lowest ? from : lowest;
+    }
+    return lowest;
+}
+
+/* ---- the roots */
+
+/* Reads a line of the kernel's list: `55d0-55f0 rw-p 00000000 08:01 123   /usr/bin/jq`. */
+static struct mapping mapping_of(const char *line)
+{
+    char *at;
+    struct mapping mapping = {.path = strpbrk(line, "/[")};
+    mapping.from = strtoul(line, &at, 16);
+    mapping.to = *at == '-' ? strtoul(at + 1, &at, 16) : 0;
+    mapping.is_written = strncmp(at, " rw", 3) == 0;
+    mapping.is_guard = strncmp(at, " ---p", 5) == 0;
+    mapping.path = mapping.path == NULL ? "" : mapping.path;
+    return mapping;
+}
+
+/* Whether glibc's malloc serves from this mapping: the heap, or an arena of its threads, whose first word
+ * points behind the few words that it begins with. */
+static bool is_heap(const struct mapping *mapping)
+{
+    uintptr_t first = 0;
+    if (library_data == 0 || is_child) {
+        return false;
+    }
+    if (strcmp(mapping->path, "[heap]") == 0) {
+        return true;
+    }
+    if (mapping->path[0] != 0 || mapping->from % ARENA != 0 || read_memory(&first, mapping->from, WORD) < WORD) {
+        return false;
+    }
+    return first != 0 && first % ARENA >= 2 * WORD && first % ARENA <= 16 * WORD && first % WORD == 0;
+}
+
+/* Whether this is the stack of a thread that has ended, which glibc keeps for the next one: of the usual
+ * size, behind a guard, and in use by no thread. */
+static bool is_old_stack(const struct search *search, const struct mapping *mapping, const struct mapping *before)
+{
+    struct rlimit usual;
+    uintptr_t bytes = mapping->to - mapping->from;
+    bool is_guarded = before->is_guard && before->to == mapping->from && mapping->path[0] == 0;
+    return is_guarded && !search->is_unknown && getrlimit(RLIMIT_STACK, &usual) == 0 &&
+        (bytes == usual.rlim_cur || bytes + before->to - before->from == usual.rlim_cur) &&
+        stack_in(search, mapping) == mapping->to;
+}
+
+/* Looks at a mapping. */
+static void look_at_mapping(struct search *search, const struct mapping *mapping, const struct mapping *before)
+{
+    bool is_device = strncmp(mapping->path, "/dev/", 5) == 0 && strncmp(mapping->path, "/dev/shm/", 9) != 0 &&
+        strncmp(mapping->path, "/dev/zero", 9) != 0;
+    if (!mapping->is_written || is_device || is_heap(mapping) || is_old_stack(search, mapping, before)) {
+        return;
+    }
+    uintptr_t stack = stack_in(search, mapping);
+    uintptr_t from = stack < mapping->to ? stack / WORD * WORD : mapping->from;
+    bool has_lists = library_data >= mapping->from && library_data < mapping->to;
+    look_at_roots(search, from, mapping->to, has_lists && !is_child);
+}
+
+static bool look_at_mappings(struct search *search)
+{
+    struct mapping before = {0};
+    struct reader *reader = &search->reader;
+    reader->file = open_told("/proc/self/maps");
+    while (reader->file >= 0 && next_line(reader)) {
+        struct mapping mapping = mapping_of(reader->line);
+        look_at_mapping(search, &mapping, &before);
+        mapping.path = "";
+        before = mapping;
+    }
+    syscall(SYS_close, reader->file);
+    return reader->file >= 0;
+}
+
+/* ---- what is told */
+
+/* Adds up the blocks of one reach by their stacks, and returns the sum of all. */
+static struct sum add_up(const struct held *held, enum reach reach, struct sum *sums)
+{
+    struct sum all = {0, 0};
+    memset(sums, 0, (held->stacks + 1ul) * sizeof *sums);
+    for (size_t k = 0; k < held->count; k++) {
+        const struct block *block = &held->blocks[k];
+        if (block->reach == reach) {
+            sums[block->stack].blocks++;
+            sums[block->stack].bytes += block->size;
+            all.blocks++;
+            all.bytes += block->size;
+        }
+    }
+    return all;
+}
+
+/* Writes text behind what the search has as words, and that to the file where it is full, or at the
+ * end, with no text. */
+static void put(struct search *search, int file, size_t *used, const char *text)
+{
+    size_t length = text == NULL ? 0 : strlen(text);
+    char *piece = (char *)search->words;
+    if (text == NULL || *used + length > PIECE) {
+        syscall(SYS_write, file, piece, *used);
+        *used = 0;
+    }
+    memcpy(piece + *used, text == NULL ? piece : text, length);
+    *used += length;
+}
+
+/* Writes the part of the blocks of one reach. */
+static void tell_part(struct search *search, int file, enum reach reach, struct sum *sums)
+{
+    static const char *const names[] = {"Lost", "Possibly lost", "Still reachable"};
+    size_t used = 0;
+    char line[128];
+    struct sum all = add_up(&search->held, reach, sums);
+    snprintf(line, sizeof line, "%s: %llu blocks, %llu bytes.\n", names[reach], (unsigned long long)all.blocks, (unsigned long long)all.bytes);
+    put(search, file, &used, line);
+    for (uint32_t stack = 0; stack <= search->held.stacks; stack++) {
+        char place[32] = "";
+        if (sums[stack].blocks > 0) {
+            snprintf(place, sizeof place, " at s%u", stack);
+            snprintf(line, sizeof line, "%llu bytes in %llu blocks%s\n", (unsigned long long)sums[stack].bytes,
+                     (unsigned long long)sums[stack].blocks, stack == 0 ? "" : place);
+            put(search, file, &used, line);
+        }
+    }
+    put(search, file, &used, NULL);
+}
+
+/* The name of the file. */
+static const char *name_in(struct search *search)
+{
+    snprintf(search->name, sizeof search->name, "%s.reachable", log_path());
+    return search->name;
+}
+
+/* Writes the file. */
+static bool tell(struct search *search)
+{
+    struct sum *sums = take_pages((search->held.stacks + 1ul) * sizeof *sums);
+    int flags = O_WRONLY | O_CREAT | O_TRUNC | O_CLOEXEC;
+    int file = sums == NULL ? -1 : (int)syscall(SYS_openat, AT_FDCWD, name_in(search), flags, 0666);
+    for (int reach = LOST; file >= 0 && reach < REACHES; reach++) {
+        tell_part(search, file, (enum reach)reach, sums);
+    }
+    syscall(SYS_close, file);
+    give_pages(sums);
+    return file >= 0;
+}
+
+/* Looks at all roots, and follows the pointers from there. */
+static bool look(struct search *search)
+{
+    if (search->held.count == 0) {
+        return true;
+    }
+    search->queue = take_pages(2 * search->held.count * sizeof *search->queue);
+    if (search->queue == NULL) {
+        return false;
+    }
+    read_threads(search);
+    bool looked = look_at_mappings(search);
+    follow(search);
+    give_pages(search->queue);
+    return looked;
+}
+
+void reach_tell(void)
+{
+    struct search *search = take_pages(sizeof *search);
+    if (search != NULL) {
+        search->stacks[search->threads++] = (uintptr_t)__builtin_frame_address(0);
+    }
+    bool told = search != NULL && held_read(&search->held, log_path()) && look(search) && tell(search);
+    if (!told) {
+        say(log_path(), "has no list of what is reachable: memory, the log or /proc can't be read");
+    }
+    if (search != NULL) {
+        give_pages(search->held.blocks);
+        give_pages(search);
+    }
+}
+
+void reach_resume(void)
+{
+    struct search *search = take_pages(sizeof *search);
+    if (search != NULL) {
+        syscall(SYS_unlinkat, AT_FDCWD, name_in(search), 0);
+        give_pages(search);
+    }
+}
