@@ -1,4 +1,5 @@
 -- Lemmas that several proofs share.
+mod EntriesMoved
 mod FewRows
 mod FilledRows
 mod FromPlace
@@ -6,6 +7,7 @@ mod GivenBlock
 mod InUnits
 mod LoadLemmas
 mod PlacedLemmas
+mod RangesMoved
 mod RoomLemmas
 mod ReallocGives
 mod SavedLemmas

@@ -28,11 +28,11 @@ same_at address pools one other apart has has_other at at_other =
         | inl below ↦
             let pair = apart i j one below has_other.1 in
             let is : slice_index_or pools j one ≡ other = get_or_default pools j one other has_other.1 ∙ has_other.2 in
-            absurd ((subst (λ (p : PlacedPool). AreApart p other) has.2 (subst (λ (q : PlacedPool). AreApart (slice_index_or pools i one) q) is pair)).addresses (omega (arith, at.0, at_other.1)) (omega (arith, at_other.0, at.1)))
+            absurd ((subst (λ (p : PlacedPool). AreApart p other) has.2 (subst (λ (q : PlacedPool). AreApart (slice_index_or pools i one) q) is pair)).addresses (omega (arith, at.0, at.1)) (omega (arith, at_other.0, at_other.1)) (omega (arith, at.0, at_other.1)) (omega (arith, at_other.0, at.1)))
         | inr above ↦
             let pair = apart j i other above has.1 in
             let is : slice_index_or pools i other ≡ one = get_or_default pools i other one has.1 ∙ has.2 in
-            absurd ((subst (λ (p : PlacedPool). AreApart p one) has_other.2 (subst (λ (q : PlacedPool). AreApart (slice_index_or pools j other) q) is pair)).addresses (omega (arith, at_other.0, at.1)) (omega (arith, at.0, at_other.1)))
+            absurd ((subst (λ (p : PlacedPool). AreApart p one) has_other.2 (subst (λ (q : PlacedPool). AreApart (slice_index_or pools j other) q) is pair)).addresses (omega (arith, at_other.0, at_other.1)) (omega (arith, at.0, at.1)) (omega (arith, at_other.0, at.1)) (omega (arith, at.0, at_other.1)))
       ]
     ]
 

@@ -6,6 +6,7 @@ pub mod Lying
 pub mod Owned
 pub mod PlacedHeaps
 pub mod PlacedPools
+pub mod RangeMoves
 pub mod Room
 pub mod Rows
 pub mod Saving

@@ -1,5 +1,5 @@
 -- Pools that have addresses.
-use Rattle.std.specs.Prelude.{◌≡◌, ◌≢◌, ℕ, ◌+◌, ◌-◌, ◌%◌, ◌^◌, ◌<◌, ◌≤◌, List, All, Contains}
+use Rattle.std.specs.Prelude.{◌≡◌, ◌≢◌, ℕ, ◌+◌, ◌-◌, ◌%◌, ◌^◌, ◌<◌, ◌≤◌, List, All, Contains, length, slice_index_or}
 use Rattle.tlsf_c.specs.Fronts.{front}
 use Rattle.tlsf_c.specs.declared.placed_pool.PlacedPool.{PlacedPool}
 
@@ -10,6 +10,13 @@ pub record IsPlaced (pool : PlacedPool) : Type 0 where
   pub some : 0 < pool.reach → 16 ≤ pool.first
   pub place_in_units : pool.place % 16 ≡ 0
   pub first_in_units : pool.first % 16 ≡ 0
+
+-- a pool of so many bytes can have its first block at this address
+pub record CanBePlaced (first bytes : ℕ) : Type 0 where
+  pub in_units : first % 16 ≡ 0
+  pub some : 16 ≤ first
+  pub ends : first + bytes ≤ 2 ^ 64
+  pub long : 16 ≤ bytes
 
 -- a block's place is in the pool
 abbrev pub HasPlace : PlacedPool → ℕ → Type 0
@@ -24,9 +31,13 @@ pub record IsAt (pool : PlacedPool) (place address : ℕ) : Type 0 where
   pub has : HasPlace pool place
   pub address_is : address ≡ pool.first + (place - pool.place)
 
--- the bytes of the two pools, with the first front of each, don't overlap, and they don't begin at one place
+-- the bytes of the pool, with its first front, don't overlap as many behind an address, with the front before it
+abbrev pub IsClearOf : (first reach : ℕ) → PlacedPool → Type 0
+IsClearOf first reach pool = 0 < pool.reach → first < pool.first + pool.reach + front → pool.first < first + reach + front → ⊥
+
+-- unless an entry holds no pool, their bytes don't overlap, and they don't begin at one place
 pub record AreApart (pool other : PlacedPool) : Type 0 where
-  pub addresses : pool.first < other.first + other.reach + front → other.first < pool.first + pool.reach + front → ⊥
+  pub addresses : 0 < pool.reach → IsClearOf pool.first pool.reach other
   pub places : 0 < pool.reach → 0 < other.reach → pool.place ≢ other.place
 
 -- where the pool begins, and its bytes
@@ -45,3 +56,18 @@ IsEntered pools range = (pool : PlacedPool) × Contains pools pool × (0 < pool.
 pub record AreEntriesOf (ranges : List (ℕ × ℕ)) (pools : List PlacedPool) : Type 0 where
   pub entered : All (IsEntered pools) ranges
   pub of_ranges : All (IsEntryOf ranges) pools
+
+-- the entry, which held none, holds this pool
+pub record IsEnteredAt (first bytes place entry : ℕ) (old new : List PlacedPool) : Type 0 where
+  pub within : entry < length old
+  pub vacant : (d : PlacedPool) → (slice_index_or old entry d).reach ≡ 0
+  pub first_is : (d : PlacedPool) → (slice_index_or new entry d).first ≡ first
+  pub reach_is : (d : PlacedPool) → (slice_index_or new entry d).reach + front ≡ bytes
+  pub place_is : (d : PlacedPool) → (slice_index_or new entry d).place ≡ place
+  pub others : (k : ℕ) (d : PlacedPool) → k ≢ entry → slice_index_or new k d ≡ slice_index_or old k d
+
+-- the entry holds none
+pub record IsVacatedAt (entry : ℕ) (old new : List PlacedPool) : Type 0 where
+  pub within : entry < length old
+  pub vacant : (d : PlacedPool) → (slice_index_or new entry d).reach ≡ 0
+  pub others : (k : ℕ) (d : PlacedPool) → k ≢ entry → slice_index_or new k d ≡ slice_index_or old k d

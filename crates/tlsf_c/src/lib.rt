@@ -15,6 +15,7 @@ mod placed_blocks;
 mod placed_heap;
 mod placed_lookup;
 mod placed_pool;
+mod placed_pools;
 mod pools;
 mod room;
 mod row;
