@@ -186,7 +186,7 @@ size_t tlsf_sure_bytes(uint32_t blocks, size_t bytes, size_t largest);
 #if UINTPTR_MAX > 0xffffffff
 #define TLSF_CONTROL_BYTES ((size_t)392)
 #else
-#define TLSF_CONTROL_BYTES ((size_t)248)
+#define TLSF_CONTROL_BYTES ((size_t)344)
 #endif
 
 /* Calls the walker with each block of the pool, live or free, in order of address. A null pointer

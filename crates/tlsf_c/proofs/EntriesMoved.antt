@@ -53,9 +53,9 @@ module _ (pools : List PlacedPool) (k : ℕ) (new : PlacedPool) (within : k < le
         | inr old ↦
             let one : IsEntered pools range = All-contains (IsEntered pools) old_ranges range are.entered old in
             let apart : one.1.0 ≢ k = λ at. (
-                let is : slice_index_or pools k one.0 ≡ one.0 = ap (λ (n : ℕ). slice_index_or pools n one.0) (sym at) ∙ one.1.2 in
-                let none : one.0.reach ≡ 0 = ap (λ (p : PlacedPool). p.reach) (sym is) ∙ vacant one.0 in
-                omega (arith, none, one.2)) in
+            let is : slice_index_or pools k one.0 ≡ one.0 = ap (λ (n : ℕ). slice_index_or pools n one.0) (sym at) ∙ one.1.2 in
+            let none : one.0.reach ≡ 0 = ap (λ (p : PlacedPool). p.reach) (sym is) ∙ vacant one.0 in
+            omega (arith, none, one.2)) in
             (one.0, stands_still one.0 one.1 apart, one.2, one.3)
       ] in
       record {
@@ -71,21 +71,21 @@ module _ (pools : List PlacedPool) (k : ℕ) (new : PlacedPool) (within : k < le
       → AreEntriesOf old_ranges pools → AreEntriesOf ranges written
   entries_removed old_ranges ranges gone apart is some removed none are =
       let enters : (range : ℕ × ℕ) → Contains ranges range → IsEntered written range = λ range has. (
-          let before = removed.alone range has in
-          let one : IsEntered pools range = All-contains (IsEntered pools) old_ranges range are.entered before.0 in
-          let away : one.1.0 ≢ k = λ at. (
-              let same : gone ≡ one.0 = sym is ∙ get_or_default pools k gone one.0 within ∙ ap (λ (n : ℕ). slice_index_or pools n one.0) (sym at) ∙ one.1.2 in
-              before.1 (sym (ap (λ (r : ℕ × ℕ). r.0) one.3) ∙ ap (λ (p : PlacedPool). p.place) (sym same))) in
-          (one.0, stands_still one.0 one.1 away, one.2, one.3)) in
+      let before = removed.alone range has in
+      let one : IsEntered pools range = All-contains (IsEntered pools) old_ranges range are.entered before.0 in
+      let away : one.1.0 ≢ k = λ at. (
+      let same : gone ≡ one.0 = sym is ∙ get_or_default pools k gone one.0 within ∙ ap (λ (n : ℕ). slice_index_or pools n one.0) (sym at) ∙ one.1.2 in
+      before.1 (sym (ap (λ (r : ℕ × ℕ). r.0) one.3) ∙ ap (λ (p : PlacedPool). p.place) (sym same))) in
+      (one.0, stands_still one.0 one.1 away, one.2, one.3)) in
       let begins_elsewhere : (n : ℕ) (d : PlacedPool) → n ≢ k → n < length pools → 0 < (slice_index_or pools n d).reach → (slice_index_or pools n d).place ≢ gone.place = λ n d away h positive.
-          let is_gone : slice_index_or pools k d ≡ gone = get_or_default pools k d gone within ∙ is in
-          elim (cases_order n k) [
-            | inl at ↦ absurd (away at)
-            | inr apart_by ↦ elim apart_by [
-              | inl below ↦ (subst (λ (p : PlacedPool). AreApart (slice_index_or pools n d) p) is_gone (apart n k d below within)).places positive some
-              | inr above ↦ λ e. (subst (λ (p : PlacedPool). AreApart p (slice_index_or pools n d)) is_gone (apart k n d above h)).places some positive (sym e)
-            ]
-          ] in
+      let is_gone : slice_index_or pools k d ≡ gone = get_or_default pools k d gone within ∙ is in
+      elim (cases_order n k) [
+        | inl at ↦ absurd (away at)
+        | inr apart_by ↦ elim apart_by [
+          | inl below ↦ (subst (λ (p : PlacedPool). AreApart (slice_index_or pools n d) p) is_gone (apart n k d below within)).places positive some
+          | inr above ↦ λ e. (subst (λ (p : PlacedPool). AreApart p (slice_index_or pools n d)) is_gone (apart k n d above h)).places some positive (sym e)
+        ]
+      ] in
       record {
         entered = λ n d h. enters (slice_index_or ranges n d) (All-contains_itself ranges n d h);
         of_ranges = λ n d h. elim (cases_eq n k) [

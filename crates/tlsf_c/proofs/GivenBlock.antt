@@ -145,7 +145,7 @@ given_size slot n place old new good e =
     let rounds = round-Some n asked gave.2 in
     let value : asked ≡ (n + 15) / 16 * 16 = omega (arith, rounds.whole, rounds.least, rounds.near) in
     let size : size_at gave.1 (blocks_of (map (replaced_in gave.1 (split slot gave.1 asked old_size)) old.pools)) ≡ asked =
-        ap (size_at gave.1) (blocks_of-replaced gave.1 (split slot gave.1 asked old_size) old.pools) ∙ size_replaced gave.1 asked slot (gap (gave.1 + asked) (old_size - asked)) (blocks_of old.pools) counted in
+    ap (size_at gave.1) (blocks_of-replaced gave.1 (split slot gave.1 asked old_size) old.pools) ∙ size_replaced gave.1 asked slot (gap (gave.1 + asked) (old_size - asked)) (blocks_of old.pools) counted in
     let now : size_at place (blocks_of new.pools) ≡ asked = subst (λ (g : ℕ × Content ℕ). size_at g.0 (blocks_of g.1.pools) ≡ asked) gave.4 size in
     let live = live_given (λ other. other == slot) slot n place old new good e (eq-eqb slot slot refl) in
     let told : block_size (λ other. other == slot) place new ≡ Ok (size_at place (blocks_of new.pools)) = rw live refl in

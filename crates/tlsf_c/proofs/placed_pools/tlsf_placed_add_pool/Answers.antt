@@ -31,7 +31,7 @@ invariant_of-heap c =
       first_in_units = can.in_units;
     } in
     let begins_elsewhere : (i : ℕ) (d : PlacedPool) → i < length heap.pools → 0 < (slice_index_or heap.pools i d).reach → (slice_index_or heap.pools i d).place ≢ place = λ i d h some same.
-        ∥∥₁_elim heap.entries (λ a b. absurd a) (λ are. added.elsewhere (placed_range (slice_index_or heap.pools i d)) (are.of_ranges i d h some) same) in
+    ∥∥₁_elim heap.entries (λ a b. absurd a) (λ are. added.elsewhere (placed_range (slice_index_or heap.pools i d)) (are.of_ranges i d h some) same) in
     record {
       placed = All-set IsPlaced heap.pools k new placed heap.placed;
       apart = apart_after heap.pools k new within heap.apart (λ i d away h. (
