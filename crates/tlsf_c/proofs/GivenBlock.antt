@@ -1,19 +1,24 @@
 -- A block that malloc gives lies in a range of the pools, and has the bytes asked for, rounded up.
-use Rattle.std.proofs.Common.{◌≡◌, ℕ, ◌+◌, ◌-◌, ◌*◌, ◌/◌, ◌<◌, ◌≤◌, List, [], ◌∷◌, ◌++◌, map, count_by, refl, ap, ◌∙◌, subst, arith, Some, Ok, inl, inr}
+use Rattle.std.proofs.Common.{sym, ◌≡◌, ℕ, ◌+◌, ◌-◌, ◌*◌, ◌/◌, ◌<◌, ◌≤◌, List, [], ◌∷◌, ◌++◌, map, count_by, refl, ap, ◌∙◌, subst, arith, Some, Ok, inl, inr, Bool, true, false}
 use Rattle.std.specs.Prelude.{◌==◌}
 use Rattle.std.specs.List.{AllByRecursion, Contains}
-use Rattle.std.proofs.lemmas.Bool.{cases_Bool, cases_lt, eq-eqb, eqb-true}
+use Rattle.std.proofs.lemmas.Bool.{cases_Bool, cases_lt, eq-eqb, eqb-true, ne_eqb}
 use Rattle.tlsf_class.proofs.RoundingLaws.{round-Some}
 use Rattle.tlsf_heap.specs.BlockSize.{block_size}
 use Rattle.tlsf_heap.specs.Content.{Block, Pool, Content, blocks_of, is_at, size_at}
 use Rattle.tlsf_heap.specs.Counted.{range_of}
+use Rattle.tlsf_heap.specs.Free.{is_live}
 use Rattle.tlsf_heap.specs.Good.{Covers, AreGoodPools, IsGood}
 use Rattle.tlsf_heap.specs.Malloc.{gap, replaced, replaced_in, split, malloc}
 use Rattle.tlsf_heap.proofs.Counts.{one_if, count-cons, count-append}
+use Rattle.tlsf_heap.proofs.Content.Blocks.{Ascends, Ascends-pools}
 use Rattle.tlsf_heap.proofs.Content.Given.{malloc_gave}
 use Rattle.tlsf_heap.proofs.Content.Replacing.{blocks_of-replaced}
 use Rattle.tlsf_heap.proofs.Good.MallocIsGood.{Covers-le, all-append, picked}
 use Rattle.tlsf_heap.proofs.Good.StaysLive.{found_stands, live_given}
+use Rattle.tlsf_heap.specs.Pointer.{Pointer, block_size_ptr}
+use Rattle.tlsf_region.proofs.Ends.{live_is_there}
+use Rattle.tlsf_region.proofs.Sizes.{size_is}
 use Rattle.tlsf_c.specs.Lying.{LiesIn}
 use Rattle.tlsf_c.proofs.Stands.{never_stands, stands_first, stands_first_or_later, stands_later}
 
@@ -150,3 +155,67 @@ given_size slot n place old new good e =
     let live = live_given (λ other. other == slot) slot n place old new good e (eq-eqb slot slot refl) in
     let told : block_size (λ other. other == slot) place new ≡ Ok (size_at place (blocks_of new.pools)) = rw live refl in
     told ∙ ap (λ (size : ℕ). Ok size) (now ∙ value)
+
+-- a block begins at the place of a live one
+live_counted : (is_meant : ℕ → Bool) (place : ℕ) (blocks : List (Block ℕ)) → is_live is_meant place blocks ≡ true → 1 ≤ count_by (is_at place) blocks
+live_counted is_meant place [] live = absurd (cc)
+live_counted is_meant place (block ∷ blocks) live = elim (cases_Bool (is_at place block)) [
+  | inl here ↦ omega (arith, count-cons (is_at place) block blocks, ap one_if here)
+  | inr elsewhere ↦
+      let same : is_live is_meant place (block ∷ blocks) ≡ is_live is_meant place blocks = rw elsewhere refl in
+      omega (arith, count-cons (is_at place) block blocks, ap one_if elsewhere, live_counted is_meant place blocks (sym same ∙ live))
+]
+
+-- a live block lies in a range of the pools
+pub live_lies : (ptr : Pointer) (size : ℕ) (content : Content ℕ) → IsGood content → block_size_ptr ptr content ≡ Ok size → LiesIn ptr.place size (map range_of content.pools)
+live_lies ptr size content good e =
+    let is = size_is ptr content size e in
+    let counted = live_counted (λ slot. slot == ptr.slot) ptr.place (blocks_of content.pools) is.0 in
+    let there = in_a_range ptr.place 0 content.pools good.pools_good counted in
+    record {
+      range = there.0;
+      of_ranges = there.1;
+      from = there.2;
+      below = there.3;
+      ends = λ other has above below.
+          let block = live_is_there (EndsThere other.0 (other.0 + other.1)) (λ slot. slot == ptr.slot) ptr.place (blocks_of content.pools) (ends_there other 0 content.pools good.pools_good has) is.0 in
+          omega (arith, is.1, block.2, block.3, block.1 (omega (arith, above, block.2)) (omega (arith, below, block.2)));
+    }
+
+-- of blocks in order, one begins at or above where they do
+begins_above : (place from : ℕ) (blocks : List (Block ℕ)) → Ascends from blocks → 1 ≤ count_by (is_at place) blocks → from ≤ place
+begins_above place from [] ascends some = absurd (omega (arith, some))
+begins_above place from (block ∷ blocks) ascends some = elim (cases_Bool (is_at place block)) [
+  | inl here ↦ omega (arith, ascends.0, eqb-true block.place place here)
+  | inr elsewhere ↦
+      omega (arith, ascends.0, ascends.1, begins_above place (block.place + block.size) blocks ascends.2 (omega (arith, some, count-cons (is_at place) block blocks, ap one_if elsewhere)))
+]
+
+-- the first of two ends at or before the second
+ends_before : (place other from : ℕ) (blocks : List (Block ℕ)) → Ascends from blocks → 1 ≤ count_by (is_at place) blocks → 1 ≤ count_by (is_at other) blocks → place < other → place + size_at place blocks ≤ other
+ends_before place other from [] ascends some some_other below = absurd (omega (arith, some))
+ends_before place other from (block ∷ blocks) ascends some some_other below = elim (cases_Bool (is_at other block)) [
+  | inl first ↦
+      let at : block.place ≡ other = eqb-true block.place other first in
+      let elsewhere : is_at place block ≡ false = ne_eqb block.place place (λ e. (omega (arith, at, e, below))) in
+      let rest = begins_above place (block.place + block.size) blocks ascends.2 (omega (arith, some, count-cons (is_at place) block blocks, ap one_if elsewhere)) in
+      absurd (omega (arith, rest, at, below))
+  | inr later ↦
+      let rest_other : 1 ≤ count_by (is_at other) blocks = omega (arith, some_other, count-cons (is_at other) block blocks, ap one_if later) in
+      elim (cases_Bool (is_at place block)) [
+        | inl here ↦
+            let size : size_at place (block ∷ blocks) ≡ block.size = rw here refl in
+            omega (arith, size, eqb-true block.place place here, begins_above other (block.place + block.size) blocks ascends.2 rest_other)
+        | inr elsewhere ↦
+            let size : size_at place (block ∷ blocks) ≡ size_at place blocks = rw elsewhere refl in
+            omega (arith, size, ends_before place other (block.place + block.size) blocks ascends.2 (omega (arith, some, count-cons (is_at place) block blocks, ap one_if elsewhere)) rest_other below)
+      ]
+]
+
+-- the first of two live blocks ends at or before the second
+pub live_ends_before : (ptr other : Pointer) (size other_size : ℕ) (content : Content ℕ) → IsGood content → block_size_ptr ptr content ≡ Ok size → block_size_ptr other content ≡ Ok other_size → ptr.place < other.place → ptr.place + size ≤ other.place
+live_ends_before ptr other size other_size content good e e_other below =
+    let is = size_is ptr content size e in
+    let is_other = size_is other content other_size e_other in
+    omega (arith, is.1, ends_before ptr.place other.place 0 (blocks_of content.pools) (Ascends-pools 0 content.pools good.pools_good)
+    (live_counted (λ slot. slot == ptr.slot) ptr.place (blocks_of content.pools) is.0) (live_counted (λ slot. slot == other.slot) other.place (blocks_of content.pools) is_other.0) below)

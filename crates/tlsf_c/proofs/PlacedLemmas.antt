@@ -1,5 +1,5 @@
 -- The entry that has a place or an address is the only one, and holds a pool of the heap.
-use Rattle.std.proofs.Common.{◌≡◌, ℕ, ◌+◌, ◌<◌, ◌≤◌, List, slice_index_or, refl, sym, ap, ◌∙◌, subst, arith, ◌≢◌, Option, Result, Ok, Err, inl, inr}
+use Rattle.std.proofs.Common.{◌≡◌, ℕ, ◌+◌, ◌<◌, ◌≤◌, List, map, ◌⊎◌, slice_index_or, refl, sym, ap, ◌∙◌, subst, arith, ◌≢◌, Option, Result, Ok, Err, inl, inr}
 use Rattle.std.specs.List.{All, AllPairs, Contains}
 use Rattle.std.proofs.lemmas.Bool.{cases_order, cases_lt, ne_eqb, cond-false}
 use Rattle.std.proofs.lemmas.List.{get_or_default}
@@ -10,7 +10,10 @@ use Rattle.tlsf_heap.specs.declared.refusal.Refusal.{Refusal}
 use Rattle.tlsf_heap.specs.declared.refusal.Refusal.TheVariants.{ZeroSize, NoFit}
 use Rattle.tlsf_heap.specs.Content.{Content}
 use Rattle.tlsf_heap.specs.Malloc.{malloc, malloc_rounded}
-use Rattle.tlsf_heap.specs.Pointer.{block_size_ptr}
+use Rattle.tlsf_heap.specs.Counted.{range_of}
+use Rattle.tlsf_heap.specs.Good.{IsGood}
+use Rattle.tlsf_heap.specs.Pointer.{Pointer, block_size_ptr}
+use Rattle.tlsf_c.proofs.GivenBlock.{live_lies, live_ends_before}
 use Rattle.tlsf_c.specs.declared.placed_pool.PlacedPool.{PlacedPool}
 use Rattle.tlsf_c.specs.Fronts.{front, told_size}
 use Rattle.tlsf_c.specs.Lying.{LiesIn}
@@ -89,3 +92,48 @@ IsSame size other = let one : Result ℕ Refusal = Ok size in one ≡ Ok other
 
 pub the_size : {size other : ℕ} → IsSame size other → size ≡ other
 the_size e = cc
+
+-- the first of two blocks that are live at addresses ends, with its front, at or before the second's front
+pub live_apart : (one other word other_word : ℕ) (pools : List PlacedPool) (content : Content ℕ) → IsGood content → AllPairs AreApart pools → ∥ AreEntriesOf (map range_of content.pools) pools ∥₁
+    → IsLiveAt one word pools content → IsLiveAt other other_word pools content → one < other → one + told_size word one ≤ other
+live_apart one other word other_word pools content good apart entries live live_other below =
+    let size : ℕ = told_size word one in
+    let ptr : Pointer = told_block live.place one word in
+    let ptr_other : Pointer = told_block live_other.place other other_word in
+    let pool : PlacedPool = live.pool in
+    let pool_other : PlacedPool = live_other.pool in
+    let i : ℕ = live.of_pools.0 in
+    let j : ℕ = live_other.of_pools.0 in
+    let is : slice_index_or pools i pool ≡ pool = live.of_pools.2 in
+    let is_other : slice_index_or pools j pool_other ≡ pool_other = live_other.of_pools.2 in
+    let ends = ends_in_entry live.place size (map range_of content.pools) pools pool entries (live_lies ptr size content good live.live) live.of_pools live.at.has in
+    let at = live.at in
+    let at_other = live_other.at in
+    let overlap : AreApart pool pool_other ⊎ AreApart pool_other pool → one + size ≤ other = λ pair. elim (cases_lt other (one + size)) [
+      | inr good_end ↦ good_end
+      | inl within ↦ absurd (
+          let some : 0 < pool.reach = omega (arith, at.has.0, at.has.1) in
+          let some_other : 0 < pool_other.reach = omega (arith, at_other.has.0, at_other.has.1) in
+          let h : pool.first < pool_other.first + pool_other.reach + front = omega (arith, at.address_is, at_other.address_is, at.has.0, at_other.has.0, at_other.has.1, below) in
+          let h_other : pool_other.first < pool.first + pool.reach + front = omega (arith, at.address_is, at_other.address_is, at.has.0, at_other.has.0, ends, within) in
+          elim pair [
+            | inl pair ↦ pair.addresses some some_other h h_other
+            | inr pair ↦ pair.addresses some_other some h_other h
+          ])
+    ] in
+    elim (cases_order i j) [
+      | inl same ↦
+          let one_pool : pool ≡ pool_other = sym is ∙ get_or_default pools i pool pool_other live.of_pools.1 ∙ ap (λ (k : ℕ). slice_index_or pools k pool_other) same ∙ is_other in
+          let at_one : IsAt pool live_other.place other = subst (λ (p : PlacedPool). IsAt p live_other.place other) (sym one_pool) at_other in
+          let places : live.place < live_other.place = omega (arith, at.address_is, at_one.address_is, at.has.0, at_one.has.0, below) in
+          let end = live_ends_before ptr ptr_other size (told_size other_word other) content good live.live live_other.live places in
+          omega (arith, at.address_is, at_one.address_is, at.has.0, at_one.has.0, end)
+      | inr differ ↦ elim differ [
+        | inl before ↦
+            let to : slice_index_or pools j pool ≡ pool_other = get_or_default pools j pool pool_other live_other.of_pools.1 ∙ is_other in
+            overlap (inl (subst (λ (p : PlacedPool). AreApart p pool_other) is (subst (λ (p : PlacedPool). AreApart (slice_index_or pools i pool) p) to (apart i j pool before live_other.of_pools.1))))
+        | inr behind ↦
+            let to : slice_index_or pools i pool_other ≡ pool = get_or_default pools i pool_other pool live.of_pools.1 ∙ is in
+            overlap (inr (subst (λ (p : PlacedPool). AreApart p pool) is_other (subst (λ (p : PlacedPool). AreApart (slice_index_or pools j pool_other) p) to (apart j i pool_other behind live.of_pools.1))))
+      ]
+    ]
