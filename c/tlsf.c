@@ -362,26 +362,23 @@ void *tlsf_memalign(tlsf_t tlsf, size_t align, size_t bytes)
                              : refuse_bytes(control, status, NULL, bytes);
 }
 
-/* The word that stands in front of a pointer into a pool. */
-static inline uint64_t word_of(const void *ptr)
-{
-    uint64_t word;
-    (void)__builtin_memcpy(&word, (const unsigned char *)ptr - FRONT, FRONT);
-    return word;
-}
-
 void tlsf_free(tlsf_t tlsf, void *ptr)
 {
     LOCKED(tlsf);
     struct control *control = control_of(tlsf);
+    uint64_t word = 0;
     if (control == NULL) {
         return;
     }
-    if (tlsf_placed_has(&control->at, (uintptr_t)ptr)
-        && tlsf_placed_free(&control->at, (uintptr_t)ptr, word_of(ptr)) == TLSF_OK) {
-        control->figures.blocks_live--;
-        control->figures.bytes_live -= tlsf_block_size(ptr);
+    bool has = has_pointer(&control->at.pools[0], ptr)
+               || tlsf_placed_has(&control->at, (uintptr_t)ptr);
+    if (has) {
+        (void)__builtin_memcpy(&word, (const unsigned char *)ptr - FRONT, FRONT);
+    }
+    if (has && tlsf_placed_free(&control->at, (uintptr_t)ptr, word) == TLSF_OK) {
         write_front(ptr, 0, 0);
+        control->figures.blocks_live--;
+        control->figures.bytes_live -= size_in(word, ptr) - FRONT;
     } else {
         (void)refuse_pointer(control, ptr, 0);
     }

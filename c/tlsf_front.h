@@ -48,11 +48,11 @@ struct placed {
  * tlsf_placed_add_pool adds a pool of `bytes` bytes, of which the eight in front of `first` are the
  * first, and gives *entry the number of its entry. It refuses one that overlaps another. */
 uint64_t tlsf_placed_malloc(struct placed *heap, uint64_t bytes, uint64_t *word);
-uint32_t tlsf_placed_free(struct placed *heap, uint64_t address, uint64_t word);
+enum tlsf_status tlsf_placed_free(struct placed *heap, uint64_t address, uint64_t word);
 bool tlsf_placed_has(const struct placed *heap, uint64_t address);
-uint32_t tlsf_placed_add_pool(struct placed *heap, uint64_t first, uint64_t bytes, uint64_t place,
-                              uint32_t *entry);
-uint32_t tlsf_placed_remove_pool(struct placed *heap, uint32_t entry);
+enum tlsf_status tlsf_placed_add_pool(struct placed *heap, uint64_t first, uint64_t bytes,
+                                      uint64_t place, uint32_t *entry);
+enum tlsf_status tlsf_placed_remove_pool(struct placed *heap, uint32_t entry);
 
 /* What stands at the start of the memory handed in, in front of the table. */
 struct control {
@@ -88,11 +88,19 @@ static inline struct control *control_of(void *tlsf)
 }
 
 /* The size and slot that the front of a pointer keeps: more than 42 bits where it isn't whole. */
+static inline uint64_t kept_in(uint64_t word, const void *ptr)
+{
+    return (word - (uintptr_t)ptr) * UNSCRAMBLE;
+}
+static inline size_t size_in(uint64_t word, const void *ptr)
+{
+    return (size_t)(kept_in(word, ptr) >> SLOT_BITS) * UNIT;
+}
 static inline uint64_t unscrambled(const void *ptr)
 {
     uint64_t front;
     (void)__builtin_memcpy(&front, (const unsigned char *)ptr - FRONT, FRONT);
-    return (front - (uintptr_t)ptr) * UNSCRAMBLE;
+    return kept_in(front, ptr);
 }
 
 static inline void write_front(void *ptr, size_t size, uint64_t slot)
@@ -101,10 +109,6 @@ static inline void write_front(void *ptr, size_t size, uint64_t slot)
     (void)__builtin_memcpy((unsigned char *)ptr - FRONT, &front, FRONT);
 }
 
-static inline bool has_place(const struct pool *pool, uint32_t place)
-{
-    return (uint32_t)(place - pool->place) < pool->reach;
-}
 static inline bool has_pointer(const struct pool *pool, const void *ptr)
 {
     return (uintptr_t)ptr - pool->first < pool->reach;
@@ -117,7 +121,8 @@ RARE static const struct pool *pool_of(const struct control *control, const uint
     const struct pool *pool = NULL;
     for (uint32_t k = 0; k < POOLS && pool == NULL; k++) {
         const struct pool *own = &control->at.pools[k];
-        bool has = place == NULL ? has_pointer(own, ptr) : has_place(own, *place);
+        bool has = place == NULL ? has_pointer(own, ptr)
+                                 : (uint32_t)(*place - own->place) < own->reach;
         pool = has ? own : NULL;
     }
     return pool;

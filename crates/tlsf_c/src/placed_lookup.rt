@@ -7,11 +7,11 @@ use crate::placed_pool::PlacedPool;
 
 /// The pool that has a block's place, if one has.
 #[inline(always)]
-pub(crate) fn pool_of(pools: &[PlacedPool; 8], place: u32) -> Option<PlacedPool>
+pub(crate) fn pool_of(pools: &[PlacedPool; 8], place: u32) -> Option<&PlacedPool>
     requires { All IsPlaced pools.now }
-    ensures { MatchOption result (All (λ pool. HasPlace pool place → ⊥) pools.now) (λ pool. Contains pools.now pool × HasPlace pool place) }
+    ensures { MatchOption result (All (λ pool. HasPlace pool place → ⊥) pools.now) (λ pool. Contains pools.now pool.now × HasPlace pool.now place) }
 {
-    let first = pools[0];
+    let first = &pools[0];
     if first.has_place(place) {
         Some(first)
     } else {
@@ -22,13 +22,13 @@ pub(crate) fn pool_of(pools: &[PlacedPool; 8], place: u32) -> Option<PlacedPool>
 /// The same, where it isn't the first.
 #[inline(never)]
 #[cold]
-fn later_pool_of(pools: &[PlacedPool; 8], place: u32) -> Option<PlacedPool>
+fn later_pool_of(pools: &[PlacedPool; 8], place: u32) -> Option<&PlacedPool>
     requires { All IsPlaced pools.now }
-    ensures { MatchOption result (All (λ pool. HasPlace pool place → ⊥) pools.now) (λ pool. Contains pools.now pool × HasPlace pool place) }
+    ensures { MatchOption result (All (λ pool. HasPlace pool place → ⊥) pools.now) (λ pool. Contains pools.now pool.now × HasPlace pool.now place) }
 {
     for pool in pools {
         if pool.has_place(place) {
-            return Some(*pool);
+            return Some(pool);
         }
     }
     None
@@ -36,11 +36,11 @@ fn later_pool_of(pools: &[PlacedPool; 8], place: u32) -> Option<PlacedPool>
 
 /// The pool that has a block's address, if one has.
 #[inline(always)]
-pub(crate) fn pool_at(pools: &[PlacedPool; 8], address: u64) -> Option<PlacedPool>
+pub(crate) fn pool_at(pools: &[PlacedPool; 8], address: u64) -> Option<&PlacedPool>
     requires { All IsPlaced pools.now }
-    ensures { MatchOption result (All (λ pool. HasAddress pool address → ⊥) pools.now) (λ pool. Contains pools.now pool × HasAddress pool address) }
+    ensures { MatchOption result (All (λ pool. HasAddress pool address → ⊥) pools.now) (λ pool. Contains pools.now pool.now × HasAddress pool.now address) }
 {
-    let first = pools[0];
+    let first = &pools[0];
     if first.has_address(address) {
         Some(first)
     } else {
@@ -51,13 +51,13 @@ pub(crate) fn pool_at(pools: &[PlacedPool; 8], address: u64) -> Option<PlacedPoo
 /// The same, where it isn't the first.
 #[inline(never)]
 #[cold]
-fn later_pool_at(pools: &[PlacedPool; 8], address: u64) -> Option<PlacedPool>
+fn later_pool_at(pools: &[PlacedPool; 8], address: u64) -> Option<&PlacedPool>
     requires { All IsPlaced pools.now }
-    ensures { MatchOption result (All (λ pool. HasAddress pool address → ⊥) pools.now) (λ pool. Contains pools.now pool × HasAddress pool address) }
+    ensures { MatchOption result (All (λ pool. HasAddress pool address → ⊥) pools.now) (λ pool. Contains pools.now pool.now × HasAddress pool.now address) }
 {
     for pool in pools {
         if pool.has_address(address) {
-            return Some(*pool);
+            return Some(pool);
         }
     }
     None

@@ -10,7 +10,7 @@ use Rattle.tlsf_c.proofs.placed_blocks.find.Goals as goal
 pub returns-else-from-mark-clause-none : goal.returns-else-from-mark-clause-none
 returns-else-from-mark-clause-none c = λ live.
     let heap = c.args.heap.now in
-    let there = live_in_found c.args.address c.args.word c.place_of.result heap.pools c.in_ok-pool.pool heap.handle.value.content heap.apart c.in_ok-pool.ensures.0 c.place_of.ensures.at live in
+    let there = live_in_found c.args.address c.args.word c.place_of.result heap.pools c.in_ok-pool.pool.now heap.handle.value.content heap.apart c.in_ok-pool.ensures.0 c.place_of.ensures.at live in
     let block_is : c.new-ptr.result ≡ told_block c.place_of.result c.args.address c.args.word =
     c.new-ptr.ensures ∙ ap (λ (slot : ℕ). let p : Pointer = record { place = c.place_of.result; slot = slot } in p) c.mark_of-mark.ensures.slot in
     let found = subst (λ (h : Counted). block_size_ptr c.new-ptr.result h.content ≡ Ok c.in-Ok.size) c.heap.ensures.value c.in-Ok.ensures.ok in
@@ -21,5 +21,5 @@ returns-else-from-mark-clause-none c = λ live.
 pub returns-in-Err-clause-none : goal.returns-in-Err-clause-none
 returns-in-Err-clause-none c = λ live.
     let heap = c.args.heap.now in
-    let there = live_in_found c.args.address c.args.word c.place_of.result heap.pools c.in_ok-pool.pool heap.handle.value.content heap.apart c.in_ok-pool.ensures.0 c.place_of.ensures.at live in
+    let there = live_in_found c.args.address c.args.word c.place_of.result heap.pools c.in_ok-pool.pool.now heap.handle.value.content heap.apart c.in_ok-pool.ensures.0 c.place_of.ensures.at live in
     absurd (cc (there, c.in-Err.ensures.refused.refused, c.new-ptr.ensures, c.mark_of-mark.ensures.slot, c.heap.ensures.value))
