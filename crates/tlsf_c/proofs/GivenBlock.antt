@@ -217,5 +217,9 @@ pub live_ends_before : (ptr other : Pointer) (size other_size : ℕ) (content : 
 live_ends_before ptr other size other_size content good e e_other below =
     let is = size_is ptr content size e in
     let is_other = size_is other content other_size e_other in
-    omega (arith, is.1, ends_before ptr.place other.place 0 (blocks_of content.pools) (Ascends-pools 0 content.pools good.pools_good)
-    (live_counted (λ slot. slot == ptr.slot) ptr.place (blocks_of content.pools) is.0) (live_counted (λ slot. slot == other.slot) other.place (blocks_of content.pools) is_other.0) below)
+    omega (
+      arith,
+      is.1,
+      ends_before ptr.place other.place 0 (blocks_of content.pools) (Ascends-pools 0 content.pools good.pools_good)
+          (live_counted (λ slot. slot == ptr.slot) ptr.place (blocks_of content.pools) is.0) (live_counted (λ slot. slot == other.slot) other.place (blocks_of content.pools) is_other.0) below,
+    )

@@ -7,6 +7,7 @@ mod GivenBlock
 mod InUnits
 mod LoadLemmas
 mod PlacedLemmas
+mod PlacedVectors
 mod RangesMoved
 mod RoomLemmas
 mod ReallocGives

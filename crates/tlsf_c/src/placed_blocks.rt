@@ -15,7 +15,7 @@ ghost use Rattle.tlsf_c.specs.Status.{number};
 
 use crate::front::{Mark, mark_of, word_of};
 use crate::placed_heap::PlacedHeap;
-use crate::placed_lookup::{pool_at, pool_of};
+use crate::placed_lookup::{later_pool_of, pool_at};
 use crate::placed_pool::PlacedPool;
 use crate::status::{SERVED, number};
 use tlsf_heap::{Heap, Ptr, Refusal};
@@ -54,7 +54,30 @@ fn release(heap: &mut Heap, ptr: Ptr) -> Result<(), Refusal>
     heap.free(ptr)
 }
 
-/// The address of a block of this size, and the word in front of it.
+/// The address of a block of this size in the pool, and the word in front of it.
+#[inline(always)]
+fn place_in(pool: &PlacedPool, ptr: Ptr, size: u64, word: &mut u64) -> u64
+    requires placed { IsPlaced pool.now }
+    requires has { HasPlace pool.now ptr.place }
+    requires in_units { ptr.place % 16 ≡ 0 }
+    requires units { size % 16 ≡ 0 }
+    requires most { size < 2 ^ 30 }
+    ensures some { 0 < result }
+    ensures multiple { result % 16 ≡ 0 }
+    ensures at { IsAt pool.now ptr.place result }
+    ensures size { told_size word.new result ≡ size }
+    ensures slot { told_slot word.new result ≡ ptr.slot }
+{
+    let address = pool.address_of(ptr.place());
+    let mark = Mark {
+        size,
+        slot: ptr.slot(),
+    };
+    *word = word_of(mark, address);
+    address
+}
+
+/// The same of the pool that has the block's place.
 #[inline(always)]
 fn place_block(pools: &[PlacedPool; 8], ptr: Ptr, size: u64, word: &mut u64) -> u64
     requires placed { All IsPlaced pools.now }
@@ -68,16 +91,14 @@ fn place_block(pools: &[PlacedPool; 8], ptr: Ptr, size: u64, word: &mut u64) -> 
     ensures size { told_size word.new result ≡ size }
     ensures slot { told_slot word.new result ≡ ptr.slot }
 {
-    let Some(pool) = pool_of(pools, ptr.place()) else {
+    let first = &pools[0];
+    if first.has_place(ptr.place()) {
+        return place_in(first, ptr, size, word);
+    }
+    let Some(pool) = later_pool_of(pools, ptr.place()) else {
         return 0;
     };
-    let address = pool.address_of(ptr.place());
-    let mark = Mark {
-        size,
-        slot: ptr.slot(),
-    };
-    *word = word_of(mark, address);
-    address
+    place_in(pool, ptr, size, word)
 }
 
 /// A live block of at least `bytes` bytes, at the address that is answered, with eight bytes in front of it. `word` gets

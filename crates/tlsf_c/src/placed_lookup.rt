@@ -5,24 +5,10 @@ ghost use Rattle.tlsf_c.specs.PlacedPools.{IsPlaced, HasPlace, HasAddress};
 
 use crate::placed_pool::PlacedPool;
 
-/// The pool that has a block's place, if one has.
-#[inline(always)]
-pub(crate) fn pool_of(pools: &[PlacedPool; 8], place: u32) -> Option<&PlacedPool>
-    requires { All IsPlaced pools.now }
-    ensures { MatchOption result (All (λ pool. HasPlace pool place → ⊥) pools.now) (λ pool. Contains pools.now pool.now × HasPlace pool.now place) }
-{
-    let first = &pools[0];
-    if first.has_place(place) {
-        Some(first)
-    } else {
-        later_pool_of(pools, place)
-    }
-}
-
-/// The same, where it isn't the first.
+/// The pool that has a block's place, if one has. It is for where that isn't the first.
 #[inline(never)]
 #[cold]
-fn later_pool_of(pools: &[PlacedPool; 8], place: u32) -> Option<&PlacedPool>
+pub(crate) fn later_pool_of(pools: &[PlacedPool; 8], place: u32) -> Option<&PlacedPool>
     requires { All IsPlaced pools.now }
     ensures { MatchOption result (All (λ pool. HasPlace pool place → ⊥) pools.now) (λ pool. Contains pools.now pool.now × HasPlace pool.now place) }
 {
