@@ -1,7 +1,9 @@
-/* tlsf.c: the calls of Conte's tlsf over the proved heap of tlsf_heap.h. They aren't proved.
+/* tlsf.c: the calls of Conte's tlsf over the proved heap of tlsf_heap.h. This file isn't proved.
  *
  * The heap hands out places, from 0 to 2^32 - 1. It chooses each block, and knows whether a live
- * block has a place and a slot: that is proved. This file turns places into addresses and back:
+ * block has a place and a slot. That is proved, and so are the calls of tlsf_front.h: they answer
+ * addresses to malloc, find the block that free means, and add and remove pools. Of the other calls
+ * this file turns places into addresses and back. It also moves fronts, and keeps the figures:
  *
  * - The control part, at the start of the memory handed in, keeps each pool's address and places. It
  *   ends with its mark, a sum over it. So tlsf_check tells a byte that is changed there, and reads
@@ -289,6 +291,19 @@ static inline void count_bytes(struct control *control, size_t had, size_t has)
         control->mark += TIMES(figures.most_bytes_live) * more;
         figures->most_bytes_live = figures->bytes_live;
     }
+}
+
+/* The pointer to a live block that memalign or realloc gave, whose front is written. Only where the
+ * control part or the table is spoiled does the block lie in no pool: then the pointer is null. */
+static inline void *hand_out(const struct control *control, tlsf_heap_block block, size_t size)
+{
+    const struct pool *pool = pool_of(control, &block.place, NULL);
+    if (pool == NULL) {
+        return NULL;
+    }
+    void *ptr = (void *)(uintptr_t)(pool->first + (uint32_t)(block.place - pool->place));
+    write_front(ptr, size, block.slot);
+    return ptr;
 }
 
 /* A new block, and its pointer. */

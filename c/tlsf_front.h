@@ -128,19 +128,6 @@ RARE static const struct pool *pool_of(const struct control *control, const uint
     return pool;
 }
 
-/* The pointer to a live block that memalign or realloc gave, whose front is written. Only where the
- * control part or the table is spoiled does the block lie in no pool: then the pointer is null. */
-static inline void *hand_out(const struct control *control, tlsf_heap_block block, size_t size)
-{
-    const struct pool *pool = pool_of(control, &block.place, NULL);
-    if (pool == NULL) {
-        return NULL;
-    }
-    void *ptr = (void *)(uintptr_t)(pool->first + (uint32_t)(block.place - pool->place));
-    write_front(ptr, size, block.slot);
-    return ptr;
-}
-
 /* Whether a pointer lies in a pool of the heap, with a whole front: then its block and size. Whether
  * the block is live is the heap's to say. */
 static inline bool find(const struct control *control, const void *ptr, tlsf_heap_block *block,
