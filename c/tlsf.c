@@ -468,7 +468,7 @@ int tlsf_stats(tlsf_t tlsf, tlsf_figures *out)
     }
     for (uint32_t k = 0; k < POOLS; k++) {
         const struct pool *pool = &control->at.pools[k];
-        out->bytes_free += pool->reach == 0u ? 0u : pool->reach + FRONT;
+        out->bytes_free += pool->reach == 0u ? 0u : (size_t)pool->reach + FRONT;
     }
     out->bytes_free -= out->bytes_live + FRONT * out->blocks_live;
     return 0;
