@@ -1,10 +1,8 @@
--- A run under way that counts the blocks of a log, and how it goes on and ends.
-use Rattle.std.proofs.Common.{◌≡◌, Bool, false, ◌||◌, ◌∷◌, sym, subst, reverse}
+-- A run that counts the blocks of a log, and how it ends.
+use Rattle.std.proofs.Common.{◌≡◌, Bool, ◌||◌}
 use Rattle.std.specs.Prelude.{if◌then◌else◌}
-use Rattle.mtrace_log.specs.Progress.{Progress, to_come, GivesLine, FindsEnd}
 use Rattle.mtrace_log.specs.Shown.{ReaderState, WriterState}
 use Rattle.mtrace_log.specs.Output.{Wrote}
-use Rattle.mtrace_log.specs.declared.line.Line.{Line}
 use Rattle.mtrace_replay.specs.declared.status.Status.{Status}
 use Rattle.mtrace_replay.specs.declared.status.Status.TheVariants.{Clean, Found}
 use Rattle.mtrace_replay.specs.declared.no_heap.report.LedgerReport.TheVariants as report
@@ -13,42 +11,20 @@ use Rattle.mtrace_replay.specs.declared.parts.replay.CountedReplay.{CountedRepla
 use Rattle.mtrace_replay.specs.Prepared.{IsOf, HasNamed, prepared_text}
 use Rattle.mtrace_replay.specs.Moment.{half}
 use Rattle.mtrace_replay.specs.Run.{has_some}
-use Rattle.mtrace_replay.specs.RunServed.{LineServed, served_end}
-use Rattle.mtrace_replay.specs.Spans.{AreCountedOf}
-use Rattle.mtrace_replay.specs.RunParts.{IsStart, HasCounted, EndsCounted}
-use Rattle.mtrace_replay.proofs.ReplayingLemmas.{no_line, reverse-more}
-use Rattle.mtrace_replay.proofs.ServedRunLemmas.{IsFollowing, following_start, following_line, following_end, served_all}
+use Rattle.mtrace_replay.specs.RunServed.{served_end}
+use Rattle.mtrace_replay.specs.RunParts.{HasCounted, EndsCounted}
+use Rattle.mtrace_replay.specs.Served.{added_served}
+use Rattle.mtrace_replay.specs.Following.{HasFollowed}
+use Rattle.mtrace_replay.specs.CountedReplay.{counted_rules}
+use Rattle.mtrace_replay.proofs.ServedRunLemmas.{has_served, served_all}
 
--- the lines so far were followed, and their blocks counted
-pub record IsCounting (progress : Progress) (replay : CountedReplay) (has_diagnostics : Bool) (reader_start reader_now : ReaderState) (writer_start writer_now : WriterState) : Type 0 where
-  pub following : IsFollowing progress replay.ledger has_diagnostics reader_start reader_now writer_start writer_now
-  pub counted : AreCountedOf (reverse following.so_far.lines) replay.spans
-
--- before the first line
-pub counting_start : (replay : CountedReplay) (reader : ReaderState) (writer : WriterState) → IsStart replay → IsCounting no_line replay false reader reader writer writer
-unfolding following_start
-counting_start replay reader writer start = record { following = following_start replay.ledger reader writer start.stands; counted = start.counted }
-
--- one line more
-pub counting_line : (old new : Progress) (replay_old replay_new : CountedReplay) (had_diagnostics : Bool) (start before after : ReaderState) (writer_start writer_old writer_new : WriterState) (line : Line)
-    → (under : IsCounting old replay_old had_diagnostics start before writer_start writer_old) → GivesLine old new (to_come old before.left) (to_come new after.left) line
-    → (more : Bool) → LineServed replay_new.ledger line.event (reverse under.following.so_far.lines) writer_old writer_new more → AreCountedOf (line.event ∷ reverse under.following.so_far.lines) replay_new.spans
-    → IsCounting new replay_new (had_diagnostics || more) start after writer_start writer_new
-unfolding following_line
-counting_line old new replay_old replay_new had_diagnostics start before after writer_start writer_old writer_new line under given more gives counted = record {
-  following = following_line old new replay_old.ledger replay_new.ledger had_diagnostics start before after writer_start writer_old writer_new line under.following given more gives;
-  counted = subst (λ past. AreCountedOf past replay_new.spans) (sym (reverse-more under.following.so_far.lines line.event)) counted;
-}
-
--- the end of the log
-pub counting_end : {R : Type 0} (reads : R → ReaderState) (old new : Progress) (replay : CountedReplay) (has_diagnostics : Bool) (start : ReaderState) (reader_old reader_new : R) (writer_start writer : WriterState)
-    → IsCounting old replay has_diagnostics start (reads reader_old) writer_start writer
-    → FindsEnd old.stage old new reader_old reader_new (to_come old (reads reader_old).left) (to_come new (reads reader_new).left)
-    → HasCounted replay has_diagnostics start (reads reader_new) writer_start writer
-unfolding following_end
-counting_end reads old new replay has_diagnostics start reader_old reader_new writer_start writer under found = record {
-  served = following_end reads old new replay.ledger has_diagnostics start reader_old reader_new writer_start writer under.following found;
-  counted = under.counted;
+-- all lines were followed, and their blocks counted
+pub has_counted : (replay : CountedReplay) (has_diagnostics : Bool) (reader_old reader_new : ReaderState) (writer_old writer_new : WriterState)
+    → HasFollowed (counted_rules.Stands tt replay) added_served has_diagnostics reader_old reader_new writer_old writer_new → HasCounted replay has_diagnostics reader_old reader_new writer_old writer_new
+unfolding has_served
+has_counted replay has_diagnostics reader_old reader_new writer_old writer_new done = record {
+  served = has_served reader_old reader_new writer_old writer_new (counted_rules.Stands tt replay) replay.ledger has_diagnostics (λ past stands. stands.0) done;
+  counted = done.stands.1;
 }
 
 -- all was written

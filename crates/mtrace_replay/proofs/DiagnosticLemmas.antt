@@ -1,7 +1,11 @@
--- A line adds at most two diagnostics, with that of the line before.
-use Rattle.std.proofs.Common.{ℕ, ◌+◌, ◌≤◌, arith, Bool, true, false, [], length, length-append, Option, Some, None, Ok, Err}
+-- A line adds at most two diagnostics, with that of the line before. The text of diagnostics, one after the other.
+use Rattle.std.proofs.Common.{◌≡◌, refl, ℕ, ◌+◌, ◌≤◌, ◌||◌, arith, Bool, true, false, List, [], ◌∷◌, ◌++◌, length, length-append, Option, Some, None, Ok, Err}
+use Rattle.std.proofs.lemmas.Grind.{flat_map-append}
 use Rattle.std.specs.Prelude.{Result, if◌then◌else◌}
 use Rattle.tlsf_heap.specs.declared.refusal.Refusal.{Refusal}
+use Rattle.mtrace_replay.specs.declared.diagnostic.Diagnostic.{Diagnostic}
+use Rattle.mtrace_replay.specs.Texts.{diagnostic_text, diagnostics_text}
+use Rattle.mtrace_replay.specs.Run.{has_some}
 use Rattle.mtrace_replay.specs.Started.{Bare}
 use Rattle.mtrace_replay.specs.Moment.{ReadLine, Given, outcome, is_new, half, Act, idle, give, take, move, plan, answered, moved, done, acts}
 use Rattle.mtrace_replay.specs.Entry.{Entry}
@@ -38,3 +42,10 @@ diagnostics_few before number line pending held content =
       done_few now.act content,
       length-append now.first (done now.act content).diagnostics,
     )
+
+pub diagnostics_text-append : (first second : List Diagnostic) → diagnostics_text (first ++ second) ≡ diagnostics_text first ++ diagnostics_text second
+diagnostics_text-append first second = flat_map-append diagnostic_text first second
+
+pub some_diagnostic-append : (first second : List Diagnostic) → has_some (first ++ second) ≡ (has_some first || has_some second)
+some_diagnostic-append [] second = refl
+some_diagnostic-append (diagnostic ∷ first) second = refl

@@ -85,7 +85,7 @@ none_given : (place : ℕ) (o : Unit {0}) → (let none : Option (ℕ × Unit {0
 none_given place o is = cc
 
 -- each refusal that is told is the heap's: this is what it answered
-abbrev AreRefusals : (Refusal → Type 0) → List Diagnostic → Type 0
+abbrev pub AreRefusals : (Refusal → Type 0) → List Diagnostic → Type 0
 AreRefusals answers diagnostics = AllByRecursion (λ (one : Diagnostic). (address : ℕ) (why : Refusal) → one.kind ≡ Refused address why → answers why) diagnostics
 
 -- the block has no more bytes

@@ -9,6 +9,8 @@ mod EnoughBlocks
 mod EnoughRecords
 mod Flat
 mod FitLemmas
+mod FittedPool
+mod FollowingLemmas
 mod FoundLemmas
 mod GapLemmas
 mod GivenSizes
@@ -16,6 +18,7 @@ mod HeapSteps
 mod HeldBytes
 mod HeldFew
 mod HeldLemmas
+mod HeldLive
 mod HoldingLemmas
 mod IndexLemmas
 mod KeyLemmas
@@ -39,6 +42,7 @@ mod SiteLemmas
 mod SiteRows
 mod SitesBySlot
 mod SitesLemmas
+mod SizePartsLemmas
 mod SlotLemmas
 mod SortedLemmas
 mod OneLineMore

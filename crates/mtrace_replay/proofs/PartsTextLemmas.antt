@@ -1,9 +1,9 @@
 -- A sum over parts, where one has none.
-use Rattle.std.proofs.Common.{◌≡◌, ℕ, zero, suc, ◌+◌, ◌<◌, ◌≤◌, List, [], ◌∷◌, ◌++◌, length, map, drop, slice_index_or, Option, Some, None, refl, sym, ap, ◌∙◌, subst, arith, append_assoc}
+use Rattle.std.proofs.Common.{◌≡◌, ℕ, zero, suc, ◌+◌, ◌<◌, ◌≤◌, List, [], ◌∷◌, ◌++◌, length, map, flat_map, drop, slice_index_or, Option, Some, None, refl, sym, ap, ◌∙◌, subst, arith, append_assoc}
 use Rattle.std.specs.Prelude.{option_map, option_and_then}
 use Rattle.std.proofs.lemmas.List.{map-append}
 use Rattle.mtrace_replay.specs.declared.parts.text.PartOf.{PartOf}
-use Rattle.mtrace_replay.specs.Parts.{size_ranges, Part, sum_over, IsCut, parts_of}
+use Rattle.mtrace_replay.specs.Parts.{size_ranges, Part, sum_over, part_line, IsCut, parts_of}
 use Rattle.mtrace_replay.specs.PartsText.{part_in}
 
 abbrev pub no_part : PartOf
@@ -38,3 +38,8 @@ pub cut_more : (part : ℕ → ℕ → Part) (ends rest : List ℕ) (i first las
 cut_more part ends rest i first last next here next_is cut =
     let its = subst (IsCut part first) here cut in
     subst (λ n. IsCut part n rest) (sym (next_is its.1)) its.2
+
+-- the lines of parts, by what the text is made of
+pub lines_same : (parts : List PartOf) → flat_map (λ part. part_line (part_in part)) parts ≡ flat_map part_line (map part_in parts)
+lines_same [] = refl
+lines_same (part ∷ parts) = ap (λ rest. part_line (part_in part) ++ rest) (lines_same parts)

@@ -1,18 +1,10 @@
 -- A run without a heap under way, and how it goes on and ends.
-use Rattle.std.proofs.Common.{◌≡◌, ℕ, Bool, true, false, ◌||◌, List, [], ◌∷◌, ◌++◌, length, map, Result, Ok, Err, refl, sym, ap, ◌∙◌, subst, reverse, inl, inr, append_assoc, if◌then◌else◌, arith}
-use Rattle.std.specs.Prelude.{◌==◌, OnOk}
-use Rattle.std.specs.Result.{is_err}
-use Rattle.std.proofs.lemmas.Bool.{eqb-true}
+use Rattle.std.proofs.Common.{◌≡◌, ℕ, Bool, ◌||◌, List, [], ◌∷◌, ◌++◌, length, map, refl, sym, ap, ◌∙◌, subst, reverse, inl, inr, append_assoc, if◌then◌else◌}
 use Rattle.std.proofs.lemmas.List.{length-reverse, length-map}
-use Rattle.mtrace_log.specs.Progress.{Progress, Faulted, to_come, GivesLine, FindsEnd, GivesFault, CallsFor}
 use Rattle.mtrace_log.specs.Shown.{Bytes, ReaderState, WriterState}
 use Rattle.mtrace_log.specs.HasRead.{HasReadAll}
 use Rattle.mtrace_log.specs.Output.{Wrote, Begins}
-use Rattle.mtrace_log.specs.declared.line.Line.{Line}
-use Rattle.mtrace_log.specs.declared.line.ReadFault.{ReadFault}
-use Rattle.mtrace_log.specs.declared.line.ReadFault.TheVariants.{ReaderFailed}
-use Rattle.mtrace_log.proofs.Writing.{Wrote-nothing, Wrote-append, Begins-after}
-use Rattle.mtrace_replay.specs.declared.diagnostic.Diagnostic.{Diagnostic}
+use Rattle.mtrace_log.proofs.Writing.{Wrote-append, Begins-after}
 use Rattle.mtrace_replay.specs.declared.status.Status.{Status}
 use Rattle.mtrace_replay.specs.declared.status.Status.TheVariants.{Clean, Found}
 use Rattle.mtrace_replay.specs.declared.no_heap.report.LedgerReport.{LedgerReport}
@@ -24,22 +16,18 @@ use Rattle.mtrace_replay.specs.Entry.{Entry}
 use Rattle.mtrace_replay.specs.Sites.{Site, AreSites}
 use Rattle.mtrace_replay.specs.Totals.{bytes_in, first_moments}
 use Rattle.mtrace_replay.proofs.TotalsLemmas.{measure_is_one}
-use Rattle.mtrace_replay.specs.Moment.{ReadLine, Given, Moment, half}
+use Rattle.mtrace_replay.specs.Moment.{ReadLine, Given, half}
 use Rattle.mtrace_replay.specs.History.{held, notes, pending, entries_of}
 use Rattle.mtrace_replay.specs.Texts.{diagnostics_text, leaks_report, both_sections, clean_or_found, total_size}
 use Rattle.mtrace_replay.specs.Run.{has_some}
-use Rattle.mtrace_replay.specs.Replaying.{IsFollowed}
 use Rattle.mtrace_replay.specs.Served.{unplaced, served_moment, served_moments, served_history, added_served, Standing, IsServed, totals_of}
-use Rattle.mtrace_replay.specs.RunServed.{served_notes, whole_served, AreServedTotals, TellsServedSites, TellsServed, ReportsServed, EndsServed, StopsServedAtRead, StopsServedAtWrite, StopsForMemory, served_end, LineServed, LineServedInPart, HasServed}
-use Rattle.mtrace_replay.proofs.ReplayingLemmas.{prepend_nothing, no_line, followed_start, followed_line, followed_end, followed_fault, line_read, reverse-more}
-use Rattle.mtrace_replay.proofs.RunLemmas.{diagnostics_text-append, some_diagnostic-append, status-is}
+use Rattle.mtrace_replay.specs.RunServed.{served_notes, whole_served, AreServedTotals, TellsServedSites, TellsServed, ReportsServed, EndsServed, StopsServedAtRead, StopsServedAtWrite, StopsForMemory, served_end, HasServed}
+use Rattle.mtrace_replay.specs.LineReplay.{noted}
+use Rattle.mtrace_replay.specs.Following.{noted_text, HasFollowed, StopsReading, StopsWriting, StopsWanting}
+use Rattle.mtrace_replay.proofs.ReplayingLemmas.{prepend_nothing}
+use Rattle.mtrace_replay.proofs.DiagnosticLemmas.{diagnostics_text-append}
+use Rattle.mtrace_replay.proofs.RunLemmas.{status-is}
 use Rattle.mtrace_replay.proofs.ServedLemmas.{length-served, entries_unplaced}
-
--- the lines so far were read and followed, and their diagnostics written
-pub record IsFollowing (progress : Progress) (replay : Standing) (has_diagnostics : Bool) (reader_start reader_now : ReaderState) (writer_start writer_now : WriterState) : Type 0 where
-  pub so_far : IsFollowed (λ past. IsServed replay past) progress reader_start reader_now
-  pub wrote : Wrote writer_start writer_now (served_notes so_far.lines)
-  pub has_diagnostics_is : has_diagnostics ≡ has_some (notes (served_history so_far.lines))
 
 pub no_moment : served_history [] ≡ []
 unfolding served_moments
@@ -49,49 +37,50 @@ one_moment : (line : ReadLine) (past : List ReadLine) → served_moments (line �
 unfolding served_moments
 one_moment line past = refl
 
--- the moments with one line more
-pub history-more : (lines : List ReadLine) (line : ReadLine)
-    → served_history (lines ++ line ∷ []) ≡ served_moment (length (reverse lines)) line (pending (reverse lines)) (held (served_history lines)) ∷ served_history lines
-history-more lines line = ap served_moments (reverse-more lines line) ∙ one_moment line (reverse lines)
+-- the diagnostics of lines, one after the other, are those of their history
+pub noted_is : (past : List ReadLine) → noted added_served past ≡ notes (served_moments past)
+noted_is [] = sym (ap notes no_moment)
+noted_is (line ∷ past) = ap (λ all. all ++ added_served line past) (noted_is past) ∙ sym (ap notes (one_moment line past))
 
-pub notes-more : (lines : List ReadLine) (line : ReadLine) → served_notes (lines ++ line ∷ []) ≡ served_notes lines ++ diagnostics_text (added_served line (reverse lines))
-notes-more lines line = ap (λ past. diagnostics_text (notes past)) (history-more lines line) ∙ diagnostics_text-append (notes (served_history lines)) (added_served line (reverse lines))
+pub noted_text_is : (lines : List ReadLine) → noted_text added_served (reverse lines) ≡ served_notes lines
+noted_text_is lines = ap diagnostics_text (noted_is (reverse lines))
 
--- before the first line
-unfoldable pub following_start : (replay : Standing) (reader : ReaderState) (writer : WriterState) → IsServed replay [] → IsFollowing no_line replay false reader reader writer writer
-following_start replay reader writer stands = record {
-  so_far = followed_start (λ past. IsServed replay past) reader stands;
-  wrote = subst (λ (past : List Moment). Wrote writer writer (diagnostics_text (notes past))) (sym no_moment) (Wrote-nothing writer);
-  has_diagnostics_is = ap (λ past. has_some (notes past)) (sym no_moment);
-}
+module _ (reader_old reader_new : ReaderState) (writer_old writer_new : WriterState) where
+  -- all lines were followed
+  unfoldable pub has_served : (Stands : List ReadLine → Type 0) (replay : Standing) (has_diagnostics : Bool) → ((past : List ReadLine) → Stands past → IsServed replay past)
+      → (done : HasFollowed Stands added_served has_diagnostics reader_old reader_new writer_old writer_new) → HasServed replay has_diagnostics reader_old reader_new writer_old writer_new
+  has_served Stands replay has_diagnostics served done = record {
+    lines = done.lines;
+    read = done.read;
+    stands = served (reverse done.lines) done.stands;
+    wrote = subst (λ (text : List ℕ). Wrote writer_old writer_new text) (noted_text_is done.lines) done.wrote;
+    has_diagnostics_is = done.has_diagnostics_is ∙ ap has_some (noted_is (reverse done.lines));
+  }
 
-module _ (old new : Progress) (replay_old replay_new : Standing) (had_diagnostics : Bool) (start before after : ReaderState) (writer_start writer_old writer_new : WriterState) (line : Line)
-    (under : IsFollowing old replay_old had_diagnostics start before writer_start writer_old) (given : GivesLine old new (to_come old before.left) (to_come new after.left) line) where
-  -- one line more
-  unfoldable pub following_line : (more : Bool) → LineServed replay_new line.event (reverse under.so_far.lines) writer_old writer_new more → IsFollowing new replay_new (had_diagnostics || more) start after writer_start writer_new
-  following_line more gives =
-      let lines = under.so_far.lines in
-      let added = added_served line.event (reverse lines) in
-      record {
-        so_far = followed_line (λ past. IsServed replay_old past) (λ past. IsServed replay_new past) old new start before after line under.so_far given gives.stands;
-        wrote = subst (λ (text : List ℕ). Wrote writer_start writer_new text) (sym (notes-more lines line.event))
-            (Wrote-append writer_start writer_old writer_new (served_notes lines) (diagnostics_text added) under.wrote gives.wrote);
-        has_diagnostics_is = ap (λ b. b || more) under.has_diagnostics_is ∙ ap (λ b. has_some (notes (served_history lines)) || b) gives.has_diagnostics_is
-            ∙ sym (ap (λ past. has_some (notes past)) (history-more lines line.event) ∙ some_diagnostic-append (notes (served_history lines)) added);
-      }
+  -- the reader failed, or a line past the last number would come
+  pub stops_served_at_read : StopsReading added_served reader_old reader_new writer_old writer_new → StopsServedAtRead reader_old reader_new writer_old writer_new
+  stops_served_at_read stops = record {
+    lines = stops.lines;
+    reason = stops.reason;
+    wrote = subst (λ (text : List ℕ). Wrote writer_old writer_new text) (noted_text_is stops.lines) stops.wrote;
+  }
+
+  -- the writer failed at a line's diagnostics
+  pub stops_served_at_write : (report : LedgerReport) (Stands : List ReadLine → Type 0) → StopsWriting Stands added_served reader_old reader_new writer_old writer_new → StopsServedAtWrite report reader_old reader_new writer_old writer_new
+  stops_served_at_write report Stands stops = record {
+    lines = stops.lines;
+    unused = stops.unused;
+    begun = inl (stops.read, subst (λ (text : List ℕ). Begins writer_old writer_new text) (noted_text_is stops.lines) stops.begun);
+  }
 
   -- memory was refused at a line
-  pub following_memory : writer_new ≡ writer_old → StopsForMemory start after writer_start writer_new
-  following_memory same =
-      let lines = under.so_far.lines in
-      -- the line was read, and isn't followed
-      let now = followed_line (λ past. IsServed replay_old past) (λ past. Unit {0}) old new start before after line under.so_far given tt in
-      record {
-        lines = lines;
-        unused = new.held;
-        reason = inl (line.event, line_read new.stage start.left (to_come old before.left) (to_come new after.left) now.lines line.event given.taken now.read);
-        wrote = subst (λ (writer : WriterState). Wrote writer_start writer (served_notes lines)) (sym same) under.wrote;
-      }
+  pub stops_for_memory : StopsWanting added_served reader_old reader_new writer_old writer_new → StopsForMemory reader_old reader_new writer_old writer_new
+  stops_for_memory stops = record {
+    lines = stops.lines;
+    unused = stops.unused;
+    reason = inl (stops.line, stops.read);
+    wrote = subst (λ (text : List ℕ). Wrote writer_old writer_new text) (noted_text_is stops.lines) stops.wrote;
+  }
 
 -- what comes behind the diagnostics of the lines: that of the end, and a text
 abbrev pub last_text : List ReadLine → List ℕ → List ℕ
@@ -164,50 +153,6 @@ module _ (replay : Standing) (lines : List ReadLine) (stands : IsServed replay (
   prepared_tells report.Nothing prepared.Nothing is named = refl
   prepared_tells report prepared is named = absurd is
 
--- the writer failed at a line's diagnostics
-pub following_write : (report : LedgerReport) (old new : Progress) (replay_old replay_new : Standing) (had_diagnostics : Bool) (start before after : ReaderState) (writer_start writer_old writer_new : WriterState) (line : Line)
-    → (under : IsFollowing old replay_old had_diagnostics start before writer_start writer_old)
-    → GivesLine old new (to_come old before.left) (to_come new after.left) line
-    → LineServedInPart replay_new line.event (reverse under.so_far.lines) writer_old writer_new
-    → StopsServedAtWrite report start after writer_start writer_new
-following_write report old new replay_old replay_new had_diagnostics start before after writer_start writer_old writer_new line under given begins =
-    let was = under.so_far.lines in
-    let now = followed_line (λ past. IsServed replay_old past) (λ past. IsServed replay_new past) old new start before after line under.so_far given begins.stands in
-    record {
-      lines = now.lines;
-      unused = new.held;
-      begun = inl (
-        line_read new.stage start.left (to_come old before.left) (to_come new after.left) now.lines line.event given.taken now.read,
-        subst (λ (text : List ℕ). Begins writer_start writer_new text) (sym (notes-more was line.event))
-            (Begins-after writer_start writer_old writer_new (served_notes was) (diagnostics_text (added_served line.event (reverse was))) under.wrote begins.begun),
-      );
-    }
-
--- the end of the log
-unfoldable pub following_end : {R : Type 0} (reads : R → ReaderState) (old new : Progress) (replay : Standing) (has_diagnostics : Bool) (start : ReaderState) (reader_old reader_new : R) (writer_start writer : WriterState)
-    → IsFollowing old replay has_diagnostics start (reads reader_old) writer_start writer
-    → FindsEnd old.stage old new reader_old reader_new (to_come old (reads reader_old).left) (to_come new (reads reader_new).left)
-    → HasServed replay has_diagnostics start (reads reader_new) writer_start writer
-following_end reads old new replay has_diagnostics start reader_old reader_new writer_start writer under found = record {
-  lines = under.so_far.lines;
-  read = followed_end reads (λ past. IsServed replay past) old new start reader_old reader_new under.so_far found;
-  stands = under.so_far.stands;
-  wrote = under.wrote;
-  has_diagnostics_is = under.has_diagnostics_is;
-}
-
--- the reader failed, or there are no numbers left
-pub following_fault : {R : Type 0} (reads : R → ReaderState) (old new : Progress) (replay : Standing) (has_diagnostics : Bool) (start : ReaderState) (reader_old reader_new : R) (writer_start writer : WriterState) (fault : ReadFault)
-    → IsFollowing old replay has_diagnostics start (reads reader_old) writer_start writer
-    → GivesFault old.stage fault old new reader_old reader_new (to_come old (reads reader_old).left) (to_come new (reads reader_new).left)
-    → (fault ≡ ReaderFailed → new.held ≡ []) → CallsFor (Faulted fault) start.calls (reads reader_new).calls
-    → StopsServedAtRead start (reads reader_new) writer_start writer
-following_fault reads old new replay has_diagnostics start reader_old reader_new writer_start writer fault under given nothing came = record {
-  lines = under.so_far.lines;
-  reason = followed_fault reads (λ past. IsServed replay past) old new start reader_old reader_new fault under.so_far given nothing came;
-  wrote = under.wrote;
-}
-
 module _ (report : LedgerReport) (replay : Standing) (has_diagnostics : Bool) (reader_old reader_new : ReaderState) (writer_old writer_middle writer_new : WriterState)
     (done : HasServed replay has_diagnostics reader_old reader_new writer_old writer_middle) (prepared : Prepared) (is_of : IsOf report prepared) (named : HasNamed replay prepared) where
   abbrev its_text : List ℕ
@@ -267,26 +212,3 @@ served_nothing replay has_diagnostics reader_old reader_new writer_old writer_mi
 pub served_memory : (replay : Standing) (has_diagnostics : Bool) (reader_old reader_new : ReaderState) (writer_old writer_middle : WriterState)
     → HasServed replay has_diagnostics reader_old reader_new writer_old writer_middle → StopsForMemory reader_old reader_new writer_old writer_middle
 served_memory replay has_diagnostics reader_old reader_new writer_old writer_middle done = record { lines = done.lines; unused = []; reason = inr done.read; wrote = done.wrote }
-
--- ---- a line of which nothing is wrong
-
--- what holds where there is no error
-pub no_error : {T E : Type 0} (result : Result T E) (P : Type 0) → is_err result ≡ false → OnOk result P → P
-no_error (Ok value) P ok p = p
-no_error (Err fault) P ok p = absurd (let e : true ≡ false = ok in cc)
-
-pub no_findings : (findings : List Diagnostic) → (length findings == 0) ≡ true → findings ≡ []
-no_findings [] is = refl
-no_findings (first ∷ more) is = absurd (omega (arith, eqb-true (length (first ∷ more)) 0 is))
-
--- it is followed, and nothing is put
-pub quiet_line : {T E : Type 0} (line : ReadLine) (result : Result T E) (old new : Standing) (findings : List Diagnostic) (writer : WriterState)
-    → OnOk result ((past : List ReadLine) → IsServed old past → IsServed new (line ∷ past)) → OnOk result ((past : List ReadLine) → IsServed old past → findings ≡ added_served line past)
-    → is_err result ≡ false → findings ≡ [] → (past : List ReadLine) → IsServed old past → LineServed new line past writer writer false
-quiet_line line result old new findings writer stands told ok none past stood =
-    let added : [] ≡ added_served line past = sym none ∙ no_error result _ ok told past stood in
-    record {
-      stands = no_error result _ ok stands past stood;
-      wrote = subst (λ (all : List Diagnostic). Wrote writer writer (diagnostics_text all)) added (Wrote-nothing writer);
-      has_diagnostics_is = ap has_some added;
-    }

@@ -28,13 +28,13 @@ rounded_size given = rounded_bytes given.entry.size
 
 module _ (most bytes size : ℕ) where
   -- a good content that is large enough for the bounds, and keeps to them
-  record IsEnough (content : Bare) : Type 0 where
-    good : IsGood content
-    few : live_blocks content ≤ most
-    small : live_bytes (blocks_of content.pools) ≤ bytes
-    large : IsLargeEnough most bytes size content
+  pub record IsEnough (content : Bare) : Type 0 where
+    pub good : IsGood content
+    pub few : live_blocks content ≤ most
+    pub small : live_bytes (blocks_of content.pools) ≤ bytes
+    pub large : IsLargeEnough most bytes size content
 
-  room : (asked : ℕ → ℕ) (rests n : ℕ) (content : Bare) → rests ≤ 2 → IsEnough content → AsksAtMost size asked n → HasRoomFor asked rests n content
+  pub room : (asked : ℕ → ℕ) (rests n : ℕ) (content : Bare) → rests ≤ 2 → IsEnough content → AsksAtMost size asked n → HasRoomFor asked rests n content
   room asked rests n content two enough asks = room_within most bytes size asked rests n content two enough.large (record { few = enough.few; small = enough.small; asks = asks })
 
   -- a block fits what is done
@@ -53,10 +53,10 @@ module _ (most bytes size : ℕ) where
   module _ (start : Bare) (good : IsGood start) (free : AreAllFree start) (one : length start.pools ≡ 1)
       (large : bytes + (most + 1) * (size - unit) < pool_bytes start.pools) (enough : 2 * most + 3 ≤ start.records) where
     -- what is so of the lines
-    record IsWithin (past : List ReadLine) : Type 0 where
-      holds : HoldsAtMost most (moments start past)
-      bytes_held : HoldsBytesAtMost bytes (moments start past)
-      of : AllByRecursion (IsOfAtMost size) (acts_of start past)
+    pub record IsWithin (past : List ReadLine) : Type 0 where
+      pub holds : HoldsAtMost most (moments start past)
+      pub bytes_held : HoldsBytesAtMost bytes (moments start past)
+      pub of : AllByRecursion (IsOfAtMost size) (acts_of start past)
 
     fewer : (line : ReadLine) (past : List ReadLine) → IsWithin (line ∷ past) → IsWithin past
     fewer line past within = record {
@@ -100,7 +100,7 @@ module _ (most bytes size : ℕ) where
         total [] = refl
         total (given ∷ all) = omega (arith, total all)
 
-    enough_still : (past : List ReadLine) → IsWithin past → IsEnough (content_after start (moments start past))
+    pub enough_still : (past : List ReadLine) → IsWithin past → IsEnough (content_after start (moments start past))
     enough_still past within =
         let ms = moments start past in
         let stands = stands_all start good free past in

@@ -11,7 +11,7 @@ use Rattle.mtrace_replay.specs.Entry.{Entry}
 use Rattle.mtrace_replay.specs.declared.diagnostic.Diagnostic.{Diagnostic}
 use Rattle.mtrace_replay.specs.declared.diagnostic.Kind.TheVariants.{AlreadyHeld}
 use Rattle.mtrace_replay.specs.Started.{Bare}
-use Rattle.mtrace_replay.specs.Moment.{ReadLine, Given, Moment, Act, idle, give, take, move, plan, allocation, release, reallocation, renewal, none_for, doing, done, moment, answered, moved, asked_size, after_diagnostics, half, is_new}
+use Rattle.mtrace_replay.specs.Moment.{ReadLine, Given, Moment, Plan, Act, idle, give, take, move, plan, allocation, release, reallocation, renewal, none_for, doing, done, moment, answered, moved, asked_size, after_diagnostics, half, is_new}
 use Rattle.mtrace_replay.specs.History.{held, given_or, unless_taken, pending, notes, AreHeld, entries_of, moments, next_moment, content_after}
 use Rattle.mtrace_replay.specs.Totals.{is_served, is_refused, is_refusal, Measures, IsPeak, bytes_in, blocks_in, first_moments, AreTotals}
 use Rattle.mtrace_replay.specs.Step.{found}
@@ -42,33 +42,43 @@ bare = option_map (λ given. unplaced given.entry)
 
 -- ---- a plan does the same where no place is told
 
-allocated_bare : (entry : Entry) (align : Option ℕ) (here : Option Given) → all_served (allocation entry align (bare here)) ≡ all_served (allocation entry align here)
+-- an act, and a plan, without the place of a block
+abbrev pub bare_act : Act → Act
+bare_act idle = idle
+bare_act (give entry align) = give entry align
+bare_act (take address place) = take address 0
+bare_act (move old place entry) = move old 0 entry
+
+abbrev bare_plan : Plan → Plan
+bare_plan planned = record { first = planned.first; act = bare_act planned.act }
+
+allocated_bare : (entry : Entry) (align : Option ℕ) (here : Option Given) → bare_plan (allocation entry align (bare here)) ≡ bare_plan (allocation entry align here)
 allocated_bare entry align None = refl
 allocated_bare entry align (Some given) = refl
 
-released_bare : (number address : ℕ) (here : Option Given) → all_served (release number address (bare here)) ≡ all_served (release number address here)
+released_bare : (number address : ℕ) (here : Option Given) → bare_plan (release number address (bare here)) ≡ bare_plan (release number address here)
 released_bare number address None = refl
 released_bare number address (Some given) = refl
 
-reallocated_bare : (entry : Entry) (old : ℕ) (from here : Option Given) → all_served (reallocation entry old (bare from) (bare here)) ≡ all_served (reallocation entry old from here)
+reallocated_bare : (entry : Entry) (old : ℕ) (from here : Option Given) → bare_plan (reallocation entry old (bare from) (bare here)) ≡ bare_plan (reallocation entry old from here)
 reallocated_bare entry old None None = refl
 reallocated_bare entry old None (Some given) = refl
 reallocated_bare entry old (Some from) None = by (not (entry.addr == old) && false)
   where
-    by : (b : Bool) → all_served (cond b (none_for entry.line (AlreadyHeld entry.addr)) (doing (move old 0 entry))) ≡ all_served (cond b (none_for entry.line (AlreadyHeld entry.addr)) (doing (move old from.place entry)))
+    by : (b : Bool) → bare_plan (cond b (none_for entry.line (AlreadyHeld entry.addr)) (doing (move old 0 entry))) ≡ bare_plan (cond b (none_for entry.line (AlreadyHeld entry.addr)) (doing (move old from.place entry)))
     by true = refl
     by false = refl
 reallocated_bare entry old (Some from) (Some given) = by (not (entry.addr == old) && true)
   where
-    by : (b : Bool) → all_served (cond b (none_for entry.line (AlreadyHeld entry.addr)) (doing (move old 0 entry))) ≡ all_served (cond b (none_for entry.line (AlreadyHeld entry.addr)) (doing (move old from.place entry)))
+    by : (b : Bool) → bare_plan (cond b (none_for entry.line (AlreadyHeld entry.addr)) (doing (move old 0 entry))) ≡ bare_plan (cond b (none_for entry.line (AlreadyHeld entry.addr)) (doing (move old from.place entry)))
     by true = refl
     by false = refl
 
-renewed_bare : (entry : Entry) (pending : Option ℕ) (look : ℕ → Option Given) → all_served (renewal entry pending (λ a. bare (look a))) ≡ all_served (renewal entry pending look)
+renewed_bare : (entry : Entry) (pending : Option ℕ) (look : ℕ → Option Given) → bare_plan (renewal entry pending (λ a. bare (look a))) ≡ bare_plan (renewal entry pending look)
 renewed_bare entry None look = refl
 renewed_bare entry (Some old) look = reallocated_bare entry old (look old) (look entry.addr)
 
-planned_bare : (number : ℕ) (line : ReadLine) (pending : Option ℕ) (look : ℕ → Option Given) → all_served (plan number line pending (λ a. bare (look a))) ≡ all_served (plan number line pending look)
+pub planned_bare : (number : ℕ) (line : ReadLine) (pending : Option ℕ) (look : ℕ → Option Given) → bare_plan (plan number line pending (λ a. bare (look a))) ≡ bare_plan (plan number line pending look)
 planned_bare number (Err fault.TooLong) pending look = refl
 planned_bare number (Err fault.NotALine) pending look = refl
 planned_bare number (Ok (Alloc at (Some address) size)) pending look = allocated_bare (record { addr = address; size = size; line = number; at = at }) None (look address)
@@ -78,17 +88,30 @@ planned_bare number (Ok (Free at address)) pending look = released_bare number a
 planned_bare number (Ok (New at address size)) pending look = renewed_bare (record { addr = address; size = size; line = number; at = at }) pending look
 planned_bare number (Ok _) pending look = refl
 
+served_bare : (act : Act) → served (bare_act act) ≡ served act
+served_bare idle = refl
+served_bare (give entry align) = refl
+served_bare (take address place) = refl
+served_bare (move old place entry) = refl
+
+all_served_bare : (number : ℕ) (line : ReadLine) (pending : Option ℕ) (look : ℕ → Option Given) → all_served (plan number line pending (λ a. bare (look a))) ≡ all_served (plan number line pending look)
+all_served_bare number line pending look =
+    of_plan (plan number line pending (λ a. bare (look a))) ∙ ap all_served (planned_bare number line pending look) ∙ sym (of_plan (plan number line pending look))
+  where
+    of_plan : (planned : Plan) → all_served planned ≡ all_served (bare_plan planned)
+    of_plan planned = ap (after_diagnostics planned.first) (sym (served_bare planned.act))
+
 -- ---- an act that is not refused does what it does without a heap
 
 -- the moment, without the place of what it gave, and without the heap
 abbrev pub plain : Moment → Moment
 plain one = record { given = bare one.given; taken = one.taken; diagnostics = one.diagnostics; content = no_heap }
 
-abbrev Answer : Type 0
+abbrev pub Answer : Type 0
 Answer = Result (Option (ℕ × Unit {0}) × Bare) Refusal
 
 -- a block, or a refusal
-abbrev IsBlock : Answer → Type 0
+abbrev pub IsBlock : Answer → Type 0
 IsBlock (Ok (None, content)) = ⊥
 IsBlock (Ok (Some block, content)) = ⊤
 IsBlock (Err refusal) = ⊤
@@ -108,13 +131,13 @@ rounded_block place (Some m) content =
     (block_either (fits_in_place place m content) _ _ tt
     (block_either (nat_lt m (size_at place (blocks_of content.pools))) _ _ tt (moved_block place _)))
 
-asked_some : (size : ℕ) → (asked_size size == 0) ≡ false
+pub asked_some : (size : ℕ) → (asked_size size == 0) ≡ false
 asked_some size = elim (cases_Bool (size == 0)) [
   | inl none ↦ ap (λ (b : Bool). cond b 1 size == 0) none
   | inr some ↦ ap (λ (b : Bool). cond b 1 size == 0) some ∙ some
 ]
 
-realloc_block : (place size : ℕ) (content : Bare) → IsBlock (realloc (λ one other. true) tt (Some (place, tt)) (asked_size size) content)
+pub realloc_block : (place size : ℕ) (content : Bare) → IsBlock (realloc (λ one other. true) tt (Some (place, tt)) (asked_size size) content)
 realloc_block place size content =
     let freed : Answer = Ok (None, after_free place content) in
     let rest : Answer = realloc_rounded tt place tt (round (asked_size size)) content in
@@ -138,7 +161,7 @@ done_alike (take address place) content none = refl
 done_alike (move old place entry) content none = moved_alike entry content old place _ (realloc_block place entry.size content) none
 
 -- where none of both is, none of the second is
-none_behind : (first second : List Diagnostic) → list_any (λ (d : Diagnostic). is_refusal d.kind) (first ++ second) ≡ false → list_any (λ (d : Diagnostic). is_refusal d.kind) second ≡ false
+pub none_behind : (first second : List Diagnostic) → list_any (λ (d : Diagnostic). is_refusal d.kind) (first ++ second) ≡ false → list_any (λ (d : Diagnostic). is_refusal d.kind) second ≡ false
 none_behind [] second none = none
 none_behind (d ∷ first) second none = by (none_behind first second) (is_refusal d.kind) none
   where
@@ -153,7 +176,7 @@ moment_alike before line pending look content none =
     let planned = plan (suc before) line pending look in
     let first = cond (is_new line) [] (half before pending) in
     let behind = none_behind planned.first (done planned.act content).diagnostics (none_behind first (planned.first ++ (done planned.act content).diagnostics) none) in
-    ap (after_diagnostics first) (planned_bare (suc before) line pending look)
+    ap (after_diagnostics first) (all_served_bare (suc before) line pending look)
     ∙ ap (λ (m : Moment). after_diagnostics first (after_diagnostics planned.first m)) (sym (done_alike planned.act content behind))
 
 -- ---- what is held, told and served by moments without places

@@ -9,6 +9,7 @@ use Rattle.mtrace_replay.specs.Totals.{is_served}
 use Rattle.mtrace_replay.specs.Asked.{class_asked}
 use Rattle.mtrace_replay.specs.Served.{served_moment, served_moments, IsServed, added_served}
 use Rattle.mtrace_replay.specs.Spans.{released_by, address_asked, AreCountedOf, AreFew}
+use Rattle.mtrace_replay.specs.LineReplay.{LineRules}
 
 -- what the line behind these does, and whether it is served
 pub record IsChangeOf (change : Change) (served : Bool) (line : ReadLine) (past : List ReadLine) : Type 0 where
@@ -25,3 +26,14 @@ pub record FeedsCounted {E : Type 0} (number : ℕ) (line : ReadLine) (diagnosti
   pub told : OnOk result ((past : List ReadLine) → IsServed old.ledger past → diagnostics ≡ added_served line past)
   pub counted : OnOk result (new.ledger.lines ≡ number)
   pub few : OnOk result (AreFew number new.spans)
+
+-- what a replay says of itself that counts blocks: it begins on nothing, and its counts are below the greatest number
+abbrev pub counted_rules : LineRules CountedReplay
+counted_rules = record {
+  Start = Unit {0};
+  Stands = λ start replay past. IsServed replay.ledger past × AreCountedOf past replay.spans;
+  added = λ start. added_served;
+  lines = λ replay. replay.ledger.lines;
+  IsReady = λ replay. AreFew replay.ledger.lines replay.spans;
+  Lacks = Unit {0};
+}

@@ -8,6 +8,7 @@ pub mod Compare
 pub mod Enough
 pub mod Entry
 pub mod Fit
+pub mod Following
 pub mod Gather
 pub mod Held
 pub mod History
@@ -15,6 +16,7 @@ pub mod Holding
 pub mod Index
 pub mod Key
 pub mod Keys
+pub mod LineReplay
 pub mod Moment
 pub mod Prepared
 pub mod Replay
@@ -30,6 +32,7 @@ pub mod Settings
 pub mod Shares
 pub mod Sites
 pub mod Size
+pub mod SizeParts
 pub mod Started
 pub mod Step
 pub mod Survey

@@ -13,6 +13,7 @@ use Rattle.mtrace_replay.specs.Step.{found}
 use Rattle.mtrace_replay.specs.Totals.{blocks_in, rounded_bytes_in, AreTotals, IsMost}
 use Rattle.mtrace_replay.specs.Moment.{ReadLine, Given, plan, acts, half}
 use Rattle.mtrace_replay.specs.History.{AreHeld, next_moment, moments, content_after, pending, entries_of}
+use Rattle.mtrace_replay.specs.LineReplay.{LineRules}
 
 -- a replay: the heap's content, how often it was touched, how many addresses were compared, and the totals. `given`
 -- is what is held, in order of address; `most`, the most addresses that were held, and `most_rounded` the most bytes in
@@ -81,3 +82,14 @@ pub record TellsEnd {N : Type 0} (lacks : Type 0) (items : N → List Diagnostic
   pub for_good : OnErr result (replay.out_of_memory ≡ true)
   pub memory : OnErr result lacks
   pub works : OnOk result (replay.out_of_memory ≡ false)
+
+-- what a replay on a heap says of itself: it begins on the settings, and lacks no memory
+abbrev pub heap_rules : LineRules Replayed
+heap_rules = record {
+  Start = Settings;
+  Stands = λ settings replay past. StandsFor replay settings past × (replay.content.records ≡ settings.records);
+  added = added_diagnostics;
+  lines = λ replay. replay.totals.lines;
+  IsReady = λ replay. Unit {0};
+  Lacks = ⊥;
+}

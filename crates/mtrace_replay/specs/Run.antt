@@ -1,15 +1,13 @@
 -- What a run read and wrote, by its answer.
-use Rattle.std.specs.Prelude.{◌≡◌, ◌≢◌, ◌⊎◌, ◌↔◌, ℕ, Bool, true, false, List, [], ◌∷◌, ◌++◌, length, reverse, Result, Ok, Err, IsTrue, IfOk, OnOk, OnErr, IsErrOf, ◌||◌, if◌then◌else◌}
+use Rattle.std.specs.Prelude.{◌≡◌, ◌⊎◌, ◌↔◌, ℕ, Bool, true, false, List, [], ◌∷◌, ◌++◌, length, reverse, Result, Ok, Err, IsTrue, IfOk, OnOk, OnErr, IsErrOf, ◌||◌, if◌then◌else◌}
 use Rattle.std.specs.Io.KnownBytes.{prepend_known}
 use Rattle.mtrace_log.specs.HasRead.{HasRead, HasReadAll, HasReadBefore}
 use Rattle.mtrace_log.specs.Progress.{HasMore, greatest_number}
 use Rattle.mtrace_log.specs.Shown.{ReaderState, WriterState}
-use Rattle.mtrace_log.specs.Trace.{HasGiven, HasGivenAll, HasGivenAndFailed, HasNotFailed, HasTaken, HasTakenAndFlushed, HasTakenAndFailed, HasFailedToWrite, FlushWasAsked}
+use Rattle.mtrace_log.specs.Trace.{HasGiven, HasGivenAll, HasGivenAndFailed, HasNotFailed, HasTakenAndFlushed, HasFailedToWrite, FlushWasAsked}
 use Rattle.mtrace_replay.specs.declared.report.Report.{Report}
 use Rattle.mtrace_replay.specs.declared.report.Report.TheVariants.{Nothing}
 use Rattle.mtrace_replay.specs.declared.run.FinishedRun.{FinishedRun}
-use Rattle.mtrace_replay.specs.declared.run.Failing.{Failing}
-use Rattle.mtrace_replay.specs.declared.run.Failing.TheVariants.{Reader, Writer}
 use Rattle.mtrace_replay.specs.declared.totals.Totals.{Totals}
 use Rattle.mtrace_replay.specs.declared.settings.Settings.{Settings}
 use Rattle.mtrace_replay.specs.declared.status.Status.{Status}
@@ -21,8 +19,7 @@ use Rattle.mtrace_replay.specs.Started.{Bare, started}
 use Rattle.mtrace_replay.specs.Totals.{AreTotals}
 use Rattle.mtrace_replay.specs.Moment.{ReadLine, Given, half}
 use Rattle.mtrace_replay.specs.History.{history, notes, diagnostics, AreHeld, entries_of, content_after}
-use Rattle.mtrace_replay.specs.Replay.{Replayed, StandsFor, entries, added_diagnostics}
-use Rattle.mtrace_replay.specs.declared.diagnostic.Diagnostic.{Diagnostic}
+use Rattle.mtrace_replay.specs.Replay.{Replayed, StandsFor, entries}
 use Rattle.mtrace_replay.specs.Texts.{diagnostics_text, report_text, clean_or_found}
 use Rattle.mtrace_log.specs.Output.{Wrote, Begins, Puts}
 
@@ -81,6 +78,10 @@ pub record BeginsWhole (report : Report) (settings : Settings) (reader_old reade
 -- the reader failed, once and last: whole lines were read, and perhaps a piece of the next one, which is lost
 abbrev pub FailedInPiece : (reader_old reader_new : ReaderState) → List ReadLine → Type 0
 FailedInPiece reader_old reader_new lines = HasReadBefore reader_old.left reader_new.left lines × HasGivenAndFailed reader_old.calls reader_new.calls
+
+-- the lines were read, and perhaps to the end of the log
+abbrev pub HasReadThese : (reader_old reader_new : ReaderState) → List ReadLine → Type 0
+HasReadThese reader_old reader_new lines = HasRead reader_old.left reader_new.left lines ⊎ HasReadAll reader_old.left reader_new.left lines
 
 -- The reader failed, or a line past the last number would come. In the second case unused are the bytes that were
 -- asked of the reader and belong to no line that was read. The diagnostics of the lines read were written, and no
@@ -155,17 +156,6 @@ abbrev pub has_some : {A : Type 0} → List A → Bool
 has_some [] = false
 has_some (first ∷ more) = true
 
--- one line more was replayed, and its diagnostics were written
-pub record LineGives (new : Replayed) (settings : Settings) (line : ReadLine) (past : List ReadLine) (writer_old writer_new : WriterState) (has_diagnostics : Bool) : Type 0 where
-  pub stands : StandsFor new settings (line ∷ past)
-  pub wrote : Wrote writer_old writer_new (diagnostics_text (added_diagnostics settings line past))
-  pub has_diagnostics_is : has_diagnostics ≡ has_some (added_diagnostics settings line past)
-
--- one line more was replayed, and its diagnostics were begun
-pub record LineBegins (new : Replayed) (settings : Settings) (line : ReadLine) (past : List ReadLine) (writer_old writer_new : WriterState) : Type 0 where
-  pub stands : StandsFor new settings (line ∷ past)
-  pub begun : Begins writer_old writer_new (diagnostics_text (added_diagnostics settings line past))
-
 -- all lines of the log were read and replayed, and their diagnostics were written
 pub record HasReplayed (settings : Settings) (replay : Replayed) (has_diagnostics : Bool) (reader_old reader_new : ReaderState) (writer_old writer_new : WriterState) : Type 0 where
   pub lines : List ReadLine
@@ -173,35 +163,6 @@ pub record HasReplayed (settings : Settings) (replay : Replayed) (has_diagnostic
   pub stands : StandsFor replay settings (reverse lines)
   pub wrote : Wrote writer_old writer_new (text_of_notes settings lines)
   pub has_diagnostics_is : has_diagnostics ≡ has_some (notes (history settings lines))
-
--- What a call leaves that replays one line and puts what is wrong with it, for all lines before it.
-pub record ReplaysLine {E : Type 0} (number : ℕ) (line : ReadLine) (result : Result Bool E)
-    (replay_old replay_new : Replayed) (findings : List Diagnostic) (writer_old writer_new : WriterState) : Type 0 where
-  pub done : IfOk result (λ has_diagnostics. (settings : Settings) (past : List ReadLine) → StandsFor replay_old settings past
-      → LineGives replay_new settings line past writer_old writer_new has_diagnostics)
-  pub counted : OnOk result (replay_new.totals.lines ≡ number)
-  pub cleared : OnOk result (findings ≡ [])
-  pub records : replay_new.content.records ≡ replay_old.content.records
-  pub took : OnOk result (HasTaken writer_old.calls writer_new.calls)
-  pub write : OnErr result ((settings : Settings) (past : List ReadLine) → StandsFor replay_old settings past
-      → LineBegins replay_new settings line past writer_old writer_new)
-  pub failed : OnErr result (HasTakenAndFailed writer_old.calls writer_new.calls)
-
--- What a call leaves that reads and replays all lines and puts what is wrong with each, unless the reader or the writer fails.
-pub record ReplaysLines (result : Result Bool Failing)
-    (replay_old replay_new : Replayed) (reader_old reader_new : ReaderState) (writer_old writer_new : WriterState) : Type 0 where
-  pub done : IfOk result (λ has_diagnostics. (settings : Settings) → StandsFor replay_old settings []
-      → HasReplayed settings replay_new has_diagnostics reader_old reader_new writer_old writer_new)
-  pub records : replay_new.content.records ≡ replay_old.content.records
-  pub whole : reader_new.whole ≡ reader_old.whole
-  pub reader_ended : OnOk result (HasGivenAll reader_old.calls reader_new.calls)
-  pub reader_not_failed : result ≢ Err Reader → HasNotFailed reader_old.calls reader_new.calls
-  pub writer_took : result ≢ Err Writer → HasTaken writer_old.calls writer_new.calls
-  pub writer_failed : IsErrOf result Writer → HasTakenAndFailed writer_old.calls writer_new.calls
-  pub read : IsErrOf result Reader → (settings : Settings) → StandsFor replay_old settings []
-      → StopsAtRead settings reader_old reader_new writer_old writer_new
-  pub write : IsErrOf result Writer → (settings : Settings) → StandsFor replay_old settings []
-      → (report : Report) → StopsAtWrite report settings reader_old reader_new writer_old writer_new
 
 -- what a call leaves that puts this text with the report in it
 pub record PutsReport {T E : Type 0} (result : Result T E) (report : Report) (text : List ℕ)

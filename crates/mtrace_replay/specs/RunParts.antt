@@ -1,22 +1,18 @@
 -- What a run leaves that tells which heaps by size serve a log.
-use Rattle.std.specs.Prelude.{◌≡◌, ◌≢◌, ◌⊎◌, ◌||◌, ◌==◌, ℕ, nat_lt, Bool, true, false, List, [], ◌∷◌, reverse, Result, Ok, Err, IfOk, OnOk, IsErrOf}
+use Rattle.std.specs.Prelude.{◌≡◌, ◌⊎◌, ◌||◌, ◌==◌, ℕ, nat_lt, Bool, true, false, List, [], reverse, Result, Ok, Err, IsErrOf}
 use Rattle.mtrace_log.specs.Shown.{ReaderState, WriterState}
 use Rattle.mtrace_log.specs.Output.{Wrote, Begins}
-use Rattle.mtrace_log.specs.Trace.{HasGivenAll, HasNotFailed, HasTaken, HasTakenAndFlushed, HasTakenAndFailed, HasFailedToWrite}
-use Rattle.mtrace_replay.specs.declared.diagnostic.Diagnostic.{Diagnostic}
+use Rattle.mtrace_log.specs.Trace.{HasTakenAndFlushed, HasFailedToWrite}
 use Rattle.mtrace_replay.specs.declared.status.Status.{Status}
 use Rattle.mtrace_replay.specs.declared.status.RunFault.{RunFault}
 use Rattle.mtrace_replay.specs.declared.status.RunFault.TheVariants.{Write, BadSettings, OutOfMemory}
-use Rattle.mtrace_replay.specs.declared.no_heap.report.LedgerReport.{LedgerReport}
 use Rattle.mtrace_replay.specs.declared.no_heap.report.LedgerReport.TheVariants.{Nothing}
-use Rattle.mtrace_replay.specs.declared.no_heap.run.Stop.{Stop}
-use Rattle.mtrace_replay.specs.declared.no_heap.run.Stop.TheVariants.{Reader, Writer, Memory}
 use Rattle.mtrace_replay.specs.declared.parts.replay.CountedReplay.{CountedReplay}
 use Rattle.mtrace_replay.specs.Moment.{ReadLine}
 use Rattle.mtrace_replay.specs.Run.{NothingDone}
 use Rattle.mtrace_replay.specs.Served.{IsServed}
-use Rattle.mtrace_replay.specs.RunServed.{RunsServed, ReportsServed, LineServed, LineServedInPart, HasServed, StopsServedAtRead, StopsServedAtWrite, StopsForMemory}
-use Rattle.mtrace_replay.specs.Spans.{AreCountedOf, AreFew}
+use Rattle.mtrace_replay.specs.RunServed.{RunsServed, ReportsServed, HasServed}
+use Rattle.mtrace_replay.specs.Spans.{AreCountedOf}
 use Rattle.mtrace_replay.specs.Parts.{TellsParts}
 
 -- there are no heaps, or more than eight
@@ -57,19 +53,6 @@ pub record RunsParts {R W : Type 0} (heaps : ℕ) (reads : R → ReaderState) (w
   pub runs : is_bad_heaps heaps ≡ false → (IsErrOf result OutOfMemory × NothingDone reader_old reader_new writer_old writer_new)
       ⊎ RunsThenParts heaps result (reads reader_old) (reads reader_new) (writes writer_old) (writes writer_new)
 
--- What a call leaves that follows one line, counts its blocks and puts what is wrong with it. Where memory is refused, nothing is put.
-pub record CountsLine (number : ℕ) (line : ReadLine) (result : Result Bool Stop) (old new : CountedReplay) (findings : List Diagnostic) (writer_old writer_new : WriterState) : Type 0 where
-  pub done : IfOk result (λ has_diagnostics. (past : List ReadLine) → IsServed old.ledger past → LineServed new.ledger line past writer_old writer_new has_diagnostics)
-  pub spans : OnOk result ((past : List ReadLine) → IsServed old.ledger past → AreCountedOf past old.spans → AreCountedOf (line ∷ past) new.spans)
-  pub counted : OnOk result (new.ledger.lines ≡ number)
-  pub few : OnOk result (AreFew number new.spans)
-  pub cleared : OnOk result (findings ≡ [])
-  pub took : result ≢ Err Writer → HasTaken writer_old.calls writer_new.calls
-  pub no_reader : result ≢ Err Reader
-  pub write : IsErrOf result Writer → (past : List ReadLine) → IsServed old.ledger past → LineServedInPart new.ledger line past writer_old writer_new
-  pub failed : IsErrOf result Writer → HasTakenAndFailed writer_old.calls writer_new.calls
-  pub memory : IsErrOf result Memory → writer_new ≡ writer_old
-
 -- nothing was followed yet
 pub record IsStart (replay : CountedReplay) : Type 0 where
   pub stands : IsServed replay.ledger []
@@ -83,18 +66,6 @@ HasLines replay = (lines : List ReadLine) × IsServed replay.ledger (reverse lin
 pub record HasCounted (replay : CountedReplay) (has_diagnostics : Bool) (reader_old reader_new : ReaderState) (writer_old writer_new : WriterState) : Type 0 where
   pub served : HasServed replay.ledger has_diagnostics reader_old reader_new writer_old writer_new
   pub counted : AreCountedOf (reverse served.lines) replay.spans
-
--- what a call leaves that reads and follows all lines, counts their blocks and puts what is wrong with each
-pub record CountsLines (result : Result Bool Stop) (old new : CountedReplay) (reader_old reader_new : ReaderState) (writer_old writer_new : WriterState) : Type 0 where
-  pub done : IfOk result (λ has_diagnostics. IsStart old → HasCounted new has_diagnostics reader_old reader_new writer_old writer_new)
-  pub whole : reader_new.whole ≡ reader_old.whole
-  pub reader_ended : OnOk result (HasGivenAll reader_old.calls reader_new.calls)
-  pub reader_not_failed : result ≢ Err Reader → HasNotFailed reader_old.calls reader_new.calls
-  pub writer_took : result ≢ Err Writer → HasTaken writer_old.calls writer_new.calls
-  pub writer_failed : IsErrOf result Writer → HasTakenAndFailed writer_old.calls writer_new.calls
-  pub read : IsErrOf result Reader → IsStart old → StopsServedAtRead reader_old reader_new writer_old writer_new
-  pub write : IsErrOf result Writer → IsStart old → (report : LedgerReport) → StopsServedAtWrite report reader_old reader_new writer_old writer_new
-  pub memory : IsErrOf result Memory → IsStart old → StopsForMemory reader_old reader_new writer_old writer_new
 
 -- a run without a report, and the replay in the end
 pub record EndsCounted (status : Status) (replay : CountedReplay) (reader_old reader_new : ReaderState) (writer_old writer_new : WriterState) : Type 0 where

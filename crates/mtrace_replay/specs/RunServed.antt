@@ -1,10 +1,9 @@
 -- What a run without a heap read and wrote, by its answer.
-use Rattle.std.specs.Prelude.{◌≡◌, ◌≢◌, ◌⊎◌, ℕ, Bool, List, [], ◌∷◌, ◌++◌, length, reverse, count_by, Result, Ok, Err, IfOk, OnOk, OnErr, IsErrOf, ◌||◌, if◌then◌else◌}
-use Rattle.mtrace_log.specs.HasRead.{HasRead, HasReadAll}
+use Rattle.std.specs.Prelude.{◌≡◌, ◌⊎◌, ℕ, Bool, List, [], ◌∷◌, ◌++◌, length, reverse, count_by, Result, Ok, Err, IfOk, OnOk, OnErr, ◌||◌, if◌then◌else◌}
+use Rattle.mtrace_log.specs.HasRead.{HasReadAll}
 use Rattle.mtrace_log.specs.Shown.{ReaderState, WriterState}
 use Rattle.mtrace_log.specs.Output.{Wrote, Begins}
-use Rattle.mtrace_log.specs.Trace.{HasGivenAll, HasNotFailed, HasTaken, HasTakenAndFlushed, HasTakenAndFailed, HasFailedToWrite, FlushWasAsked}
-use Rattle.mtrace_replay.specs.declared.diagnostic.Diagnostic.{Diagnostic}
+use Rattle.mtrace_log.specs.Trace.{HasGivenAll, HasNotFailed, HasTakenAndFlushed, HasFailedToWrite, FlushWasAsked}
 use Rattle.mtrace_replay.specs.declared.status.Status.{Status}
 use Rattle.mtrace_replay.specs.declared.status.Status.TheVariants.{Clean, Found}
 use Rattle.mtrace_replay.specs.declared.status.RunFault.{RunFault}
@@ -13,8 +12,6 @@ use Rattle.mtrace_replay.specs.declared.no_heap.replay.LedgerTotals.{LedgerTotal
 use Rattle.mtrace_replay.specs.declared.no_heap.report.LedgerReport.{LedgerReport}
 use Rattle.mtrace_replay.specs.declared.no_heap.report.LedgerReport.TheVariants.{Held, Sums, Sites, Callers, Nothing}
 use Rattle.mtrace_replay.specs.declared.no_heap.run.EndedLedger.{EndedLedger}
-use Rattle.mtrace_replay.specs.declared.no_heap.run.Stop.{Stop}
-use Rattle.mtrace_replay.specs.declared.no_heap.run.Stop.TheVariants.{Reader, Writer, Memory}
 use Rattle.mtrace_replay.specs.Moment.{ReadLine, Given, Moment, half}
 use Rattle.mtrace_replay.specs.History.{notes, AreHeld, entries_of}
 use Rattle.mtrace_replay.specs.Totals.{is_served, first_moments, Measures, IsPeak, bytes_in, blocks_in}
@@ -23,8 +20,8 @@ use Rattle.mtrace_replay.specs.Texts.{diagnostics_text, leaks_report, ledger_pea
 use Rattle.mtrace_replay.specs.declared.no_heap.count.Count.{Count}
 use Rattle.mtrace_replay.specs.Calls.{Caller}
 use Rattle.mtrace_replay.specs.Callers.{calls_in, temporary_in, AreCallers, all_of}
-use Rattle.mtrace_replay.specs.Served.{served_history, served_diagnostics, added_served, Standing, IsServed}
-use Rattle.mtrace_replay.specs.Run.{with_unused, FailedInPiece, IsPastLastNumber, has_some}
+use Rattle.mtrace_replay.specs.Served.{served_history, served_diagnostics, Standing, IsServed}
+use Rattle.mtrace_replay.specs.Run.{with_unused, FailedInPiece, IsPastLastNumber, HasReadThese, has_some}
 
 -- the text of the diagnostics of lines, the first line first
 abbrev pub served_notes : List ReadLine → List ℕ
@@ -102,10 +99,6 @@ pub record BeginsServed (report : LedgerReport) (reader_old reader_new : ReaderS
   pub tells : TellsServed report lines text
   pub begun : Begins writer_old writer_new (whole_served lines text)
 
--- the lines were read, and perhaps to the end of the log
-abbrev pub HasReadThese : (reader_old reader_new : ReaderState) → List ReadLine → Type 0
-HasReadThese reader_old reader_new lines = HasRead reader_old.left reader_new.left lines ⊎ HasReadAll reader_old.left reader_new.left lines
-
 -- The reader failed, or a line past the last number would come. In the second case unused are the bytes that were asked of the
 -- reader and belong to no line that was read. The diagnostics of the lines read were written, and no report.
 pub record StopsServedAtRead (reader_old reader_new : ReaderState) (writer_old writer_new : WriterState) : Type 0 where
@@ -181,29 +174,6 @@ pub record EndsServed (status : Status) (replay : Standing) (reader_old reader_n
 abbrev pub served_end : Standing → List ℕ → List ℕ
 served_end replay text = diagnostics_text (half replay.lines replay.pending) ++ text
 
--- one line more was followed, and its diagnostics were written
-pub record LineServed (new : Standing) (line : ReadLine) (past : List ReadLine) (writer_old writer_new : WriterState) (has_diagnostics : Bool) : Type 0 where
-  pub stands : IsServed new (line ∷ past)
-  pub wrote : Wrote writer_old writer_new (diagnostics_text (added_served line past))
-  pub has_diagnostics_is : has_diagnostics ≡ has_some (added_served line past)
-
--- one line more was followed, and its diagnostics were begun
-pub record LineServedInPart (new : Standing) (line : ReadLine) (past : List ReadLine) (writer_old writer_new : WriterState) : Type 0 where
-  pub stands : IsServed new (line ∷ past)
-  pub begun : Begins writer_old writer_new (diagnostics_text (added_served line past))
-
--- What a call leaves that follows one line and puts what is wrong with it, for all lines before it. Where memory is refused, nothing
--- is put, and the replay stays.
-pub record FollowsLine (number : ℕ) (line : ReadLine) (result : Result Bool Stop) (replay_old replay_new : Standing) (findings : List Diagnostic) (writer_old writer_new : WriterState) : Type 0 where
-  pub done : IfOk result (λ has_diagnostics. (past : List ReadLine) → IsServed replay_old past → LineServed replay_new line past writer_old writer_new has_diagnostics)
-  pub counted : OnOk result (replay_new.lines ≡ number)
-  pub cleared : OnOk result (findings ≡ [])
-  pub took : result ≢ Err Writer → HasTaken writer_old.calls writer_new.calls
-  pub no_reader : result ≢ Err Reader
-  pub write : IsErrOf result Writer → (past : List ReadLine) → IsServed replay_old past → LineServedInPart replay_new line past writer_old writer_new
-  pub failed : IsErrOf result Writer → HasTakenAndFailed writer_old.calls writer_new.calls
-  pub memory : IsErrOf result Memory → (replay_new ≡ replay_old) × (writer_new ≡ writer_old)
-
 -- all lines of the log were read and followed, and their diagnostics were written
 pub record HasServed (replay : Standing) (has_diagnostics : Bool) (reader_old reader_new : ReaderState) (writer_old writer_new : WriterState) : Type 0 where
   pub lines : List ReadLine
@@ -211,19 +181,6 @@ pub record HasServed (replay : Standing) (has_diagnostics : Bool) (reader_old re
   pub stands : IsServed replay (reverse lines)
   pub wrote : Wrote writer_old writer_new (served_notes lines)
   pub has_diagnostics_is : has_diagnostics ≡ has_some (notes (served_history lines))
-
--- What a call leaves that reads and follows all lines and puts what is wrong with each, unless the reader or the writer fails, or
--- memory is refused.
-pub record FollowsLines (result : Result Bool Stop) (replay_old replay_new : Standing) (reader_old reader_new : ReaderState) (writer_old writer_new : WriterState) : Type 0 where
-  pub done : IfOk result (λ has_diagnostics. IsServed replay_old [] → HasServed replay_new has_diagnostics reader_old reader_new writer_old writer_new)
-  pub whole : reader_new.whole ≡ reader_old.whole
-  pub reader_ended : OnOk result (HasGivenAll reader_old.calls reader_new.calls)
-  pub reader_not_failed : result ≢ Err Reader → HasNotFailed reader_old.calls reader_new.calls
-  pub writer_took : result ≢ Err Writer → HasTaken writer_old.calls writer_new.calls
-  pub writer_failed : IsErrOf result Writer → HasTakenAndFailed writer_old.calls writer_new.calls
-  pub read : IsErrOf result Reader → IsServed replay_old [] → StopsServedAtRead reader_old reader_new writer_old writer_new
-  pub write : IsErrOf result Writer → IsServed replay_old [] → (report : LedgerReport) → StopsServedAtWrite report reader_old reader_new writer_old writer_new
-  pub memory : IsErrOf result Memory → IsServed replay_old [] → StopsForMemory reader_old reader_new writer_old writer_new
 
 -- What a call leaves that puts all that is written at the end, and flushes. It answers the status, by whether a line had a diagnostic.
 pub record FinishesServed {E : Type 0} (text : List ℕ) (has_diagnostics : Bool) (result : Result Status E) (replay : Standing) (writer_old writer_new : WriterState) : Type 0 where

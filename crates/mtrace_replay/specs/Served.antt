@@ -15,6 +15,7 @@ use Rattle.mtrace_replay.specs.Sites.{Site, AreTallied}
 use Rattle.mtrace_replay.specs.Calls.{Called, CountsMore, CountsReleased}
 use Rattle.mtrace_replay.specs.Callers.{calls_in, temporary_in, AreCounted}
 use Rattle.mtrace_replay.specs.Ledger.{held_at, LedgerState, KeepsPeak}
+use Rattle.mtrace_replay.specs.LineReplay.{LineRules}
 
 -- what stands in each moment in the place of a heap
 abbrev pub no_heap : Bare
@@ -146,3 +147,14 @@ pub record RaisesPeak (old new : Standing) : Type 0 where
   pub blocks : new.peak_blocks ≡ (if nat_lt old.peak_bytes (total_size old.all) then length old.all else old.peak_blocks)
   pub raised : nat_lt old.peak_bytes (total_size old.all) ≡ true → AreTallied old.all new.at_peak
   pub kept : nat_lt old.peak_bytes (total_size old.all) ≡ false → new.at_peak ≡ old.at_peak
+
+-- what a replay without a heap says of itself: it begins on nothing
+abbrev pub ledger_rules : LineRules Standing
+ledger_rules = record {
+  Start = Unit {0};
+  Stands = λ start replay past. IsServed replay past;
+  added = λ start. added_served;
+  lines = λ replay. replay.lines;
+  IsReady = λ replay. Unit {0};
+  Lacks = Unit {0};
+}

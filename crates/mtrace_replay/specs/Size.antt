@@ -1,5 +1,5 @@
 -- How much memory is always enough for a program that keeps to bounds told beforehand.
-use Rattle.std.specs.Prelude.{◌≡◌, ◌≢◌, ◌⊎◌, ◌↔◌, ℕ, ◌*◌, Bool, not, List, ◌++◌, Option, Some, None, unwrap_or, Result, Err, IfOk, IfErr, IsErrOf, IsTrue, codes}
+use Rattle.std.specs.Prelude.{◌≡◌, ◌≢◌, ◌⊎◌, ◌↔◌, ℕ, ◌*◌, Bool, not, List, ◌++◌, Option, Some, None, unwrap_or, option_and_then, Result, Err, IfOk, IfErr, IsErrOf, IsTrue, codes}
 use Rattle.mtrace_log.specs.Shown.{WriterState}
 use Rattle.tlsf_class.specs.Rounding.{round}
 use Rattle.tlsf_heap.specs.Memalign.{is_alignment}
@@ -12,6 +12,7 @@ use Rattle.mtrace_replay.specs.declared.status.RunFault.TheVariants.{Write, BadS
 use Rattle.mtrace_replay.specs.Moment.{asked_size, rounded_bytes}
 use Rattle.mtrace_replay.specs.Saving.{PutsAndFlushes}
 use Rattle.mtrace_replay.specs.Texts.{record_lines, size_line}
+use Rattle.mtrace_replay.specs.Parts.{pool_bytes}
 
 -- the alignment of the requests, 1 where none is told
 abbrev pub align_of : Bounds → ℕ
@@ -26,11 +27,17 @@ abbrev pub blocks_bytes : (blocks largest : ℕ) → Option ℕ → ℕ
 blocks_bytes blocks largest None = blocks * rounded_bytes largest
 blocks_bytes blocks largest (Some bytes) = unwrap_or (round (asked_size bytes)) bytes
 
--- the records with their table, and the pool that is always enough
+-- The pool that is always enough where each request is rounded up to the class size of the largest: it has as many blocks of that
+-- size as are live at once. None where there is no such class, or no pool is so large.
+abbrev pub rounded_pool : (blocks : ℕ) → Option ℕ → Option ℕ
+rounded_pool blocks size = option_and_then (λ bytes. pool_bytes (record { blocks = blocks; size = bytes })) size
+
+-- the records with their table, the pool that is always enough, and the one for blocks of one size
 abbrev pub size_text : Bounds → List ℕ
 size_text bounds =
     record_lines (sure_records bounds.blocks)
-    ++ size_line (codes "sure pool: ") (sure_pool bounds.blocks (blocks_bytes bounds.blocks bounds.largest bounds.bytes) (class_size (align_of bounds) bounds.largest))
+    ++ (size_line (codes "sure pool: ") (sure_pool bounds.blocks (blocks_bytes bounds.blocks bounds.largest bounds.bytes) (class_size (align_of bounds) bounds.largest))
+    ++ size_line (codes "rounded pool: ") (rounded_pool bounds.blocks (class_size (align_of bounds) bounds.largest)))
 
 -- What a run leaves that tells so. `BadSettings` comes exactly for bad bounds, and then nothing is written. Else the text is put
 -- and flushed, or a beginning of it is put, and the writer failed.

@@ -1,6 +1,7 @@
 //! Laws of the definitions, each the contract of a function that does nothing.
 
-ghost use Rattle.std.specs.Prelude.{◌≡◌, ◌==◌, ◌↔◌, ◌+◌, ◌-◌, ◌*◌, ◌<◌, ◌≤◌, ℕ, Bool, false, List, length, take, Some};
+ghost use Rattle.std.specs.Prelude.{◌≡◌, ◌==◌, ◌↔◌, ◌+◌, ◌-◌, ◌*◌, ◌<◌, ◌≤◌, ℕ, Bool, false, List, length, reverse, take, Some};
+ghost use Rattle.tlsf_heap.specs.Sizing.{sure_records, sure_pool};
 ghost use Rattle.tlsf_class.specs.Classes.{unit};
 ghost use Rattle.tlsf_heap.specs.declared.refusal.Refusal.TheVariants.{NoFit, TableFull};
 ghost use Rattle.mtrace_replay.specs.declared.settings.Settings.{Settings};
@@ -117,4 +118,14 @@ pub fn unrefused_is_served()
     ensures points { (settings : Settings) (lines : List ReadLine) (many : ℕ) (point : Point) (other : LedgerPoint) → refusals settings lines ≡ 0
         → IsPoint (started settings) (history settings (take many lines)) point → IsPointOfLines (take many lines) other
         → (other.bytes ≡ point.bytes) × (other.blocks ≡ point.blocks) }
+{}
+
+/// A log that one heap refuses nothing is refused nothing on its sure pool, where four things hold there. After any number of its
+/// lines at most `most` addresses are held, for which at most `bytes` bytes were asked, each size rounded up. Each line that asks for
+/// a block asks for one of a class whose lowest size is at most `size`. The sure pool of these numbers is `pool`. So a log on the
+/// sure pool that `fit` tells holds the same as on the greatest pool, and is refused nothing.
+pub fn sure_pool_serves_the_log()
+    ensures { (settings : Settings) (pool records most bytes size : ℕ) (lines : List ReadLine) → refusals settings lines ≡ 0
+        → HoldsAtMost most (history settings lines) → HoldsBytesAtMost bytes (history settings lines) → AllByRecursion (IsOfAtMost size) (acts_of (started settings) (reverse lines))
+        → sure_pool most bytes (Some size) ≡ Some pool → are_bad (one_pool pool records) ≡ false → sure_records most ≤ records → refusals (one_pool pool records) lines ≡ 0 }
 {}

@@ -6,6 +6,7 @@ use crate::asked::Asked;
 use crate::diagnostic::{Diagnostic, Kind, Note};
 use crate::findings::Findings;
 use crate::index::{Entries, Index};
+use crate::line_replay::LineReplay;
 use crate::settings::Settings;
 use crate::start::{restart_heap, started_heap};
 use crate::step::outcome;
@@ -13,7 +14,7 @@ use crate::survey::{Survey, survey_heap};
 use crate::totals::Totals;
 use crate::walk::put_walk;
 use mtrace_log::{Addr, Event, Failed, LentLocation, Line, LineFault, Sink};
-use std::alloc::Global;
+use std::alloc::{AllocError, Global};
 use std::marker::Model;
 use tlsf_heap::{Heap, Heaped, ImageFault};
 
@@ -306,6 +307,25 @@ impl<H: Heaped> Replay<H> {
         ensures { Puts result (walk_report self.old.content) (W.shown writer.old) (W.shown writer.new) }
     {
         put_walk(writer, &mut self.heap)
+    }
+}
+
+impl LineReplay for Replay<Heap> {
+    ghost use Rattle.mtrace_replay.specs.Replay.{heap_rules};
+
+    ghost rules = { heap_rules };
+
+    #[inline(always)]
+    fn take_line(
+        &mut self,
+        number: u64,
+        event: Result<Event<LentLocation<'_>>, LineFault>,
+        findings: &mut Findings,
+    ) -> Result<(), AllocError> {
+        let Ok(()) = self.feed_lent(number, event, findings) else {
+            unreachable!();
+        };
+        Ok(())
     }
 }
 

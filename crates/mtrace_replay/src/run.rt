@@ -1,19 +1,20 @@
 //! The runs that write the reports of a log.
 
-ghost use Rattle.std.specs.Prelude.{◌≡◌, ◌+◌, ◌++◌, false, [], IfOk};
+ghost use Rattle.std.specs.Prelude.{◌≡◌, ◌++◌, false, [], IfOk};
 ghost use Rattle.mtrace_log.specs.Output.{Puts};
 ghost use Rattle.mtrace_replay.specs.Texts.{diagnostics_text, report_text};
 ghost use Rattle.mtrace_replay.specs.Replay.{entries};
-ghost use Rattle.mtrace_replay.specs.Run.{Runs, EndsAt, status_in, ReplaysLine, ReplaysLines, PutsReport, Finishes};
+ghost use Rattle.mtrace_replay.specs.Run.{Runs, EndsAt, status_in, PutsReport, Finishes};
 
 use crate::diagnostic::Note;
 use crate::findings::Findings;
+use crate::following::{Stop, follow_lines};
 use crate::line_text::diagnostic_text;
 use crate::replay::{Replay, ReplayFault};
 use crate::report::{Report, put_report};
 use crate::settings::Settings;
 use crate::status::{RunFault, Status};
-use mtrace_log::{Event, Failed, LentLocation, LineFault, Lines, Sink, Source, put_all};
+use mtrace_log::{Failed, Sink, Source, put_all};
 use std::alloc::Global;
 use tlsf_heap::{Heap, Heaped};
 
@@ -37,65 +38,6 @@ pub(crate) fn put_findings<W: Sink>(writer: &mut W, findings: &mut Findings) -> 
     let diagnostics = findings.diagnostics();
     findings.clear();
     put_diagnostics(writer, &diagnostics)
-}
-
-/// Which of the two failed, so that no more lines are replayed.
-#[derive(Clone, Copy)]
-pub(crate) enum Failing {
-    // The reader failed, or a line past the last number would come.
-    Reader,
-    // The writer failed.
-    Writer,
-}
-
-/// Replays one line and puts what is wrong with it. Answers whether anything is. The findings are empty before and after, so one
-/// serves all lines.
-#[inline(always)]
-fn replay_line<W: Sink>(
-    writer: &mut W,
-    replay: &mut Replay<Heap>,
-    number: u64,
-    event: Result<Event<LentLocation<'_>>, LineFault>,
-    findings: &mut Findings,
-) -> Result<bool, Failed>
-    requires next { replay.old.out_of_memory ≡ false → number ≡ replay.old.totals.lines + 1 }
-    requires none { findings.old ≡ [] }
-    ensures { ReplaysLine number event.entry result replay.old replay.new findings.new (W.shown writer.old) (W.shown writer.new) }
-{
-    let Ok(()) = replay.feed_lent(number, event, findings) else {
-        unreachable!();
-    };
-    if findings.is_empty() {
-        return Ok(false);
-    }
-    put_findings(writer, findings)?;
-    Ok(true)
-}
-
-/// Reads and replays all lines of the log; what is wrong with a line is put at once. Answers whether
-/// anything is.
-fn replay_lines<R: Source, W: Sink>(
-    reader: &mut R,
-    writer: &mut W,
-    replay: &mut Replay<Heap>,
-) -> Result<bool, Failing>
-    requires start { replay.old.totals.lines ≡ 0 }
-    ensures { ReplaysLines result replay.old replay.new (R.shown reader.old) (R.shown reader.new) (W.shown writer.old) (W.shown writer.new) }
-{
-    let mut lines = Lines::new();
-    let mut has_diagnostics = false;
-    let mut findings = Findings::none();
-    loop {
-        let number = match lines.advance(reader) {
-            Ok(Some(number)) => number,
-            Ok(None) => return Ok(has_diagnostics),
-            Err(_) => return Err(Failing::Reader),
-        };
-        match replay_line(writer, replay, number, lines.event(), &mut findings) {
-            Ok(more) => has_diagnostics |= more,
-            Err(_) => return Err(Failing::Writer),
-        }
-    }
 }
 
 /// Puts what is wrong at the end, and then the report.
@@ -159,13 +101,14 @@ pub(crate) fn replay_log<R: Source, W: Sink>(
         Err(ReplayFault::BadSettings) => return Err(RunFault::BadSettings),
         Err(ReplayFault::OutOfMemory) => return Err(RunFault::OutOfMemory),
     };
-    match replay_lines(reader, writer, &mut replay) {
+    match follow_lines(reader, writer, &mut replay) {
         Ok(has_diagnostics) => match finish(writer, &mut replay, has_diagnostics, report) {
             Ok(status) => Ok(FinishedRun { status, replay }),
             Err(_) => Err(RunFault::Write),
         },
-        Err(Failing::Writer) => Err(RunFault::Write),
-        Err(Failing::Reader) => {
+        Err(Stop::Writer) => Err(RunFault::Write),
+        Err(Stop::Memory) => unreachable!(),
+        Err(Stop::Reader) => {
             let _ = writer.flush();
             Err(RunFault::Read)
         }

@@ -1,11 +1,13 @@
 //! How much memory is always enough for a program, without a log of it.
 
 ghost use Rattle.std.specs.Prelude.{◌≡◌, ◌<◌};
-ghost use Rattle.mtrace_replay.specs.Size.{align_of, blocks_bytes, size_text, RunsSize};
+ghost use Rattle.tlsf_heap.specs.Sizing.{class_size, sure_pool};
+ghost use Rattle.mtrace_replay.specs.Size.{align_of, blocks_bytes, rounded_pool, size_text, RunsSize};
 
 use crate::fit_text::{push_records, push_size_line};
 use crate::flush::flush_behind;
 use crate::line_text::LineText;
+use crate::parts::text::PartOf;
 use crate::status::{RunFault, Status};
 use crate::step::{asked_size, rounded_bytes};
 use arrayvec::ArrayVec;
@@ -47,19 +49,41 @@ fn bytes_of(bounds: Bounds) -> u64
     }
 }
 
-/// The records with their table, and the pool that is always enough.
+/// The class size of the requests.
+fn size_of(bounds: Bounds) -> Option<u32>
+    ensures { result ≡ class_size (align_of bounds) bounds.largest }
+{
+    class_size(align_of(bounds), bounds.largest)
+}
+
+/// The bytes of one pool that is always enough.
+fn sure_of(bounds: Bounds) -> Option<u64>
+    ensures { result ≡ sure_pool bounds.blocks (blocks_bytes bounds.blocks bounds.largest bounds.bytes) (class_size (align_of bounds) bounds.largest) }
+{
+    sure_pool(
+        u64::from(bounds.blocks),
+        bytes_of(bounds),
+        size_of(bounds),
+    )
+}
+
+/// The bytes of one pool that is always enough for blocks of one size alone. `None` where no pool is so large.
+fn rounded_of(bounds: Bounds) -> Option<u64>
+    ensures { result ≡ rounded_pool bounds.blocks (class_size (align_of bounds) bounds.largest) }
+{
+    let size = size_of(bounds)?;
+    let blocks = u64::from(bounds.blocks);
+    PartOf { blocks, size }.pool()
+}
+
+/// The records with their table, the pool that is always enough, and the one for blocks of one size.
 fn size_text(bounds: Bounds) -> LineText
     ensures { result.items ≡ size_text bounds }
 {
-    let blocks = u64::from(bounds.blocks);
-    let sure = sure_pool(
-        blocks,
-        bytes_of(bounds),
-        class_size(align_of(bounds), bounds.largest),
-    );
     let mut text = ArrayVec::new();
-    push_records(&mut text, 2 * blocks + 3);
-    push_size_line(&mut text, b"sure pool: ", sure);
+    push_records(&mut text, 2 * u64::from(bounds.blocks) + 3);
+    push_size_line(&mut text, b"sure pool: ", sure_of(bounds));
+    push_size_line(&mut text, b"rounded pool: ", rounded_of(bounds));
     text
 }
 

@@ -6,7 +6,7 @@ use Rattle.std.specs.Prelude.{MatchBool, IfSome, String, bytes_eq, string_bytes}
 use Rattle.std.specs.Result.{IsErrAnd}
 use Rattle.std.specs.declared.alloc.Global.{Global}
 use Rattle.std.specs.Str.Parse.{ParsesUnsigned, digits_value, without_leading_plus}
-use Rattle.clap.specs.Words.{AddsArg, App, HasMatchesOf, HasKind, IsAmong, Kinds, ReadsOne, Row, Rule, Text, rule_of, with_rule, fault_of, first_of, is_simple, is_simple_and_free, kind_of, one_text, rows_of, with_subcommand, subcommand_of, subcommand_rows_of}
+use Rattle.clap.specs.Words.{AddsArg, App, HasMatchesOf, HasKind, IsAmong, Kinds, ReadsOne, Row, Rule, Text, rule_of, with_rule, fault_of, all_of, first_of, is_simple, is_simple_and_free, kind_of, one_text, rows_of, with_subcommand, subcommand_of, subcommand_rows_of}
 use Rattle.clap.specs.declared.builder.arg.Arg.{Arg}
 use Rattle.clap.specs.declared.builder.command.Command.{Command as Clap}
 use Rattle.clap.specs.declared.builder.value_parser.ValueParser.{ValueParser}
@@ -20,16 +20,17 @@ use Rattle.clap.proofs.WalkLemmas.{one_text-rows}
 use Rattle.mtrace_replay.specs.declared.settings.Settings.{Settings}
 use Rattle.mtrace_replay.specs.declared.no_heap.report.LedgerReport.TheVariants.{Held, Sums, Callers, Nothing}
 use Rattle.mtrace_replay.specs.declared.size.Bounds.{Bounds}
+use Rattle.mtrace_replay.specs.declared.size_parts.PartBounds.{PartBounds}
 use Rattle.mtrace_replay.specs.declared.status.RunFault.TheVariants.{OutOfMemory}
 use Rattle.tlsf_tool.specs.declared.asked.Command.{Command}
 use Rattle.mtrace_replay.specs.declared.no_heap.report.LedgerReport.TheVariants as ledger
-use Rattle.tlsf_tool.specs.declared.asked.Command.TheVariants.{Report, Follow, Parts, Reread, Size, Save, Check}
+use Rattle.tlsf_tool.specs.declared.asked.Command.TheVariants.{Report, Follow, Parts, Reread, Size, SizeParts, Save, Check}
 use Rattle.tlsf_tool.specs.declared.asked.Rereading.TheVariants.{Sites, Timeline, Fit}
 use Rattle.tlsf_tool.specs.declared.asked.Name.{Name}
 use Rattle.tlsf_tool.specs.declared.asked.Name.TheVariants.{Leaks, Peak, Walk}
 use Rattle.tlsf_tool.specs.declared.asked.ToolFault.{ToolFault}
 use Rattle.tlsf_tool.specs.declared.asked.ToolFault.TheVariants.{Help, Usage, CannotOpen, InputIsOutput, ImageIsOutput, ReadsOnce, ReadsFileOnce, Run}
-use Rattle.tlsf_tool.specs.CommandLine.{IsArgOf, IsCommandOf, given_rule, AskFor, HasNumber, HasNone, HasSettings, HasBounds, HasNoLog, HasNoSetting, HasFlag, HasCalls, MatchesAskFor, bare_line, report_line, ledger_line, HasNoHeap, default_settings, sites_line, timeline_line, fit_line, size_line, save_line, check_line, name_text, texts_of, tlsf_line, wrong_with}
+use Rattle.tlsf_tool.specs.CommandLine.{IsArgOf, IsCommandOf, given_rule, AskFor, HasNumber, HasNone, HasSettings, HasBounds, HasNoBounds, HasParts, HasNoLog, HasNoSetting, HasFlag, HasCalls, MatchesAskFor, bare_line, report_line, ledger_line, HasNoHeap, default_settings, sites_line, timeline_line, fit_line, size_line, save_line, check_line, name_text, texts_of, tlsf_line, wrong_with}
 use Rattle.tlsf_tool.specs.Faults.{ExplainsKind, ExplainsWords, IsUsage}
 use Rattle.tlsf_tool.specs.Asks.{Asks, Picks}
 
@@ -120,6 +121,7 @@ subcommand_text (Reread (Sites settings) log) = codes "sites"
 subcommand_text (Reread (Timeline heap parts) log) = codes "timeline"
 subcommand_text (Reread (Fit step) log) = codes "fit"
 subcommand_text (Size bounds) = codes "size"
+subcommand_text (SizeParts parts) = codes "size"
 subcommand_text (Save settings log image) = codes "save"
 subcommand_text (Check image) = codes "check"
 
@@ -135,6 +137,7 @@ asked_under found (Reread (Sites settings) log) asks = asks.0
 asked_under found (Reread (Timeline heap parts) log) asks = asks.0
 asked_under found (Reread (Fit step) log) asks = asks.0
 asked_under found (Size bounds) asks = asks.0
+asked_under found (SizeParts parts) asks = asks.0
 asked_under found (Save settings log image) asks = asks.0
 asked_under found (Check image) asks = asks.0
 
@@ -156,10 +159,14 @@ module _ (rows : List Row) where
   abbrev pub HasCallsOnHeap : Type 0
   HasCallsOnHeap = HasCalls rows × (HasNoSetting rows → ⊥)
 
+  -- there are no bounds of a program without heaps by size, and no such heaps without bounds
+  abbrev pub HasNoSize : Type 0
+  HasNoSize = ((bounds : Bounds) → HasBounds rows bounds → all_of (codes "part") rows ≡ None → ⊥) × ((parts : List PartBounds) → HasParts rows parts → HasNoBounds rows → ⊥)
+
   -- what the subcommand of this text needs is missing: its settings, its log, its bounds or its image; or it has too much
   abbrev IsMissing : Text → Type 0
   IsMissing text = MatchBool (bytes_eq text (codes "check")) (first_of (codes "IMAGE") rows ≡ None)
-      (MatchBool (bytes_eq text (codes "size")) ((bounds : Bounds) → HasBounds rows bounds → ⊥)
+      (MatchBool (bytes_eq text (codes "size")) HasNoSize
       (MatchBool (bytes_eq text (codes "fit")) ((first_of (codes "LOG") rows ≡ None) ⊎ HasBoth)
       (MatchBool (bytes_eq text (codes "timeline")) (HasNoParts ⊎ (first_of (codes "LOG") rows ≡ None))
       (MatchBool (bytes_eq text (codes "save")) (HasNoLog rows ⊎ (first_of (codes "IMAGE") rows ≡ None))
@@ -194,7 +201,8 @@ module _ (rows : List Row) where
   has_all text (Reread (Timeline heap parts) log) asks (inr none) = no_such (first_of (codes "LOG") rows) (string_bytes log) none asks.3
   has_all text (Reread (Fit step) log) asks (inl none) = no_such (first_of (codes "LOG") rows) (string_bytes log) none asks.3
   has_all text (Reread (Fit step) log) asks (inr both) = asks.2 both.0.0 both.0.1
-  has_all text (Size bounds) asks never = never bounds asks.1
+  has_all text (Size bounds) asks never = never.0 bounds asks.1 asks.2
+  has_all text (SizeParts parts) asks never = never.1 parts.items asks.1 asks.2
   has_all text (Save settings log image) asks (inl missing) = no_log settings log missing asks.1 asks.2
   has_all text (Save settings log image) asks (inr none) = no_such (first_of (codes "IMAGE") rows) (string_bytes image) none asks.3
   has_all text (Check image) asks none = no_such (first_of (codes "IMAGE") rows) (string_bytes image) none asks.1
@@ -255,7 +263,7 @@ module _ (rows : List Row) where
   pub fit_asks_nothing : (first_of (codes "LOG") rows ≡ None) ⊎ HasBoth → AsksNothing (Some (codes "fit", rows))
   fit_asks_nothing missing = text_asks_nothing (codes "fit") missing
 
-  pub size_asks_nothing : ((bounds : Bounds) → HasBounds rows bounds → ⊥) → AsksNothing (Some (codes "size", rows))
+  pub size_asks_nothing : HasNoSize → AsksNothing (Some (codes "size", rows))
   size_asks_nothing never = text_asks_nothing (codes "size") never
 
   pub save_asks_nothing : HasNoLog rows ⊎ (first_of (codes "IMAGE") rows ≡ None) → AsksNothing (Some (codes "save", rows))

@@ -1,10 +1,11 @@
 -- The command line of the program, as clap reads it, and what its matches ask for.
-use Rattle.std.specs.Prelude.{◌≡◌, ◌⊎◌, ◌<◌, ◌^◌, ℕ, List, [], ◌∷◌, Option, Some, None, true, false, map, codes, string_bytes, String, pos}
+use Rattle.std.specs.List.{position_or_len, before_first, after_first}
+use Rattle.std.specs.Prelude.{◌≡◌, ◌⊎◌, ◌<◌, ◌≤◌, ◌^◌, ◌==◌, ℕ, Bool, ⊤, List, [], ◌∷◌, length, Option, Some, None, true, false, map, codes, string_bytes, String, pos}
 use Rattle.std.specs.declared.alloc.Global.{Global}
 use Rattle.std.specs.Str.Parse.{IsNumeral, digits_value, without_leading_plus}
-use Rattle.clap.specs.Words.{App, Kinds, Row, Rule, Text, app_of, fault_of, first_of, new_app, new_rule, one_of, rule_of, subcommand_of, with_rule, with_subcommand}
+use Rattle.clap.specs.Words.{App, Kinds, all_of, Row, Rule, Text, app_of, fault_of, first_of, new_app, new_rule, one_of, rule_of, subcommand_of, with_rule, with_subcommand}
 use Rattle.clap.specs.declared.builder.arg.Arg.{Arg}
-use Rattle.clap.specs.declared.builder.action.ArgAction.TheVariants.{SetTrue}
+use Rattle.clap.specs.declared.builder.action.ArgAction.TheVariants.{Append, SetTrue}
 use Rattle.clap.specs.declared.builder.command.Command.{Command as Clap}
 use Rattle.clap.specs.declared.builder.command.Command.TheViews.{out-Command}
 use Rattle.clap.specs.Simple.{on_top}
@@ -16,8 +17,9 @@ use Rattle.mtrace_replay.specs.declared.no_heap.report.LedgerReport.{LedgerRepor
 use Rattle.mtrace_replay.specs.declared.no_heap.report.LedgerReport.TheVariants.{Held, Sums}
 use Rattle.mtrace_replay.specs.declared.no_heap.report.LedgerReport.TheVariants as report
 use Rattle.mtrace_replay.specs.declared.size.Bounds.{Bounds}
+use Rattle.mtrace_replay.specs.declared.size_parts.PartBounds.{PartBounds}
 use Rattle.tlsf_tool.specs.declared.asked.Command.{Command}
-use Rattle.tlsf_tool.specs.declared.asked.Command.TheVariants.{Report, Follow, Parts, Reread, Size, Save, Check}
+use Rattle.tlsf_tool.specs.declared.asked.Command.TheVariants.{Report, Follow, Parts, Reread, Size, SizeParts, Save, Check}
 use Rattle.tlsf_tool.specs.declared.asked.Rereading.TheVariants.{Sites, Timeline, Fit}
 use Rattle.tlsf_tool.specs.declared.asked.Name.{Name}
 use Rattle.tlsf_tool.specs.declared.asked.Name.TheVariants.{Leaks, Peak, Walk}
@@ -36,9 +38,13 @@ given_rule id takes = record (new_rule id) {
 abbrev pub option_rule : Text → Text → ValueParser → Rule
 option_rule id default takes = record (given_rule id takes) { defaults = default ∷ [] }
 
--- the same, where it must be given
-abbrev pub needed_rule : Text → ValueParser → Rule
-needed_rule id takes = record (given_rule id takes) { required = true }
+-- `--ID` with one value, any number of times
+abbrev pub repeated_rule : Text → Rule
+repeated_rule id = record (new_rule id) {
+  long = Some id;
+  value_names = 1;
+  action = Some Append;
+}
 
 -- `--ID` with no value
 abbrev pub flag_rule : Text → Rule
@@ -94,11 +100,12 @@ fit_line =
 
 abbrev pub size_line : App
 size_line =
-    with_rule (with_rule (with_rule (with_rule (new_app (codes "size"))
-    (needed_rule (codes "blocks") (parser.Signed (pos 1) (pos 32766))))
-    (needed_rule (codes "largest") (parser.Unsigned 1 1056964608)))
+    with_rule (with_rule (with_rule (with_rule (with_rule (new_app (codes "size"))
+    (given_rule (codes "blocks") (parser.Signed (pos 1) (pos 32766))))
+    (given_rule (codes "largest") (parser.Unsigned 1 1056964608)))
     (given_rule (codes "bytes") (parser.Unsigned 1 greatest_size)))
-    (given_rule (codes "align") (parser.Unsigned 0 18446744073709551615))
+    (given_rule (codes "align") (parser.Unsigned 0 18446744073709551615)))
+    (repeated_rule (codes "part"))
 
 abbrev pub save_line : App
 save_line = with_rule (report_line (codes "save")) (word_rule (codes "IMAGE"))
@@ -196,6 +203,40 @@ abbrev pub HasBounds : List Row → Bounds → Type 0
 HasBounds rows bounds = HasNumber rows (codes "blocks") 32 bounds.blocks × HasNumber rows (codes "largest") 64 bounds.largest
     × HasGiven rows (codes "bytes") bounds.bytes × HasGiven rows (codes "align") bounds.align
 
+-- none of the bounds of a program is given
+abbrev pub HasNoBounds : List Row → Type 0
+HasNoBounds rows = HasNone rows (codes "blocks") 32 × HasNone rows (codes "largest") 64 × HasNone rows (codes "bytes") 64 × HasNone rows (codes "align") 64
+
+-- the text is read as the number n of this width in bits
+abbrev pub IsNumberText : Text → (bits n : ℕ) → Type 0
+IsNumberText text bits n = IsNumeral 10 (without_leading_plus text) × (digits_value 10 (without_leading_plus text) ≡ n) × (n < 2 ^ bits)
+
+-- an x between two numbers: how many blocks one heap by size has at most, and the bytes of its largest request
+abbrev pub is_times : ℕ → Bool
+is_times byte = byte == 120
+
+pub record IsPartText (text : Text) (part : PartBounds) : Type 0 where
+  pub times : position_or_len is_times text < length text
+  pub blocks : IsNumberText (before_first is_times text) 32 part.blocks
+  pub largest : IsNumberText (after_first is_times text) 64 part.largest
+  pub some_blocks : 0 < part.blocks
+  pub few_blocks : part.blocks ≤ 65535
+  pub some_bytes : 0 < part.largest
+  pub few_bytes : part.largest ≤ 1056964608
+
+-- each text is of a part
+abbrev pub ArePartTexts : List Text → List PartBounds → Type 0
+ArePartTexts [] [] = ⊤
+ArePartTexts (text ∷ texts) (part ∷ parts) = IsPartText text part × ArePartTexts texts parts
+ArePartTexts texts parts = ⊥
+
+-- the heaps by size that are told, eight at most
+pub record HasParts (rows : List Row) (parts : List PartBounds) : Type 0 where
+  pub texts : List Text
+  pub told : all_of (codes "part") rows ≡ Some texts
+  pub few : length texts ≤ 8
+  pub read : ArePartTexts texts parts
+
 -- there are no settings, or there is no log
 abbrev pub HasNoLog : List Row → Type 0
 HasNoLog rows = ((settings : Settings) → HasSettings rows settings → ⊥) ⊎ (first_of (codes "LOG") rows ≡ None)
@@ -214,7 +255,8 @@ MatchesAskFor (Some found) (Reread (Fit step) log) = (found.0 ≡ codes "fit") �
     × (first_of (codes "LOG") found.1 ≡ Some (string_bytes log))
 MatchesAskFor (Some found) (Parts heaps log) = (found.0 ≡ codes "fit") × HasNumber found.1 (codes "heaps") 32 heaps × HasNone found.1 (codes "step") 64
     × (first_of (codes "LOG") found.1 ≡ Some (string_bytes log))
-MatchesAskFor (Some found) (Size bounds) = (found.0 ≡ codes "size") × HasBounds found.1 bounds
+MatchesAskFor (Some found) (Size bounds) = (found.0 ≡ codes "size") × HasBounds found.1 bounds × (all_of (codes "part") found.1 ≡ None)
+MatchesAskFor (Some found) (SizeParts parts) = (found.0 ≡ codes "size") × HasParts found.1 parts.items × HasNoBounds found.1
 MatchesAskFor (Some found) (Save settings log image) = (found.0 ≡ codes "save")
     × HasSettings found.1 settings × (first_of (codes "LOG") found.1 ≡ Some (string_bytes log)) × (first_of (codes "IMAGE") found.1 ≡ Some (string_bytes image))
 MatchesAskFor (Some found) (Check image) = (found.0 ≡ codes "check") × (first_of (codes "IMAGE") found.1 ≡ Some (string_bytes image))

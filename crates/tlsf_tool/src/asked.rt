@@ -4,7 +4,7 @@ ghost use Rattle.tlsf_tool.specs.Statuses.{status_of_fault};
 
 use crate::shown::Shown;
 use crate::statuses::fault_status;
-use mtrace_replay::{Bounds, LedgerReport, RunFault, Settings};
+use mtrace_replay::{Bounds, LedgerReport, PartBounds, RunFault, Settings};
 use std::alloc::Global;
 use thiserror::Error;
 
@@ -73,6 +73,11 @@ pub enum Command {
     Size {
         /// What the program keeps to.
         bounds: Bounds,
+    },
+    /// How large a pool is always enough for heaps by size, without a log.
+    SizeParts {
+        /// What each heap serves.
+        parts: Vec<PartBounds>,
     },
     /// An image of the heap at the end of a log.
     Save {

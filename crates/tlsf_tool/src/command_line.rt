@@ -4,7 +4,7 @@ ghost use Rattle.std.specs.Prelude.{◌≡◌, IfOk, codes, pos};
 ghost use Rattle.clap.specs.declared.builder.value_parser.ValueParser.TheVariants.{Signed, Unsigned};
 ghost use Rattle.tlsf_class.specs.Classes.{unit, greatest_size};
 ghost use Rattle.clap.specs.Words.{App, app_of, new_app, with_subcommand};
-ghost use Rattle.tlsf_tool.specs.CommandLine.{IsArgOf, IsCommandOf, given_rule, flag_rule, word_rule, heap_line, report_line, ledger_line, choice_line, sites_line, timeline_line, fit_line, size_line, save_line, check_line, bare_line, tlsf_line};
+ghost use Rattle.tlsf_tool.specs.CommandLine.{IsArgOf, IsCommandOf, given_rule, repeated_rule, flag_rule, word_rule, heap_line, report_line, ledger_line, choice_line, sites_line, timeline_line, fit_line, size_line, save_line, check_line, bare_line, tlsf_line};
 
 use clap::builder::ValueParser;
 use clap::{Arg, ArgAction, Command, value_parser};
@@ -19,10 +19,11 @@ const VERSION: &str = "1.0.0";
 
 /// What `tlsf` is for.
 const ABOUT: &str =
-    "Replays a log of glibc's tracer mtrace(3) on a heap, and reports what it finds.";
+    "Tells who holds a program's memory, what leaks, and how large a pool it needs, from a log of tlsf-trace or of glibc's mtrace(3).";
 
 /// The end of the program's help.
 const EXAMPLES: &str = "Examples:
+  tlsf-trace -o a.log ./program             the log of a program, with the stack of each call
   tlsf sites a.log                          who holds the memory of a.log, at its peak and at its end
   tlsf timeline a.log                       what a.log holds over its lines
   tlsf leaks a.log                          what is not freed at the end of a.log
@@ -93,10 +94,11 @@ const FIT: Help = Help {
 };
 
 const SIZE: Help = Help {
-    about: "Tells how many records and how large a pool are always enough, in whatever order a program asks: for at most L live blocks of at most M bytes.",
+    about: "Tells how many records and how large a pool are always enough, in whatever order a program asks: for at most L live blocks of at most M bytes. With --part, for one heap each.",
     examples: "Examples:
   tlsf size --blocks 60 --largest 1040                 what is enough for any 60 blocks of 1040 bytes
-  tlsf size --blocks 60 --largest 1040 --bytes 20480   the same, where they have 20480 bytes at most",
+  tlsf size --blocks 60 --largest 1040 --bytes 20480   the same, where they have 20480 bytes at most
+  tlsf size --part 2130x64 --part 20x4096              the same for two heaps, each for blocks of one size",
 };
 
 const SAVE: Help = Help {
@@ -152,6 +154,17 @@ fn flag<'a>(alloc: Global, id: &'a str, help: &'a str) -> Arg<'a>
     Arg::new(alloc, id)
         .long(id)
         .action(ArgAction::SetTrue)
+        .help(help)
+}
+
+/// The option of this id, whose value is any text, and which may be given any number of times.
+fn repeated<'a>(alloc: Global, id: &'a str, value: &'a str, help: &'a str) -> Arg<'a>
+    ensures { IsArgOf (repeated_rule id.entry.now) result }
+{
+    Arg::new(alloc, id)
+        .long(id)
+        .value_name(value)
+        .action(ArgAction::Append)
         .help(help)
 }
 
@@ -308,11 +321,14 @@ fn size_command<'a>(alloc: Global) -> Result<Command<'a>, AllocError>
     let sum =
         "Most bytes in live blocks together, each block in whole units of 16, from 1 to 1073741808; else L times M";
     let align = "Greatest alignment of a request, a power of two from 1 to 536870912";
+    let part =
+        "One heap of its own for requests of at most M bytes, with at most L live blocks; up to 8 times, with no other option";
     subcommand(alloc, "size", SIZE)
-        .arg(option(alloc, "blocks", "L", count(32_766), blocks).required(true))?
-        .arg(option(alloc, "largest", "M", bytes(1, 1_056_964_608), largest).required(true))?
+        .arg(option(alloc, "blocks", "L", count(32_766), blocks))?
+        .arg(option(alloc, "largest", "M", bytes(1, 1_056_964_608), largest))?
         .arg(option(alloc, "bytes", "U", bytes(1, GREATEST_SIZE), sum))?
-        .arg(option(alloc, "align", "A", value_parser!(u64), align))
+        .arg(option(alloc, "align", "A", value_parser!(u64), align))?
+        .arg(repeated(alloc, "part", "LxM", part))
 }
 
 /// The subcommand that saves.

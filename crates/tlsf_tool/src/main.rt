@@ -30,9 +30,10 @@ use crate::plan::{Streams, is_standard, planned};
 use crate::run::Run;
 use crate::service::{
     serve, serve_again, serve_help, serve_ledger, serve_parts, serve_save, serve_size,
+    serve_size_parts,
 };
 use crate::setting_faults::{BAD_SETTINGS, tell_bad_bounds, tell_bad_heap, tell_bad_reading};
-use mtrace_replay::{Bounds, LedgerReport, RunFault, Settings};
+use mtrace_replay::{Bounds, LedgerReport, PartBounds, RunFault, Settings};
 use std::alloc::Global;
 use std::fs::File;
 use std::io::{IsTerminal, Read, Seek, Stdin};
@@ -246,6 +247,14 @@ fn size(run: &Run<'_>, bounds: Bounds) -> u8 {
     run.end(status, "", "")
 }
 
+/// Tells how large a pool is always enough for each of some heaps by size.
+fn size_parts(run: &Run<'_>, parts: &[PartBounds]) -> u8 {
+    let mut writer = run.unbuffered();
+    let mut errors = run.errors();
+    let status = serve_size_parts(parts, &mut writer, &mut errors);
+    run.end(status, "", "")
+}
+
 /// Makes a report of a log, which is opened first where it is a file.
 fn report_log(run: &Run<'_>, name: Name, settings: Settings, log: String) -> Result<u8, ToolFault> {
     if is_standard(&log) {
@@ -300,6 +309,7 @@ fn act(run: &Run<'_>, command: Command) -> Result<u8, ToolFault> {
             image,
         } => save_log(run, settings, log, image),
         Command::Size { bounds } => Ok(size(run, bounds)),
+        Command::SizeParts { parts } => Ok(size_parts(run, parts.as_slice())),
         Command::Check { image } => check_file(run, image),
     }
 }

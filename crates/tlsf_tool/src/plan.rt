@@ -45,7 +45,7 @@ fn is_told(streams: Streams, command: &Command) -> bool
         | Command::Parts { log, .. }
         | Command::Save { log, .. } => streams.shown && !(streams.typed && is_standard(log)),
         Command::Reread { .. } => streams.shown,
-        Command::Size { .. } | Command::Check { .. } => false,
+        Command::Size { .. } | Command::SizeParts { .. } | Command::Check { .. } => false,
     }
 }
 

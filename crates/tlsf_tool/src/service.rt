@@ -5,6 +5,7 @@ ghost use Rattle.mtrace_replay.specs.Run.{Runs};
 ghost use Rattle.mtrace_replay.specs.RunServed.{RunsServed};
 ghost use Rattle.mtrace_replay.specs.RunParts.{RunsParts};
 ghost use Rattle.mtrace_replay.specs.Size.{RunsSize};
+ghost use Rattle.mtrace_replay.specs.SizeParts.{RunsSizeParts};
 ghost use Rattle.mtrace_replay.specs.Saving.{RunsAndSaves, PutsAndFlushes};
 ghost use Rattle.tlsf_tool.specs.Statuses.{report_of, EndsAs, Rereads, PutsHelp};
 
@@ -13,9 +14,9 @@ use crate::statuses::{end_status, fault_status};
 use arrayvec::ArrayString;
 use mtrace_log::{Again, Failed, Sink, Source, put_all};
 use mtrace_replay::{
-    Bounds, LedgerReport, RunFault, Settings, Status, Watch, run_fit, run_fit_heaps, run_leaks,
-    run_ledger, run_ledger_timeline, run_peak, run_save, run_sites, run_size, run_timeline,
-    run_walk,
+    Bounds, LedgerReport, PartBounds, RunFault, Settings, Status, Watch, run_fit, run_fit_heaps,
+    run_leaks, run_ledger, run_ledger_timeline, run_peak, run_save, run_sites, run_size,
+    run_size_parts, run_timeline, run_walk,
 };
 use std::alloc::Global;
 use std::fmt::Write;
@@ -179,6 +180,19 @@ pub fn serve_size<W: Sink, E: Sink>(bounds: Bounds, writer: &mut W, errors: &mut
     ensures { EndsAs (λ outcome. RunsSize bounds W.shown outcome writer.old writer.new) result errors.old errors.new }
 {
     end_run(errors, run_size(writer, bounds))
+}
+
+/// Tells how large a pool is always enough for each of these heaps by size, by `run_size_parts`. Puts the line of a fault to
+/// `errors`, whose own fault doesn't matter. Answers the status that the program ends with: 0, 2 for no heaps, more than 8, or a
+/// size without a class, and 3 where the writer failed.
+pub fn serve_size_parts<W: Sink, E: Sink>(
+    parts: &[PartBounds],
+    writer: &mut W,
+    errors: &mut E,
+) -> u8
+    ensures { EndsAs (λ outcome. RunsSizeParts parts.now W.shown outcome writer.old writer.new) result errors.old errors.new }
+{
+    end_run(errors, run_size_parts(writer, parts))
 }
 
 /// Saves the heap at the end of the log that the reader has left, by `run_save`. Puts the line of a fault to

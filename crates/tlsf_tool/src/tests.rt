@@ -20,6 +20,7 @@ mod reports;
 mod rows;
 mod sites;
 mod size;
+mod size_parts;
 mod store;
 mod timeline;
 mod words;

@@ -1,8 +1,9 @@
 //! The words of the command line.
 
-ghost use Rattle.std.specs.Prelude.{◌≡◌, ◌⊎◌, MatchBool, codes, string_bytes, Some, None};
-ghost use Rattle.clap.specs.Words.{first_of, found_of, kind_of, rows_of, subcommand_rows_of};
-ghost use Rattle.tlsf_tool.specs.CommandLine.{HasNumber, HasOr, HasNoSetting, HasHeap, HasSettings, HasBounds, HasFlag, HasNoHeap, HasNoLog, default_settings, IsOfReport, name_text};
+ghost use Rattle.std.specs.Prelude.{◌≡◌, ◌⊎◌, List, map, MatchBool, codes, string_bytes, Some, None};
+ghost use Rattle.mtrace_replay.specs.declared.size_parts.PartBounds.{PartBounds};
+ghost use Rattle.clap.specs.Words.{all_of, first_of, found_of, kind_of, rows_of, subcommand_rows_of};
+ghost use Rattle.tlsf_tool.specs.CommandLine.{HasNumber, HasOr, HasNoSetting, HasHeap, HasSettings, HasBounds, HasNoBounds, IsNumberText, IsPartText, ArePartTexts, HasFlag, HasNoHeap, HasNoLog, default_settings, IsOfReport, name_text};
 ghost use Rattle.tlsf_tool.specs.Faults.{ExplainsKind, IsUsage};
 ghost use Rattle.tlsf_tool.specs.Asks.{Picks, Asks, MatchesGive, WordsGive};
 
@@ -11,7 +12,7 @@ use crate::command_line::tlsf_command;
 use crate::word_faults::told_text;
 use clap::error::ErrorKind;
 use clap::{ArgMatches, Error};
-use mtrace_replay::{Bounds, LedgerReport, RunFault, Settings};
+use mtrace_replay::{Bounds, LedgerReport, PartBounds, RunFault, Settings};
 use std::alloc::Global;
 use tlsf_class::GREATEST_SIZE;
 
@@ -32,6 +33,18 @@ const NO_CALLS: &str =
 /// The text where the step between sizes stands beside the number of heaps.
 const NO_STEP: &str =
     "error: --heaps takes no option beside it: --step is of one heap\n\nFor more information, try '--help'.\n";
+
+/// The text where neither the bounds of a program nor heaps by size are told.
+const NO_SIZE: &str =
+    "error: size takes --blocks and --largest, or --part\n\nFor more information, try '--help'.\n";
+
+/// The text where a bound of a program stands beside a heap by size, or there are too many heaps.
+const NO_BOUNDS: &str =
+    "error: --part takes no option beside it, and stands at most 8 times\n\nFor more information, try '--help'.\n";
+
+/// The text where what a heap by size serves can't be read.
+const NO_PART: &str =
+    "error: --part takes LxM: L blocks, from 1 to 65535, of at most M bytes, from 1 to 1056964608\n\nFor more information, try '--help'.\n";
 
 /// The size of this id, in bytes, that a subcommand's matches have.
 fn size_of(found: &ArgMatches<'_>, id: &str) -> Option<u64>
@@ -210,12 +223,92 @@ fn bounds_of(found: &ArgMatches<'_>) -> Option<Bounds>
     })
 }
 
+/// The number that this text is read as.
+fn blocks_of(text: &str) -> Option<u32>
+    ensures { Picks (IsNumberText text.now 32) result }
+{
+    text.parse::<u32>().ok()
+}
+
+/// The size that this text is read as, in bytes.
+fn bytes_of(text: &str) -> Option<u64>
+    ensures { Picks (IsNumberText text.now 64) result }
+{
+    text.parse::<u64>().ok()
+}
+
+/// The heap by size that this text tells.
+fn part_of(text: &str) -> Option<PartBounds>
+    ensures { Picks (IsPartText text.now) result }
+{
+    let (blocks, largest) = text.split_once('x')?;
+    let blocks = blocks_of(blocks)?;
+    let largest = bytes_of(largest)?;
+    if blocks == 0 || blocks > 65_535 || largest == 0 || largest > 1_056_964_608 {
+        return None;
+    }
+    Some(PartBounds { blocks, largest })
+}
+
+/// The heaps by size that these texts tell.
+fn parts_of(alloc: Global, texts: &[&str]) -> Result<Vec<PartBounds>, ToolFault>
+    ensures { Asks (λ parts. ArePartTexts (map (λ text. text.now) texts.now) parts.items) ((parts : List PartBounds) → ArePartTexts (map (λ text. text.now) texts.now) parts → ⊥) result }
+{
+    let mut parts = Vec::new(alloc);
+    for text in texts {
+        let Some(part) = part_of(text) else {
+            return Err(ToolFault::usage(alloc, NO_PART));
+        };
+        match parts.push(part) {
+            Ok(()) => {}
+            Err(_) => return Err(NO_MEMORY),
+        }
+    }
+    Ok(parts)
+}
+
+/// Whether a bound of a program is among a subcommand's matches.
+fn has_bound(found: &ArgMatches<'_>) -> bool
+    ensures { MatchBool result (HasNoBounds (rows_of (found_of found.now)) → ⊥) (HasNoBounds (rows_of (found_of found.now))) }
+{
+    let blocks = option_number(found, "blocks");
+    let largest = size_of(found, "largest");
+    let sum = size_of(found, "bytes");
+    let align = size_of(found, "align");
+    match (blocks, largest, sum, align) {
+        (None, None, None, None) => false,
+        _ => true,
+    }
+}
+
+/// What the matches ask for that tell heaps by size.
+fn asked_size_parts(
+    alloc: Global,
+    texts: &[&str],
+    found: &ArgMatches<'_>,
+) -> Result<Command, ToolFault>
+    requires told { all_of (codes "part") (rows_of (found_of found.now)) ≡ Some (map (λ text. text.now) texts.now) }
+    ensures { MatchesGive (Some (codes "size", rows_of (found_of found.now))) result }
+{
+    if has_bound(found) {
+        return Err(ToolFault::usage(alloc, NO_BOUNDS));
+    }
+    if texts.len() > 8 {
+        return Err(ToolFault::usage(alloc, NO_BOUNDS));
+    }
+    let parts = parts_of(alloc, texts)?;
+    Ok(Command::SizeParts { parts })
+}
+
 /// What the matches of the subcommand that tells what is enough without a log ask for.
 fn asked_size(alloc: Global, found: &ArgMatches<'_>) -> Result<Command, ToolFault>
     ensures { MatchesGive (Some (codes "size", rows_of (found_of found.now))) result }
 {
+    if let Some(texts) = found.get_strs("part") {
+        return asked_size_parts(alloc, texts, found);
+    }
     let Some(bounds) = bounds_of(found) else {
-        return Err(ToolFault::usage(alloc, NO_COMMAND));
+        return Err(ToolFault::usage(alloc, NO_SIZE));
     };
     Ok(Command::Size { bounds })
 }

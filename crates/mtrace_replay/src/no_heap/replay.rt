@@ -10,6 +10,7 @@ use super::line::outcome;
 use crate::amount::Amount;
 use crate::diagnostic::Note;
 use crate::findings::Findings;
+use crate::line_replay::LineReplay;
 use crate::replay::{half_before, half_diagnostic, old_address, put_half};
 use mtrace_log::{Addr, Event, LentLocation, LineFault};
 use std::alloc::{AllocError, Global};
@@ -182,5 +183,21 @@ impl LedgerReplay {
         ensures called { result.now.called ≡ self.now.called }
     {
         &self.ledger
+    }
+}
+
+impl LineReplay for LedgerReplay {
+    ghost use Rattle.mtrace_replay.specs.Served.{ledger_rules};
+
+    ghost rules = { ledger_rules };
+
+    #[inline(always)]
+    fn take_line(
+        &mut self,
+        number: u64,
+        event: Result<Event<LentLocation<'_>>, LineFault>,
+        findings: &mut Findings,
+    ) -> Result<(), AllocError> {
+        self.feed_lent(number, event, findings)
     }
 }

@@ -1,83 +1,21 @@
 //! The run that writes the report of a log without a heap.
 
-ghost use Rattle.std.specs.Prelude.{◌≡◌, ◌+◌, ◌++◌, [], IfOk};
+ghost use Rattle.std.specs.Prelude.{◌≡◌, ◌++◌, IfOk};
 ghost use Rattle.mtrace_log.specs.Output.{Puts};
 ghost use Rattle.mtrace_replay.specs.Texts.{diagnostics_text};
 ghost use Rattle.mtrace_replay.specs.Prepared.{HasNamed, prepared_text};
-ghost use Rattle.mtrace_replay.specs.RunServed.{RunsServed, FollowsLine, FollowsLines, FinishesServed, EndsServed, served_status};
+ghost use Rattle.mtrace_replay.specs.RunServed.{RunsServed, FinishesServed, EndsServed, served_status};
 ghost use Rattle.mtrace_replay.specs.declared.no_heap.report.LedgerReport.TheVariants.{Nothing};
 
 use super::prepared::{Prepared, prepare};
 use super::replay::LedgerReplay;
 use super::report::{LedgerReport, put_ledger_report};
 use crate::diagnostic::Note;
-use crate::findings::Findings;
-use crate::run::{put_diagnostics, put_findings};
+use crate::following::{Stop, follow_lines};
+use crate::run::put_diagnostics;
 use crate::status::{RunFault, Status};
-use mtrace_log::{Event, Failed, LentLocation, LineFault, Lines, Sink, Source};
+use mtrace_log::{Failed, Sink, Source};
 use std::alloc::Global;
-
-/// Why no more lines are followed.
-#[derive(Clone, Copy)]
-pub(crate) enum Stop {
-    // The reader failed, or a line past the last number would come.
-    Reader,
-    // The writer failed.
-    Writer,
-    // Memory was refused.
-    Memory,
-}
-
-/// Follows one line and puts what is wrong with it. Answers whether anything is. The findings are empty before and after, so one
-/// serves all lines.
-#[inline(always)]
-fn follow_line<W: Sink>(
-    writer: &mut W,
-    replay: &mut LedgerReplay,
-    number: u64,
-    event: Result<Event<LentLocation<'_>>, LineFault>,
-    findings: &mut Findings,
-) -> Result<bool, Stop>
-    requires next { number ≡ replay.old.lines + 1 }
-    requires none { findings.old ≡ [] }
-    ensures { FollowsLine number event.entry result replay.old replay.new findings.new (W.shown writer.old) (W.shown writer.new) }
-{
-    if replay.feed_lent(number, event, findings).is_err() {
-        return Err(Stop::Memory);
-    }
-    if findings.is_empty() {
-        return Ok(false);
-    }
-    match put_findings(writer, findings) {
-        Ok(()) => Ok(true),
-        Err(_) => Err(Stop::Writer),
-    }
-}
-
-/// Reads and follows all lines of the log; what is wrong with a line is put at once. Answers whether anything is.
-fn follow_lines<R: Source, W: Sink>(
-    reader: &mut R,
-    writer: &mut W,
-    replay: &mut LedgerReplay,
-) -> Result<bool, Stop>
-    requires start { replay.old.lines ≡ 0 }
-    ensures { FollowsLines result replay.old replay.new (R.shown reader.old) (R.shown reader.new) (W.shown writer.old) (W.shown writer.new) }
-{
-    let mut lines = Lines::new();
-    let mut has_diagnostics = false;
-    let mut findings = Findings::none();
-    loop {
-        let number = match lines.advance(reader) {
-            Ok(Some(number)) => number,
-            Ok(None) => return Ok(has_diagnostics),
-            Err(_) => return Err(Stop::Reader),
-        };
-        match follow_line(writer, replay, number, lines.event(), &mut findings) {
-            Ok(more) => has_diagnostics |= more,
-            Err(stop) => return Err(stop),
-        }
-    }
-}
 
 /// Puts what is wrong at the end, and then the report.
 fn put_end<W: Sink>(

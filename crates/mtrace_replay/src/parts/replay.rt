@@ -10,6 +10,7 @@ ghost use Rattle.mtrace_replay.specs.CountedReplay.{IsChangeOf, FeedsCounted};
 use super::change::Change;
 use super::spans::Spans;
 use crate::findings::Findings;
+use crate::line_replay::LineReplay;
 use crate::no_heap::replay::LedgerReplay;
 use mtrace_log::{Event, LentLocation, LineFault};
 use std::alloc::{AllocError, Global};
@@ -101,5 +102,21 @@ impl CountedReplay {
         self.ledger.feed_lent(number, event, findings)?;
         let is_served = self.ledger.totals().served > served;
         self.count(&change, is_served)
+    }
+}
+
+impl LineReplay for CountedReplay {
+    ghost use Rattle.mtrace_replay.specs.CountedReplay.{counted_rules};
+
+    ghost rules = { counted_rules };
+
+    #[inline(always)]
+    fn take_line(
+        &mut self,
+        number: u64,
+        event: Result<Event<LentLocation<'_>>, LineFault>,
+        findings: &mut Findings,
+    ) -> Result<(), AllocError> {
+        self.feed_lent(number, event, findings)
     }
 }

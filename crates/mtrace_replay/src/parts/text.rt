@@ -25,7 +25,7 @@ pub(crate) struct PartOf {
 
 impl PartOf {
     /// The bytes of its pool. `None` above the greatest pool, or where there can't be as many records.
-    fn pool(&self) -> Option<u64>
+    pub(crate) fn pool(&self) -> Option<u64>
         ensures { result ≡ pool_bytes (part_in self.now) }
     {
         let bytes = u128::from(self.blocks) * u128::from(self.size);
@@ -151,7 +151,7 @@ fn put_lines<W: Sink>(writer: &mut W, parts: &[PartOf]) -> Result<(), Failed>
 }
 
 /// Puts the lines of the parts, and their sums.
-fn put_behind<W: Sink>(writer: &mut W, parts: &[PartOf]) -> Result<(), Failed>
+pub(crate) fn put_behind<W: Sink>(writer: &mut W, parts: &[PartOf]) -> Result<(), Failed>
     requires { length parts.now ≤ 8 }
     ensures { Puts result (flat_map (λ part. part_line (part_in part)) parts.now ++ (size_line (codes "sum: ") (sum_over pool_bytes (map part_in parts.now))
         ++ size_line (codes "tables: ") (sum_over records_bytes (map part_in parts.now)))) (W.shown writer.old) (W.shown writer.new) }

@@ -33,11 +33,11 @@ struct Row {
 const ROWS: [Row; 15] = [
     Row {
         bounds: LEAST,
-        text: b"records: 5\ntable: 1776 bytes\nsure pool: 32 bytes\n",
+        text: b"records: 5\ntable: 1776 bytes\nsure pool: 32 bytes\nrounded pool: 16 bytes\n",
     },
     Row {
         bounds: SIXTY,
-        text: b"records: 123\ntable: 3664 bytes\nsure pool: 125856 bytes\n",
+        text: b"records: 123\ntable: 3664 bytes\nsure pool: 125856 bytes\nrounded pool: 63360 bytes\n",
     },
     // Each alignment up to 16 asks for no more.
     Row {
@@ -45,14 +45,14 @@ const ROWS: [Row; 15] = [
             align: Some(1),
             ..SIXTY
         },
-        text: b"records: 123\ntable: 3664 bytes\nsure pool: 125856 bytes\n",
+        text: b"records: 123\ntable: 3664 bytes\nsure pool: 125856 bytes\nrounded pool: 63360 bytes\n",
     },
     Row {
         bounds: Bounds {
             align: Some(16),
             ..SIXTY
         },
-        text: b"records: 123\ntable: 3664 bytes\nsure pool: 125856 bytes\n",
+        text: b"records: 123\ntable: 3664 bytes\nsure pool: 125856 bytes\nrounded pool: 63360 bytes\n",
     },
     // 1,088 bytes are asked for, which are a class.
     Row {
@@ -60,7 +60,7 @@ const ROWS: [Row; 15] = [
             align: Some(64),
             ..SIXTY
         },
-        text: b"records: 123\ntable: 3664 bytes\nsure pool: 127808 bytes\n",
+        text: b"records: 123\ntable: 3664 bytes\nsure pool: 127808 bytes\nrounded pool: 65280 bytes\n",
     },
     // 67 units, and the class above begins at 68.
     Row {
@@ -68,7 +68,7 @@ const ROWS: [Row; 15] = [
             largest: 1_060,
             ..LEAST
         },
-        text: b"records: 5\ntable: 1776 bytes\nsure pool: 3232 bytes\n",
+        text: b"records: 5\ntable: 1776 bytes\nsure pool: 3232 bytes\nrounded pool: 1088 bytes\n",
     },
     // 401 bytes are 26 units.
     Row {
@@ -78,14 +78,14 @@ const ROWS: [Row; 15] = [
             bytes: Some(401),
             ..LEAST
         },
-        text: b"records: 9\ntable: 1840 bytes\nsure pool: 1008 bytes\n",
+        text: b"records: 9\ntable: 1840 bytes\nsure pool: 1008 bytes\nrounded pool: 480 bytes\n",
     },
     Row {
         bounds: Bounds {
             align: Some(268_435_456),
             ..LEAST
         },
-        text: b"records: 5\ntable: 1776 bytes\nsure pool: 536870912 bytes\n",
+        text: b"records: 5\ntable: 1776 bytes\nsure pool: 536870912 bytes\nrounded pool: 268435456 bytes\n",
     },
     // Twice as great an alignment asks for a unit more than the greatest pool.
     Row {
@@ -93,7 +93,7 @@ const ROWS: [Row; 15] = [
             align: Some(536_870_912),
             ..LEAST
         },
-        text: b"records: 5\ntable: 1776 bytes\nsure pool: -\n",
+        text: b"records: 5\ntable: 1776 bytes\nsure pool: -\nrounded pool: 536870912 bytes\n",
     },
     // The greatest pool, and a unit more.
     Row {
@@ -101,14 +101,14 @@ const ROWS: [Row; 15] = [
             bytes: Some(1_073_741_792),
             ..LEAST
         },
-        text: b"records: 5\ntable: 1776 bytes\nsure pool: 1073741808 bytes\n",
+        text: b"records: 5\ntable: 1776 bytes\nsure pool: 1073741808 bytes\nrounded pool: 16 bytes\n",
     },
     Row {
         bounds: Bounds {
             bytes: Some(1_073_741_793),
             ..LEAST
         },
-        text: b"records: 5\ntable: 1776 bytes\nsure pool: -\n",
+        text: b"records: 5\ntable: 1776 bytes\nsure pool: -\nrounded pool: 16 bytes\n",
     },
     // More than any pool has.
     Row {
@@ -116,14 +116,14 @@ const ROWS: [Row; 15] = [
             bytes: Some(1_073_741_809),
             ..LEAST
         },
-        text: b"records: 5\ntable: 1776 bytes\nsure pool: -\n",
+        text: b"records: 5\ntable: 1776 bytes\nsure pool: -\nrounded pool: 16 bytes\n",
     },
     Row {
         bounds: Bounds {
             bytes: Some(u64::MAX),
             ..LEAST
         },
-        text: b"records: 5\ntable: 1776 bytes\nsure pool: -\n",
+        text: b"records: 5\ntable: 1776 bytes\nsure pool: -\nrounded pool: 16 bytes\n",
     },
     // The greatest bounds, and an alignment for which there is no class.
     Row {
@@ -132,7 +132,7 @@ const ROWS: [Row; 15] = [
             largest: 1_056_964_608,
             ..LEAST
         },
-        text: b"records: 65535\ntable: 1050256 bytes\nsure pool: -\n",
+        text: b"records: 65535\ntable: 1050256 bytes\nsure pool: -\nrounded pool: -\n",
     },
     Row {
         bounds: Bounds {
@@ -140,7 +140,7 @@ const ROWS: [Row; 15] = [
             align: Some(32),
             ..LEAST
         },
-        text: b"records: 5\ntable: 1776 bytes\nsure pool: -\n",
+        text: b"records: 5\ntable: 1776 bytes\nsure pool: -\nrounded pool: -\n",
     },
 ];
 
@@ -181,7 +181,8 @@ fn bad_alignments(rt: HostRuntime) {
 /// A writer without room for the whole text, or whose flush fails.
 #[test]
 fn writer_of_size_fails(rt: HostRuntime) {
-    let text = b"records: 123\ntable: 3664 bytes\nsure pool: 125856 bytes\n".as_slice();
+    let text =
+        b"records: 123\ntable: 3664 bytes\nsure pool: 125856 bytes\nrounded pool: 63360 bytes\n".as_slice();
     for room in 0..text.len() + 1 {
         let mut writer = MemorySink::with_room(rt.alloc(), 4096, room, Full::Fails).failing_flush();
         let mut errors = MemorySink::in_pieces(rt.alloc(), 4096);

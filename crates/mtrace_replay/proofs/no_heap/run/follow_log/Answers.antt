@@ -1,9 +1,10 @@
-use Rattle.std.proofs.Common.{◌∙◌, subst}
+use Rattle.std.proofs.Common.{◌∙◌, subst, inl}
 use Rattle.mtrace_log.specs.declared.call.Call.TheVariants.{Took, Flushed}
 use Rattle.mtrace_log.proofs.TraceLemmas.{moved_then_append, failed_after}
 use Rattle.mtrace_replay.specs.Prepared.{IsOf}
+use Rattle.mtrace_replay.specs.Served.{IsServed}
 use Rattle.mtrace_replay.proofs.RunLemmas.{flush_asked}
-use Rattle.mtrace_replay.proofs.ServedRunLemmas.{served_write, served_all, served_nothing, served_memory}
+use Rattle.mtrace_replay.proofs.ServedRunLemmas.{has_served, stops_served_at_read, stops_served_at_write, stops_for_memory, served_write, served_all, served_nothing, served_memory}
 use Rattle.mtrace_replay.proofs.no_heap.run.follow_log.Goals as goal
 
 -- the log has ended, and all was written
@@ -11,7 +12,8 @@ pub returns-in-Ok-finished-clause-ran : goal.returns-in-Ok-finished-clause-ran
 returns-in-Ok-finished-clause-ran g c =
     let reads = g.R.Source.shown in
     let writes = g.W.Sink.shown in
-    let done = c.in-Ok.ensures.done c.new-replay.ensures in
+    let done = has_served (reads c.args.reader.now) (reads c.follow_lines.new.reader) (writes c.args.writer.now) (writes c.follow_lines.new.writer) (IsServed c.follow_lines.new.replay) c.follow_lines.new.replay c.in-Ok.has_diagnostics
+    (λ past stands. stands) (c.in-Ok.ensures.done tt c.new-replay.ensures) in
     let took = c.in-Ok.ensures.writer_took (λ is. cc) in
     record {
       ends = record {
@@ -29,7 +31,8 @@ pub returns-in-Ok-finished-clause-last : goal.returns-in-Ok-finished-clause-last
 returns-in-Ok-finished-clause-last g c = λ is.
     let reads = g.R.Source.shown in
     let writes = g.W.Sink.shown in
-    let done = c.in-Ok.ensures.done c.new-replay.ensures in
+    let done = has_served (reads c.args.reader.now) (reads c.follow_lines.new.reader) (writes c.args.writer.now) (writes c.follow_lines.new.writer) (IsServed c.follow_lines.new.replay) c.follow_lines.new.replay c.in-Ok.has_diagnostics
+    (λ past stands. stands) (c.in-Ok.ensures.done tt c.new-replay.ensures) in
     served_nothing c.follow_lines.new.replay c.in-Ok.has_diagnostics (reads c.args.reader.now) (reads c.follow_lines.new.reader)
     (writes c.args.writer.now) (writes c.follow_lines.new.writer) (writes c.finish-finished.new.writer) done c.in-Ok-prepare.prepared
     (subst (λ report. IsOf report c.in-Ok-prepare.prepared) is c.in-Ok-prepare.ensures.report) c.in-Ok-prepare.ensures.named c.in-Ok-finished.status c.in-Ok-finished.ensures.all c.in-Ok-finished.ensures.status
@@ -39,7 +42,8 @@ pub returns-in-Err-clause-ran : goal.returns-in-Err-clause-ran
 returns-in-Err-clause-ran g c =
     let reads = g.R.Source.shown in
     let writes = g.W.Sink.shown in
-    let done = c.in-Ok.ensures.done c.new-replay.ensures in
+    let done = has_served (reads c.args.reader.now) (reads c.follow_lines.new.reader) (writes c.args.writer.now) (writes c.follow_lines.new.writer) (IsServed c.follow_lines.new.replay) c.follow_lines.new.replay c.in-Ok.has_diagnostics
+    (λ past stands. stands) (c.in-Ok.ensures.done tt c.new-replay.ensures) in
     let took = c.in-Ok.ensures.writer_took (λ is. cc) in
     record {
       ends = record {
@@ -54,7 +58,8 @@ returns-in-Err-clause-ran g c =
 -- the reader failed
 pub returns-in-Err-Reader-clause-ran : goal.returns-in-Err-Reader-clause-ran
 returns-in-Err-Reader-clause-ran g c =
-    let stops = c.in-Err-Reader.ensures.read (cc) c.new-replay.ensures in
+    let stops = stops_served_at_read (g.R.Source.shown c.args.reader.now) (g.R.Source.shown c.follow_lines.new.reader) (g.W.Sink.shown c.args.writer.now) (g.W.Sink.shown c.follow_lines.new.writer)
+    (c.in-Err-Reader.ensures.read (cc) tt c.new-replay.ensures) in
     record {
       ends = record {
         read_fault = record { lines = stops.lines; reason = stops.reason; wrote = c.flush.ensures.kept ∙ stops.wrote };
@@ -66,7 +71,8 @@ returns-in-Err-Reader-clause-ran g c =
 -- memory was refused at a line
 pub returns-in-Err-Memory-clause-ran : goal.returns-in-Err-Memory-clause-ran
 returns-in-Err-Memory-clause-ran g c =
-    let stops = c.in-Err-Memory.ensures.memory (cc) c.new-replay.ensures in
+    let stops = stops_for_memory (g.R.Source.shown c.args.reader.now) (g.R.Source.shown c.follow_lines.new.reader) (g.W.Sink.shown c.args.writer.now) (g.W.Sink.shown c.follow_lines.new.writer)
+    (c.in-Err-Memory.ensures.memory (cc) tt c.new-replay.ensures) in
     record {
       ends = record {
         memory = record { lines = stops.lines; unused = stops.unused; reason = stops.reason; wrote = c.flush-in-Err-Memory.ensures.kept ∙ stops.wrote };
@@ -81,13 +87,27 @@ pub returns-in_default-clause-ran : goal.returns-in_default-clause-ran
 returns-in_default-clause-ran g c =
     let reads = g.R.Source.shown in
     let writes = g.W.Sink.shown in
-    let done = c.in-Ok.ensures.done c.new-replay.ensures in
+    let done = has_served (reads c.args.reader.now) (reads c.follow_lines.new.reader) (writes c.args.writer.now) (writes c.follow_lines.new.writer) (IsServed c.follow_lines.new.replay) c.follow_lines.new.replay c.in-Ok.has_diagnostics
+    (λ past stands. stands) (c.in-Ok.ensures.done tt c.new-replay.ensures) in
     let stops = served_memory c.follow_lines.new.replay c.in-Ok.has_diagnostics (reads c.args.reader.now) (reads c.follow_lines.new.reader) (writes c.args.writer.now) (writes c.follow_lines.new.writer) done in
     record {
       ends = record {
         memory = record { lines = stops.lines; unused = stops.unused; reason = stops.reason; wrote = c.flush-in_default.ensures.kept ∙ stops.wrote };
         flush_asked = flush_asked c.flush-in_default.result _ _ _ (c.in-Ok.ensures.writer_took (λ is. cc)) c.flush-in_default.ensures.told;
         reader_not_failed = c.in-Ok.ensures.reader_not_failed (λ is. cc);
+      };
+      whole = c.follow_lines.ensures.whole;
+    }
+
+-- the writer failed before the end
+pub returns-in-Err-Writer-clause-ran : goal.returns-in-Err-Writer-clause-ran
+returns-in-Err-Writer-clause-ran g c =
+    record {
+      ends = record {
+        write_fault = stops_served_at_write (g.R.Source.shown c.args.reader.now) (g.R.Source.shown c.follow_lines.new.reader) (g.W.Sink.shown c.args.writer.now) (g.W.Sink.shown c.follow_lines.new.writer)
+            c.args.report (IsServed c.follow_lines.new.replay) (c.in-Err-Writer.ensures.write (cc) tt c.new-replay.ensures);
+        writer_failed = inl (c.in-Err-Writer.ensures.writer_failed (cc));
+        reader_not_failed = c.in-Err-Writer.ensures.reader_not_failed (λ is. cc);
       };
       whole = c.follow_lines.ensures.whole;
     }

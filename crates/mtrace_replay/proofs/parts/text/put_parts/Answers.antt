@@ -6,6 +6,7 @@ use Rattle.mtrace_replay.specs.declared.parts.text.PartOf.{PartOf}
 use Rattle.mtrace_replay.specs.Texts.{number_line, size_line}
 use Rattle.mtrace_replay.specs.Parts.{pool_bytes, records_bytes, sum_over, part_line, parts_text, peak_line_text}
 use Rattle.mtrace_replay.specs.PartsText.{part_in}
+use Rattle.mtrace_replay.proofs.PartsTextLemmas.{lines_same}
 use Rattle.mtrace_replay.proofs.parts.text.put_parts.Goals as goal
 
 abbrev front_of : ℕ → ℕ → List PartOf → List ℕ
@@ -15,10 +16,6 @@ abbrev behind_of : List PartOf → List ℕ
 behind_of parts =
     flat_map (λ part. part_line (part_in part)) parts
     ++ (size_line (codes "sum: ") (sum_over pool_bytes (map part_in parts)) ++ size_line (codes "tables: ") (sum_over records_bytes (map part_in parts)))
-
-lines_same : (parts : List PartOf) → flat_map (λ part. part_line (part_in part)) parts ≡ flat_map part_line (map part_in parts)
-lines_same [] = refl
-lines_same (part ∷ parts) = ap (λ rest. part_line (part_in part) ++ rest) (lines_same parts)
 
 -- the front, and what is behind it, are the whole
 whole : (bytes line : ℕ) (parts : List PartOf) → front_of bytes line parts ++ behind_of parts ≡ peak_line_text bytes line ++ parts_text (map part_in parts)

@@ -4,20 +4,20 @@ use Rattle.mtrace_log.specs.declared.line.Line.{Line}
 use Rattle.mtrace_log.specs.declared.call.Call.TheVariants.{Gave, Took, Failed}
 use Rattle.mtrace_log.proofs.TraceLemmas.{moved_none, moved_append, moved_then_append}
 use Rattle.mtrace_log.proofs.CallLemmas.{calls_more, calls_of_line, calls_to_end, calls_to_fault}
-use Rattle.mtrace_replay.specs.Spans.{AreFew}
-use Rattle.mtrace_replay.proofs.ServedRunLemmas.{following_fault, following_write, following_memory}
-use Rattle.mtrace_replay.proofs.CountedRunLemmas.{IsCounting, counting_start, counting_line, counting_end}
-use Rattle.mtrace_replay.proofs.parts.follow.follow_lines.Goals as goal
+use Rattle.mtrace_replay.proofs.FollowingLemmas.{IsFollowing, following_start, following_line, following_end, following_fault, following_write, following_memory}
+use Rattle.mtrace_replay.proofs.following.follow_lines.Goals as goal
 
 pub loop-number-init : goal.loop-number-init
 loop-number-init g c =
     let reader = g.R.Source.shown c.args.reader.now in
     let writer = g.W.Sink.shown c.args.writer.now in
+    let rules = g.P.LineReplay.rules in
     record {
-      under_way = (λ stands.
-          subst (λ (lines : Progress). IsCounting lines c.args.replay.now false reader reader writer writer) (sym c.new-lines.ensures) (counting_start c.args.replay.now reader writer stands));
-      few = subst (λ n. AreFew n c.args.replay.now.spans) (sym c.requires.start) c.requires.few;
+      under_way = (λ start stands.
+          subst (λ (lines : Progress). IsFollowing (rules.Stands start c.args.replay.now) (rules.added start) lines false reader reader writer writer) (sym c.new-lines.ensures)
+          (following_start (rules.added start) (rules.Stands start c.args.replay.now) reader writer stands));
       counted = c.requires.start ∙ sym (ap (λ (lines : Progress). lines.count) c.new-lines.ensures);
+      ready = c.requires.ready;
       none = c.none-findings.ensures;
       whole = refl;
       gave = subst (λ (lines : Progress). CallsFor lines.stage reader.calls reader.calls) (sym c.new-lines.ensures) (moved_none Gave reader.calls);
@@ -27,13 +27,14 @@ loop-number-init g c =
 pub returns-in-Ok-None : goal.returns-in-Ok-None
 returns-in-Ok-None g c =
     let reads = g.R.Source.shown in
+    let rules = g.P.LineReplay.rules in
     let kept = c.loop-number.invariant in
     let found = rw c.in-Ok-None.field-0-is at c.in-Ok-None.ensures.end in
     let ended = calls_to_end reads (reads c.args.reader.now).calls c.loop-number.lines c.advance.new.self c.loop-number.reader c.advance.new.reader _ _ kept.gave c.in-Ok-None.ensures.calls found.0 found.1 in
     record {
-      done = λ stands.
-          counting_end reads c.loop-number.lines c.advance.new.self c.loop-number.replay c.loop-number.has_diagnostics (reads c.args.reader.now) c.loop-number.reader c.advance.new.reader
-          (g.W.Sink.shown c.args.writer.now) (g.W.Sink.shown c.loop-number.writer) (kept.under_way stands) found.1;
+      done = λ start stands.
+          following_end (rules.added start) reads (rules.Stands start c.loop-number.replay) c.loop-number.lines c.advance.new.self c.loop-number.has_diagnostics (reads c.args.reader.now) c.loop-number.reader c.advance.new.reader
+          (g.W.Sink.shown c.args.writer.now) (g.W.Sink.shown c.loop-number.writer) (kept.under_way start stands) found.1;
       whole = c.advance.ensures.whole ∙ kept.whole;
       reader_ended = ended;
       reader_not_failed = λ other. inr ended;
@@ -41,12 +42,14 @@ returns-in-Ok-None g c =
       writer_failed = λ is. absurd (cc);
       read = λ is. absurd (cc);
       write = λ is. absurd (cc);
+      lacks = λ is. absurd (cc);
       memory = λ is. absurd (cc);
     }
 
 pub returns-in-Err : goal.returns-in-Err
 returns-in-Err g c =
     let reads = g.R.Source.shown in
+    let rules = g.P.LineReplay.rules in
     let kept = c.loop-number.invariant in
     let came = calls_to_fault reads (reads c.args.reader.now).calls c.loop-number.lines c.advance.new.self c.loop-number.reader c.advance.new.reader _ _ c.in-Err.field-0 kept.gave c.in-Err.ensures.calls c.in-Err.ensures.fault in
     record {
@@ -56,10 +59,11 @@ returns-in-Err g c =
       reader_not_failed = λ other. absurd (other refl);
       writer_took = λ other. kept.took;
       writer_failed = λ is. absurd (cc);
-      read = λ is stands.
-          following_fault reads c.loop-number.lines c.advance.new.self c.loop-number.replay.ledger c.loop-number.has_diagnostics (reads c.args.reader.now) c.loop-number.reader c.advance.new.reader
-          (g.W.Sink.shown c.args.writer.now) (g.W.Sink.shown c.loop-number.writer) c.in-Err.field-0 (kept.under_way stands).following c.in-Err.ensures.fault c.in-Err.ensures.nothing_held came;
+      read = λ is start stands.
+          following_fault (rules.added start) reads (rules.Stands start c.loop-number.replay) c.loop-number.lines c.advance.new.self c.loop-number.has_diagnostics (reads c.args.reader.now) c.loop-number.reader c.advance.new.reader
+          (g.W.Sink.shown c.args.writer.now) (g.W.Sink.shown c.loop-number.writer) (kept.under_way start stands) c.in-Err.field-0 c.in-Err.ensures.fault c.in-Err.ensures.nothing_held came;
       write = λ is. absurd (cc);
+      lacks = λ is. absurd (cc);
       memory = λ is. absurd (cc);
     }
 
@@ -67,17 +71,17 @@ pub loop-number-preserved : goal.loop-number-preserved
 loop-number-preserved g c =
     let reads = g.R.Source.shown in
     let writes = g.W.Sink.shown in
+    let rules = g.P.LineReplay.rules in
     let kept = c.loop-number.invariant in
     let passed = rw c.in-Ok-Some.field-0-is at c.in-Ok-Some.ensures.line in
     let given = passed c.event.result c.event.ensures in
     record {
-      under_way = (λ stands. let under = kept.under_way stands in
-          counting_line c.loop-number.lines c.advance.new.self c.loop-number.replay c.follow_line.new.replay c.loop-number.has_diagnostics
+      under_way = (λ start stands. let under = kept.under_way start stands in
+          following_line (rules.added start) (rules.Stands start c.loop-number.replay) (rules.Stands start c.follow_line.new.replay) c.loop-number.lines c.advance.new.self c.loop-number.has_diagnostics
           (reads c.args.reader.now) (reads c.loop-number.reader) (reads c.advance.new.reader) (writes c.args.writer.now) (writes c.loop-number.writer) (writes c.follow_line.new.writer)
-          (record { number = c.in-Ok-Some.number; event = c.event.result }) under given c.in-Ok.more (c.in-Ok.ensures.done (reverse under.following.so_far.lines) under.following.so_far.stands)
-          (c.in-Ok.ensures.spans (reverse under.following.so_far.lines) under.following.so_far.stands under.counted));
-      few = subst (λ n. AreFew n c.follow_line.new.replay.spans) (sym c.in-Ok.ensures.counted) c.in-Ok.ensures.few;
+          (record { number = c.in-Ok-Some.number; event = c.event.result }) under given c.in-Ok.more (c.in-Ok.ensures.done start (reverse under.so_far.lines) under.so_far.stands));
       counted = c.in-Ok.ensures.counted ∙ sym given.count;
+      ready = c.in-Ok.ensures.ready;
       none = c.in-Ok.ensures.cleared;
       whole = c.in-Ok-Some.ensures.whole ∙ kept.whole;
       gave = calls_more c.loop-number.lines.stage c.advance.new.self.stage _ _ _ given.was_reading kept.gave c.in-Ok-Some.ensures.calls;
@@ -88,6 +92,7 @@ pub returns-in-Err-follow_line : goal.returns-in-Err-follow_line
 returns-in-Err-follow_line g c =
     let reads = g.R.Source.shown in
     let writes = g.W.Sink.shown in
+    let rules = g.P.LineReplay.rules in
     let kept = c.loop-number.invariant in
     let passed = rw c.in-Ok-Some.field-0-is at c.in-Ok-Some.ensures.line in
     let given = passed c.event.result c.event.ensures in
@@ -102,14 +107,15 @@ returns-in-Err-follow_line g c =
       writer_took = λ other. moved_append Took _ _ _ kept.took (followed.took other);
       writer_failed = λ is. moved_then_append Took Failed _ _ _ kept.took (followed.failed is);
       read = λ is. absurd (followed.no_reader is);
-      write = λ is stands report.
-          let under = kept.under_way stands in
-          following_write report c.loop-number.lines c.advance.new.self c.loop-number.replay.ledger c.follow_line.new.replay.ledger c.loop-number.has_diagnostics
+      write = λ is start stands.
+          let under = kept.under_way start stands in
+          following_write (rules.added start) (rules.Stands start c.loop-number.replay) (rules.Stands start c.follow_line.new.replay) c.loop-number.lines c.advance.new.self c.loop-number.has_diagnostics
           (reads c.args.reader.now) (reads c.loop-number.reader) (reads c.advance.new.reader) (writes c.args.writer.now) (writes c.loop-number.writer) (writes c.follow_line.new.writer)
-          line under.following given (followed.write is (reverse under.following.so_far.lines) under.following.so_far.stands);
-      memory = λ is stands.
-          let under = kept.under_way stands in
-          following_memory c.loop-number.lines c.advance.new.self c.loop-number.replay.ledger c.follow_line.new.replay.ledger c.loop-number.has_diagnostics
+          line under given (followed.write is start (reverse under.so_far.lines) under.so_far.stands);
+      lacks = λ is. (followed.memory is).0;
+      memory = λ is start stands.
+          let under = kept.under_way start stands in
+          following_memory (rules.added start) (rules.Stands start c.loop-number.replay) (rules.Stands start c.follow_line.new.replay) c.loop-number.lines c.advance.new.self c.loop-number.has_diagnostics
           (reads c.args.reader.now) (reads c.loop-number.reader) (reads c.advance.new.reader) (writes c.args.writer.now) (writes c.loop-number.writer) (writes c.follow_line.new.writer)
-          line under.following given (followed.memory is);
+          line under given (followed.memory is).1;
     }

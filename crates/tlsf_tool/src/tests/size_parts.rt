@@ -1,0 +1,205 @@
+//! How large a pool is always enough for heaps by size, without a log.
+
+use super::program::strings;
+use crate::asked::{Command, ToolFault};
+use crate::plan::{Streams, planned};
+use crate::service::serve_size_parts;
+use crate::tests::expect_eq_at;
+use mtrace_log::memory::{Full, MemorySink};
+use mtrace_replay::PartBounds;
+use std::test::Fail;
+
+const STREAMS: Streams = Streams {
+    typed: true,
+    again: false,
+    shown: true,
+};
+
+/// Heaps by size, with the text that tells what is enough for them.
+const ROWS: [(&[PartBounds], &[u8]); 4] = [
+    (
+        &[PartBounds {
+            blocks: 1,
+            largest: 1,
+        }],
+        b"up to 16: 1 blocks, 16 bytes\nsum: 16 bytes\ntables: 1712 bytes\n",
+    ),
+    (
+        &[
+            PartBounds {
+                blocks: 2_130,
+                largest: 64,
+            },
+            PartBounds {
+                blocks: 20,
+                largest: 4_096,
+            },
+        ],
+        b"up to 64: 2130 blocks, 136320 bytes\nup to 4096: 20 blocks, 81920 bytes\nsum: 218240 bytes\ntables: 37792 bytes\n",
+    ),
+    // 1,060 bytes are 67 units, and the class above begins at 68.
+    (
+        &[PartBounds {
+            blocks: 3,
+            largest: 1_060,
+        }],
+        b"up to 1088: 3 blocks, 3264 bytes\nsum: 3264 bytes\ntables: 1744 bytes\n",
+    ),
+    // The first has more bytes than any pool.
+    (
+        &[
+            PartBounds {
+                blocks: 2,
+                largest: 1_056_964_608,
+            },
+            PartBounds {
+                blocks: 5,
+                largest: 32,
+            },
+        ],
+        b"up to 1056964608: 2 blocks, -\nup to 32: 5 blocks, 160 bytes\nsum: -\ntables: -\n",
+    ),
+];
+
+#[test]
+fn rows_of_size_parts(rt: HostRuntime) {
+    for (parts, text) in ROWS {
+        let mut writer = MemorySink::in_pieces(rt.alloc(), 4096);
+        let mut errors = MemorySink::in_pieces(rt.alloc(), 4096);
+        let status = serve_size_parts(parts, &mut writer, &mut errors);
+        expect_eq_at(&rt, parts, status, 0);
+        expect_eq_at(&rt, parts, writer.bytes(), text);
+        expect_eq_at(&rt, parts, errors.bytes(), b"".as_slice());
+    }
+}
+
+/// No heaps, nine of them, and a size that has no class.
+#[test]
+fn bad_parts(rt: HostRuntime) {
+    let bad: [&[PartBounds]; 3] = [
+        &[],
+        &[PartBounds {
+            blocks: 1,
+            largest: 16,
+        }; 9],
+        &[PartBounds {
+            blocks: 1,
+            largest: 1_056_964_609,
+        }],
+    ];
+    for parts in bad {
+        let mut writer = MemorySink::in_pieces(rt.alloc(), 4096);
+        let mut errors = MemorySink::in_pieces(rt.alloc(), 4096);
+        let status = serve_size_parts(parts, &mut writer, &mut errors);
+        expect_eq_at(&rt, parts, status, 2);
+        expect_eq_at(&rt, parts, writer.bytes(), b"".as_slice());
+        expect_eq_at(
+            &rt,
+            parts,
+            errors.bytes(),
+            b"tlsf: bad settings\n".as_slice(),
+        );
+    }
+}
+
+/// A writer without room for the whole text.
+#[test]
+fn writer_of_size_parts_fails(rt: HostRuntime) {
+    let text = b"up to 16: 1 blocks, 16 bytes\nsum: 16 bytes\ntables: 1712 bytes\n".as_slice();
+    for room in 0..text.len() {
+        let mut writer = MemorySink::with_room(rt.alloc(), 4096, room, Full::Fails);
+        let mut errors = MemorySink::in_pieces(rt.alloc(), 4096);
+        let status = serve_size_parts(
+            &[PartBounds {
+                blocks: 1,
+                largest: 1,
+            }],
+            &mut writer,
+            &mut errors,
+        );
+        expect_eq_at(&rt, room, status, 3);
+        if let Some(wanted) = text.get(..room) {
+            expect_eq_at(&rt, room, writer.bytes(), wanted);
+        }
+    }
+}
+
+/// Words, with the heaps by size that they tell.
+const WORDS: [(&[&str], &[PartBounds]); 3] = [
+    (
+        &["tlsf", "size", "--part", "2130x64", "--part", "20x4096"],
+        &[
+            PartBounds {
+                blocks: 2_130,
+                largest: 64,
+            },
+            PartBounds {
+                blocks: 20,
+                largest: 4_096,
+            },
+        ],
+    ),
+    (
+        &["tlsf", "size", "--part=65535x1"],
+        &[PartBounds {
+            blocks: 65_535,
+            largest: 1,
+        }],
+    ),
+    (
+        &["tlsf", "size", "--part", "1x1056964608"],
+        &[PartBounds {
+            blocks: 1,
+            largest: 1_056_964_608,
+        }],
+    ),
+];
+
+#[test]
+fn words_of_size_parts(rt: HostRuntime) -> Result<(), Fail> {
+    let alloc = rt.alloc();
+    for (words, wanted) in WORDS {
+        let plan = planned(alloc, strings(alloc, words)?.as_slice(), STREAMS)?;
+        let is_wanted = match &plan.command {
+            Command::SizeParts { parts } => parts.as_slice() == wanted,
+            _ => false,
+        };
+        expect_eq_at(&rt, words, is_wanted, true);
+    }
+    Ok(())
+}
+
+/// Words that tell no heaps by size: what isn't read, what is out of range, and what stands beside them.
+const WRONG: [&[&str]; 13] = [
+    &["tlsf", "size", "--part"],
+    &["tlsf", "size", "--part", "64"],
+    &["tlsf", "size", "--part", "x64"],
+    &["tlsf", "size", "--part", "20x"],
+    &["tlsf", "size", "--part", "20x64x"],
+    &["tlsf", "size", "--part", "20X64"],
+    &["tlsf", "size", "--part", "0x64"],
+    &["tlsf", "size", "--part", "65536x64"],
+    &["tlsf", "size", "--part", "20x0"],
+    &["tlsf", "size", "--part", "20x1056964609"],
+    &["tlsf", "size", "--part", "4294967297x64"],
+    &["tlsf", "size", "--part", "20x64", "--align", "16"],
+    &[
+        "tlsf", "size", "--part", "1x1", "--part", "1x1", "--part", "1x1", "--part", "1x1",
+        "--part", "1x1", "--part", "1x1", "--part", "1x1", "--part", "1x1", "--part", "1x1",
+    ],
+];
+
+#[test]
+fn words_that_tell_no_parts(rt: HostRuntime) -> Result<(), Fail> {
+    let alloc = rt.alloc();
+    for words in WRONG {
+        let answer = planned(alloc, strings(alloc, words)?.as_slice(), STREAMS);
+        expect_eq_at(
+            &rt,
+            words,
+            matches!(&answer, Err(ToolFault::Usage(_))),
+            true,
+        );
+    }
+    Ok(())
+}
