@@ -1,7 +1,9 @@
-/* tlsf.c: the calls of Conte's tlsf over the proved heap of tlsf_heap.h. They aren't proved.
+/* tlsf.c: the calls of Conte's tlsf over the proved heap of tlsf_heap.h. This file isn't proved.
  *
  * The heap hands out places, from 0 to 2^32 - 1. It chooses each block, and knows whether a live
- * block has a place and a slot: that is proved. This file turns places into addresses and back:
+ * block has a place and a slot. That is proved, and so are the calls of tlsf_front.h: they answer
+ * addresses to malloc, find the block that free means, and add and remove pools. Of the other calls
+ * this file turns places into addresses and back. It also moves fronts, and keeps the figures:
  *
  * - The control part, at the start of the memory handed in, keeps each pool's address and places. It
  *   ends with its mark, a sum over it. So tlsf_check tells a byte that is changed there, and reads
@@ -120,19 +122,11 @@ static uint64_t mark_of(const struct control *control)
            - TIMES(figures.blocks_live) * figures->blocks_live;
 }
 
-/* The entry that a pool of these bytes takes: none where they are the heap's own or a pool's. */
-static struct pool *entry_of(struct control *control, uintptr_t address, size_t bytes)
+/* Whether these bytes are none of the heap's own. */
+static bool is_foreign(const struct control *control, uintptr_t address, size_t bytes)
 {
     uintptr_t own = (uintptr_t)control;
-    bool good = address + bytes <= own || own + taken(own, control->figures.records) <= address;
-    struct pool *vacant = NULL;
-    for (uint32_t k = POOLS; k > 0u; k--) {
-        struct pool *pool = &control->pools[k - 1u];
-        uintptr_t first = (uintptr_t)pool->first;
-        good = good && (address + bytes <= first - FRONT || first + pool->reach <= address);
-        vacant = pool->reach == 0u ? pool : vacant;
-    }
-    return good ? vacant : NULL;
+    return address + bytes <= own || own + taken(own, control->figures.records) <= address;
 }
 
 /* The places are the first that the heap takes: from 0 on, or behind some pool. */
@@ -144,18 +138,18 @@ pool_t tlsf_add_pool(tlsf_t tlsf, void *mem, size_t bytes)
     uintptr_t address = (uintptr_t)mem + skip;
     bool good = control != NULL && may_begin(mem) && bytes >= skip + UNIT
                 && bytes <= UINTPTR_MAX - (uintptr_t)mem;
-    struct pool *pool = good ? entry_of(control, address, usable) : NULL;
-    for (uint32_t k = 0; pool != NULL && k <= POOLS; k++) {
-        const struct pool *last = &control->pools[k == 0u ? 0u : k - 1u];
-        uint64_t from = k == 0u ? 0u : (uint64_t)last->place + last->reach + FRONT;
+    good = good && is_foreign(control, address, usable);
+    for (uint32_t k = 0; good && k <= POOLS; k++) {
+        struct placed *at = &control->at;
+        const struct pool *last = &at->pools[k == 0u ? 0u : k - 1u];
+        uint64_t from = k == 0u ? 0u : last->place + last->reach + FRONT;
         uint64_t place = from + ((address + FRONT - from) & (TLSF_MOST_ALIGN - 1u));
-        if (tlsf_heap_add_pool(&control->heap, place, usable) == TLSF_OK) {
-            unsigned char *first = (unsigned char *)mem + skip + FRONT;
-            ptrdiff_t number = pool - control->pools;
-            *pool = (struct pool){control, first, usable - FRONT, (uint32_t)place,
-                                  (uint32_t)number};
+        uint32_t entry = 0;
+        if (tlsf_placed_add_pool(at, address + FRONT, usable, place, &entry) == TLSF_OK) {
+            at->pools[entry].control = control;
+            at->pools[entry].number = entry;
             control->mark = mark_of(control);
-            return pool;
+            return &at->pools[entry];
         }
     }
     return NULL;
@@ -166,9 +160,8 @@ void tlsf_remove_pool(tlsf_t tlsf, pool_t pool)
     LOCKED(tlsf);
     struct control *control = control_of(tlsf);
     for (uint32_t k = 0; control != NULL && k < POOLS; k++) {
-        struct pool *own = &control->pools[k];
-        if (own == pool && own->reach != 0u
-            && tlsf_heap_remove_pool(&control->heap, own->place) == TLSF_OK) {
+        struct pool *own = &control->at.pools[k];
+        if (own == pool && tlsf_placed_remove_pool(&control->at, k) == TLSF_OK) {
             (void)memset(own, 0, sizeof *own);
             control->mark = mark_of(control);
         }
@@ -179,7 +172,7 @@ pool_t tlsf_get_pool(tlsf_t tlsf)
 {
     LOCKED(tlsf);
     struct control *control = control_of(tlsf);
-    return control != NULL && control->pools[0].reach != 0u ? &control->pools[0] : NULL;
+    return control != NULL && control->at.pools[0].reach != 0u ? &control->at.pools[0] : NULL;
 }
 
 tlsf_t tlsf_create_records(void *mem, size_t bytes, uint32_t records)
@@ -193,7 +186,7 @@ tlsf_t tlsf_create_records(void *mem, size_t bytes, uint32_t records)
     unsigned char *end = (unsigned char *)mem + front;
     *control = (struct control){.magic = (uintptr_t)mem + MAGIC};
     control->figures.records = records;
-    if (tlsf_heap_create_in(end - table, table, records, &control->heap) == TLSF_OK) {
+    if (tlsf_heap_create_in(end - table, table, records, &control->at.heap) == TLSF_OK) {
         control->mark = mark_of(control);
         if (bytes - front < LEAST_POOL || tlsf_add_pool(control, end, bytes - front) != NULL) {
             return control;
@@ -228,7 +221,7 @@ static size_t live_size(const struct control *control, const void *ptr)
     size_t told = 0;
     uint32_t size = FRONT;
     if (control != NULL && find(control, ptr, &block, &told)) {
-        (void)tlsf_heap_block_size(&control->heap, block, &size);
+        (void)tlsf_heap_block_size(&control->at.heap, block, &size);
     }
     return size - FRONT;
 }
@@ -266,14 +259,14 @@ RARE static void *refuse_pointer(struct control *control, const void *ptr, size_
     tlsf_heap_row row = {0, 0, false};
     uint64_t count = 0;
     enum tlsf_refusal what = TLSF_REFUSED_POINTER;
-    const struct pool *pool = pool_of(control, ptr);
+    const struct pool *pool = pool_of(control, NULL, ptr);
     if (ptr == NULL) {
         return NULL;
     }
     if (pool != NULL && unscrambled(ptr) >> FRONT_BITS != 0u) {
-        uint64_t place = pool->place + ((uintptr_t)ptr - (uintptr_t)pool->first);
+        uint64_t place = pool->place + ((uintptr_t)ptr - pool->first);
         enum tlsf_status status
-            = tlsf_heap_walk(&control->heap, pool->place, place, &row, 1, &count);
+            = tlsf_heap_walk(&control->at.heap, pool->place, place, &row, 1, &count);
         bool live = status == TLSF_OK && row.used && row.place == place;
         what = live ? TLSF_REFUSED_FRONT : TLSF_REFUSED_POINTER;
     }
@@ -300,6 +293,19 @@ static inline void count_bytes(struct control *control, size_t had, size_t has)
     }
 }
 
+/* The pointer to a live block that memalign or realloc gave, whose front is written. Only where the
+ * control part or the table is spoiled does the block lie in no pool: then the pointer is null. */
+static inline void *hand_out(const struct control *control, tlsf_heap_block block, size_t size)
+{
+    const struct pool *pool = pool_of(control, &block.place, NULL);
+    if (pool == NULL) {
+        return NULL;
+    }
+    void *ptr = (void *)(uintptr_t)(pool->first + (uint32_t)(block.place - pool->place));
+    write_front(ptr, size, block.slot);
+    return ptr;
+}
+
 /* A new block, and its pointer. */
 static inline void *begin(struct control *control, tlsf_heap_block block, size_t whole)
 {
@@ -318,13 +324,13 @@ RARE static void *allocate_below(struct control *control, enum tlsf_status first
     size_t less = (size_t)tlsf_heap_class_low(whole);
     enum tlsf_status status = first;
     if (first == TLSF_NO_FIT && bytes < TOO_GREAT && less < whole) {
-        status = tlsf_heap_malloc(&control->heap, less, &block);
+        status = tlsf_heap_malloc(&control->at.heap, less, &block);
         if (status == TLSF_OK) {
-            status = tlsf_heap_realloc(&control->heap, block, whole, &block);
+            status = tlsf_heap_realloc(&control->at.heap, block, whole, &block);
             if (status == TLSF_OK) {
                 return begin(control, block, whole);
             }
-            (void)tlsf_heap_free(&control->heap, block);
+            (void)tlsf_heap_free(&control->at.heap, block);
         }
     }
     return refuse_bytes(control, status, NULL, bytes);
@@ -334,17 +340,18 @@ void *tlsf_malloc(tlsf_t tlsf, size_t bytes)
 {
     LOCKED(tlsf);
     struct control *control = control_of(tlsf);
-    tlsf_heap_block block;
-    enum tlsf_status status = TLSF_NO_FIT;
+    uint64_t word = 0;
     if (control == NULL || bytes == 0u) {
         return NULL;
     }
-    (void)memset(&block, 0, sizeof block);
-    if (bytes < TOO_GREAT) {
-        status = tlsf_heap_malloc(&control->heap, in_units(bytes), &block);
+    uintptr_t address = (uintptr_t)tlsf_placed_malloc(&control->at, bytes, &word);
+    if (address == 0u) {
+        return allocate_below(control, (enum tlsf_status)word, bytes);
     }
-    return status == TLSF_OK ? begin(control, block, in_units(bytes))
-                             : allocate_below(control, status, bytes);
+    (void)__builtin_memcpy((unsigned char *)address - FRONT, &word, FRONT);
+    control->figures.blocks_live++;
+    count_bytes(control, 0, in_units(bytes) - FRONT);
+    return (void *)address;
 }
 
 void *tlsf_memalign(tlsf_t tlsf, size_t align, size_t bytes)
@@ -364,7 +371,7 @@ void *tlsf_memalign(tlsf_t tlsf, size_t align, size_t bytes)
         return refuse(control, TLSF_REFUSED_ALIGNMENT, NULL, bytes);
     }
     if (bytes < TOO_GREAT) {
-        status = tlsf_heap_memalign(&control->heap, align, in_units(bytes), &block);
+        status = tlsf_heap_memalign(&control->at.heap, align, in_units(bytes), &block);
     }
     return status == TLSF_OK ? begin(control, block, in_units(bytes))
                              : refuse_bytes(control, status, NULL, bytes);
@@ -374,15 +381,19 @@ void tlsf_free(tlsf_t tlsf, void *ptr)
 {
     LOCKED(tlsf);
     struct control *control = control_of(tlsf);
-    tlsf_heap_block block;
-    size_t size = 0;
+    uint64_t word = 0;
     if (control == NULL) {
         return;
     }
-    if (find(control, ptr, &block, &size) && tlsf_heap_free(&control->heap, block) == TLSF_OK) {
+    bool has = has_pointer(&control->at.pools[0], ptr)
+               || tlsf_placed_has(&control->at, (uintptr_t)ptr);
+    if (has) {
+        (void)__builtin_memcpy(&word, (const unsigned char *)ptr - FRONT, FRONT);
+    }
+    if (has && tlsf_placed_free(&control->at, (uintptr_t)ptr, word) == TLSF_OK) {
         write_front(ptr, 0, 0);
         control->figures.blocks_live--;
-        control->figures.bytes_live -= size - FRONT;
+        control->figures.bytes_live -= size_in(word, ptr) - FRONT;
     } else {
         (void)refuse_pointer(control, ptr, 0);
     }
@@ -399,16 +410,16 @@ static void *resize(struct control *control, void *ptr, size_t size)
     uint32_t had = 0;
     uint32_t has = 0;
     if (!find(control, ptr, &block, &told)
-        || tlsf_heap_block_size(&control->heap, block, &had) != TLSF_OK) {
+        || tlsf_heap_block_size(&control->at.heap, block, &had) != TLSF_OK) {
         return refuse_pointer(control, ptr, size);
     }
     if (size < TOO_GREAT) {
-        status = tlsf_heap_realloc(&control->heap, block, in_units(size), &given);
+        status = tlsf_heap_realloc(&control->at.heap, block, in_units(size), &given);
     }
     if (status != TLSF_OK) {
         return refuse_bytes(control, status, ptr, size);
     }
-    (void)tlsf_heap_block_size(&control->heap, given, &has);
+    (void)tlsf_heap_block_size(&control->at.heap, given, &has);
     count_bytes(control, told, has);
     write_front(ptr, 0, 0);
     void *other = hand_out(control, given, has);
@@ -448,16 +459,16 @@ int tlsf_stats(tlsf_t tlsf, tlsf_figures *out)
     if (control == NULL) {
         return -1;
     }
-    size_t largest = tlsf_heap_largest_request(&control->heap);
+    size_t largest = tlsf_heap_largest_request(&control->at.heap);
     *out = control->figures;
-    out->records_used = tlsf_heap_records_used(&control->heap);
+    out->records_used = tlsf_heap_records_used(&control->at.heap);
     if (largest != 0u) {
         out->largest_request = largest - FRONT;
         out->largest_free = largest - FRONT + (size_t)tlsf_heap_class_step(largest) - UNIT;
     }
     for (uint32_t k = 0; k < POOLS; k++) {
-        const struct pool *pool = &control->pools[k];
-        out->bytes_free += pool->reach == 0u ? 0u : pool->reach + FRONT;
+        const struct pool *pool = &control->at.pools[k];
+        out->bytes_free += pool->reach == 0u ? 0u : (size_t)pool->reach + FRONT;
     }
     out->bytes_free -= out->bytes_live + FRONT * out->blocks_live;
     return 0;
@@ -467,7 +478,7 @@ int tlsf_stats(tlsf_t tlsf, tlsf_figures *out)
  * where it doesn't have the entry. */
 static struct control *control_of_pool(struct pool *pool)
 {
-    size_t at = offsetof(struct control, pools);
+    size_t at = offsetof(struct control, at.pools);
     bool is = pool != NULL && pool->number < POOLS
               && (uintptr_t)pool - (uintptr_t)pool->control == at + pool->number * sizeof *pool;
     return is ? control_of(pool->control) : NULL;
@@ -487,7 +498,7 @@ static uint64_t read_rows(struct pool *own, uint64_t base, uint64_t from, tlsf_h
     const struct control *control = control_of_pool(own);
     uint64_t count = 0;
     bool is = control != NULL
-              && tlsf_heap_walk(&control->heap, base, from, rows, TLSF_WALK_ROWS, &count) == TLSF_OK;
+              && tlsf_heap_walk(&control->at.heap, base, from, rows, TLSF_WALK_ROWS, &count) == TLSF_OK;
     return is ? count : 0u;
 }
 static uint64_t read_locked(struct pool *own, uint64_t base, uint64_t from,
@@ -507,7 +518,7 @@ static void walk(struct pool *own, tlsf_walker walker, void *user, bool locks)
     uint64_t left = 1;
     while (left > 0u) {
         left = (locks ? read_locked : read_rows)(own, base, from, rows);
-        unsigned char *first = own->first;
+        unsigned char *first = (unsigned char *)(uintptr_t)own->first;
         for (uint32_t k = 0; k < TLSF_WALK_ROWS && left > 0u; k++) {
             from = (uint64_t)rows[k].place + rows[k].size;
             walker(first + (rows[k].place - base), rows[k].size - FRONT, rows[k].used, user);
@@ -551,11 +562,11 @@ static void count_block(void *ptr, size_t size, int used, void *user)
 static int check(struct control *control, const struct pool *pool)
 {
     struct counts counts = {control, 0, 0, 0, 0};
-    if (control == NULL || control->mark != mark_of(control) || !tlsf_heap_check(&control->heap)) {
+    if (control == NULL || control->mark != mark_of(control) || !tlsf_heap_check(&control->at.heap)) {
         return -1;
     }
     for (uint32_t k = 0; k < POOLS; k++) {
-        struct pool *own = &control->pools[k];
+        struct pool *own = &control->at.pools[k];
         if (pool == NULL || pool == own) {
             counts.bytes = 0;
             walk(own, count_block, &counts, false);

@@ -21,21 +21,43 @@
 /* What the control part begins with, less its own address: so a copy is no heap. */
 #define MAGIC 0x544c5346u
 
-/* A pool: its first pointer, how far behind it another may be, the first place, and which of the
+/* A pool: its first address, how far behind it another may be, the first place, and which of the
  * heap's it is. One that isn't there has no reach. */
 struct pool {
-    struct control *control;
-    unsigned char *first;
-    size_t reach;
+    uint64_t first;
+    uint64_t reach;
     uint32_t place;
     uint32_t number;
+    struct control *control TLSF_HEAP_POINTER;
 };
+
+/* A heap whose pools have addresses. It begins with a new heap, and zeros. Then each pool is there
+ * by tlsf_placed_add_pool: what is proved of the calls below rests on that. */
+struct placed {
+    tlsf_heap heap;
+    struct pool pools[POOLS];
+};
+
+/* The proved calls. Addresses and words are numbers here. The word of a block is what stands in the
+ * eight bytes in front of its address.
+ *
+ * tlsf_placed_malloc answers the address of a live block, a multiple of 16, and gives *word its word.
+ * Where the heap refuses it answers 0, and *word is the status. tlsf_placed_free answers 0 exactly
+ * where the block at the address is live and has this word, and TLSF_BAD_POINTER else.
+ * tlsf_placed_has answers whether the address lies in a pool with the eight bytes in front of it.
+ * tlsf_placed_add_pool adds a pool of `bytes` bytes, of which the eight in front of `first` are the
+ * first, and gives *entry the number of its entry. It refuses one that overlaps another. */
+uint64_t tlsf_placed_malloc(struct placed *heap, uint64_t bytes, uint64_t *word);
+enum tlsf_status tlsf_placed_free(struct placed *heap, uint64_t address, uint64_t word);
+bool tlsf_placed_has(const struct placed *heap, uint64_t address);
+enum tlsf_status tlsf_placed_add_pool(struct placed *heap, uint64_t first, uint64_t bytes,
+                                      uint64_t place, uint32_t *entry);
+enum tlsf_status tlsf_placed_remove_pool(struct placed *heap, uint32_t entry);
 
 /* What stands at the start of the memory handed in, in front of the table. */
 struct control {
     uintptr_t magic;
-    tlsf_heap heap;
-    struct pool pools[POOLS];
+    struct placed at;
     tlsf_figures figures; /* those that the heap can't tell */
     tlsf_refusal_hook hook;
     void *user;
@@ -66,11 +88,19 @@ static inline struct control *control_of(void *tlsf)
 }
 
 /* The size and slot that the front of a pointer keeps: more than 42 bits where it isn't whole. */
+static inline uint64_t kept_in(uint64_t word, const void *ptr)
+{
+    return (word - (uintptr_t)ptr) * UNSCRAMBLE;
+}
+static inline size_t size_in(uint64_t word, const void *ptr)
+{
+    return (size_t)(kept_in(word, ptr) >> SLOT_BITS) * UNIT;
+}
 static inline uint64_t unscrambled(const void *ptr)
 {
     uint64_t front;
     (void)__builtin_memcpy(&front, (const unsigned char *)ptr - FRONT, FRONT);
-    return (front - (uintptr_t)ptr) * UNSCRAMBLE;
+    return kept_in(front, ptr);
 }
 
 static inline void write_front(void *ptr, size_t size, uint64_t slot)
@@ -79,46 +109,23 @@ static inline void write_front(void *ptr, size_t size, uint64_t slot)
     (void)__builtin_memcpy((unsigned char *)ptr - FRONT, &front, FRONT);
 }
 
-static inline bool has_place(const struct pool *pool, uint32_t place)
-{
-    return (uint32_t)(place - pool->place) < pool->reach;
-}
 static inline bool has_pointer(const struct pool *pool, const void *ptr)
 {
-    return (uintptr_t)ptr - (uintptr_t)pool->first < pool->reach;
+    return (uintptr_t)ptr - pool->first < pool->reach;
 }
 
-/* The pool that has a place, or where that is null a pointer, behind the first; or none. */
-RARE static const struct pool *later_pool(const struct control *control, const uint32_t *place,
-                                          const void *ptr)
+/* The pool that has a place, or where that is null a pointer; or none. */
+RARE static const struct pool *pool_of(const struct control *control, const uint32_t *place,
+                                       const void *ptr)
 {
     const struct pool *pool = NULL;
-    for (uint32_t k = 1; k < POOLS && pool == NULL; k++) {
-        const struct pool *own = &control->pools[k];
-        bool has = place == NULL ? has_pointer(own, ptr) : has_place(own, *place);
+    for (uint32_t k = 0; k < POOLS && pool == NULL; k++) {
+        const struct pool *own = &control->at.pools[k];
+        bool has = place == NULL ? has_pointer(own, ptr)
+                                 : (uint32_t)(*place - own->place) < own->reach;
         pool = has ? own : NULL;
     }
     return pool;
-}
-static inline const struct pool *pool_of(const struct control *control, const void *ptr)
-{
-    const struct pool *first = control->pools;
-    return has_pointer(first, ptr) ? first : later_pool(control, NULL, ptr);
-}
-
-/* The pointer to a live block, whose front is written. Only where the control part or the table is
- * spoiled does the block lie in no pool, and then the pointer is null. */
-static inline void *hand_out(const struct control *control, tlsf_heap_block block, size_t size)
-{
-    const struct pool *first = control->pools;
-    const struct pool *pool
-        = has_place(first, block.place) ? first : later_pool(control, &block.place, NULL);
-    if (pool == NULL) {
-        return NULL;
-    }
-    void *ptr = pool->first + (uint32_t)(block.place - pool->place);
-    write_front(ptr, size, block.slot);
-    return ptr;
 }
 
 /* Whether a pointer lies in a pool of the heap, with a whole front: then its block and size. Whether
@@ -126,12 +133,12 @@ static inline void *hand_out(const struct control *control, tlsf_heap_block bloc
 static inline bool find(const struct control *control, const void *ptr, tlsf_heap_block *block,
                         size_t *size)
 {
-    const struct pool *pool = pool_of(control, ptr);
+    const struct pool *pool = pool_of(control, NULL, ptr);
     if (pool == NULL) {
         return false;
     }
     uint64_t kept = unscrambled(ptr);
-    block->place = pool->place + (uint32_t)((uintptr_t)ptr - (uintptr_t)pool->first);
+    block->place = pool->place + (uint32_t)((uintptr_t)ptr - pool->first);
     block->slot = (uint16_t)kept;
     *size = (size_t)(kept >> SLOT_BITS) * UNIT;
     return kept >> FRONT_BITS == 0u;

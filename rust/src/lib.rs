@@ -1,7 +1,7 @@
 //! A heap with bounded calls (Two-Level Segregated Fit) over memory of the program's own.
 //!
-//! The heap is proved; the calls of `tlsf.h` over it, which this crate takes, aren't, and nor is this
-//! crate: docs/C.md says what is. [`Heap`] owns a heap over a slice of bytes, and [`Parts`] heaps by
+//! The heap is proved; the calls of `tlsf.h` over it, which this crate takes, are in part, and this
+//! crate isn't: docs/C.md says what is. [`Heap`] owns a heap over a slice of bytes, and [`Parts`] heaps by
 //! size. [`Global`] and [`GlobalIn`] are allocators for all of a program.
 //!
 //! ```

@@ -105,6 +105,31 @@ start:
   ret i32 0
 }
 
+define noundef i32 @tlsf_placed_add_pool(ptr noundef %a0, i64 noundef %a1, i64 noundef %a2, i64 noundef %a3, ptr noundef %a4) #0 {
+start:
+  ret i32 0
+}
+
+define noundef i32 @tlsf_placed_free(ptr noundef %a0, i64 noundef %a1, i64 noundef %a2) #0 {
+start:
+  ret i32 0
+}
+
+define noundef zeroext i1 @tlsf_placed_has(ptr noundef %a0, i64 noundef %a1) #0 {
+start:
+  ret i1 false
+}
+
+define noundef i64 @tlsf_placed_malloc(ptr noundef %a0, i64 noundef %a1, ptr noundef %a2) #0 {
+start:
+  ret i64 0
+}
+
+define noundef i32 @tlsf_placed_remove_pool(ptr noundef %a0, i32 noundef %a1) #0 {
+start:
+  ret i32 0
+}
+
 declare { i64, i64 } @rattle_alloc(i64 noundef, i64 noundef) #1
 declare void @llvm.memset.p0.i64(ptr writeonly captures(none), i8, i64, i1 immarg) #2
 declare void @llvm.memmove.p0.p0.i64(ptr writeonly captures(none), ptr readonly captures(none), i64, i1 immarg) #2

@@ -1,9 +1,16 @@
 -- Lemmas that several proofs share.
+mod EntriesMoved
 mod FewRows
 mod FilledRows
 mod FromPlace
+mod GivenBlock
+mod InUnits
 mod LoadLemmas
+mod PlacedLemmas
+mod PlacedVectors
+mod RangesMoved
 mod RoomLemmas
 mod ReallocGives
 mod SavedLemmas
+mod Stands
 mod Values

@@ -1,7 +1,12 @@
 pub mod Answers
 pub mod Creation
+pub mod Fronts
 pub mod Lends
+pub mod Lying
 pub mod Owned
+pub mod PlacedHeaps
+pub mod PlacedPools
+pub mod RangeMoves
 pub mod Room
 pub mod Rows
 pub mod Saving

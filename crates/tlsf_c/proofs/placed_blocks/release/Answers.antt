@@ -1,0 +1,10 @@
+use Rattle.std.proofs.Common.{◌≡◌, subst, IfOk}
+use Rattle.std.specs.Prelude.{◌==◌}
+use Rattle.std.proofs.lemmas.Result.{IfOk-weaker}
+use Rattle.tlsf_region.proofs.Ranges.{free_ranges, ranges}
+use Rattle.tlsf_c.proofs.placed_blocks.release.Goals as goal
+
+pub returns-clause-ranges : goal.returns-clause-ranges
+returns-clause-ranges c =
+    let old = c.args.heap.now.content in
+    IfOk-weaker c.free.result _ _ (λ done freed. subst (λ given. IfOk given (λ new. ranges new ≡ ranges old)) freed (free_ranges (λ slot. slot == c.args.ptr.slot) c.args.ptr.place old)) c.free.ensures.ok

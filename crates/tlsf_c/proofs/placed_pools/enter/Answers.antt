@@ -1,0 +1,7 @@
+use Rattle.std.proofs.lemmas.Result.{IfOk-weaker}
+use Rattle.tlsf_c.proofs.RangesMoved.{added_ranges}
+use Rattle.tlsf_c.proofs.placed_pools.enter.Goals as goal
+
+pub returns-clause-ranges : goal.returns-clause-ranges
+returns-clause-ranges c =
+    IfOk-weaker c.add_pool.result _ _ (λ done added. added_ranges c.args.place c.args.bytes c.args.heap.now.content c.add_pool.new.self.content c.keeps_good.ensures.good added) c.add_pool.ensures.ok

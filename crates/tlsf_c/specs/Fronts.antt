@@ -1,0 +1,21 @@
+-- What the word in front of a block's address tells: its size and its slot, scrambled with the address.
+use Rattle.std.specs.Prelude.{ℕ, ◌+◌, ◌-◌, ◌*◌, ◌/◌, ◌%◌, ◌^◌}
+
+-- the bytes in front of a block's address
+abbrev pub front : ℕ
+front = 8
+
+-- an odd number; another one undoes a product by it
+abbrev pub unscramble : ℕ
+unscramble = 17428512612931826493
+
+-- what a word in front of an address tells, as one number
+abbrev pub told : (word address : ℕ) → ℕ
+told word address = (word + (2 ^ 64 - address)) % 2 ^ 64 * unscramble % 2 ^ 64
+
+-- the slot, and the size in bytes
+abbrev pub told_slot : (word address : ℕ) → ℕ
+told_slot word address = told word address % 65536
+
+abbrev pub told_size : (word address : ℕ) → ℕ
+told_size word address = told word address / 65536 * 16

@@ -1,0 +1,185 @@
+//! Blocks of a heap with addresses are asked for and given back.
+
+ghost use Rattle.std.specs.Prelude.{◌≡◌, ◌≢◌, ℕ, ◌+◌, ◌*◌, ◌/◌, ◌%◌, ◌^◌, ◌<◌, ◌≤◌, ◌↔◌, All, Contains, map, Ok, Err, IfOk, IfErr, OnOk, OnErr, IfSome, IfNone, true, false, length};
+ghost use Rattle.tlsf_heap.specs.declared.refusal.Refusal.TheVariants.{BadPointer};
+ghost use Rattle.tlsf_heap.specs.Counted.{IsUnchanged, Reads, range_of};
+ghost use Rattle.tlsf_heap.specs.Malloc.{malloc};
+ghost use Rattle.tlsf_heap.specs.Pointer.{free_ptr, block_size_ptr};
+ghost use Rattle.tlsf_heap.specs.Served.{IsServed};
+ghost use Rattle.tlsf_heap.specs.Touches.{AtMost, malloc_touches, free_touches};
+ghost use Rattle.tlsf_c.specs.Fronts.{told_slot, told_size};
+ghost use Rattle.tlsf_c.specs.Lying.{LiesIn};
+ghost use Rattle.tlsf_c.specs.PlacedPools.{IsPlaced, HasPlace, HasAddress, IsAt};
+ghost use Rattle.tlsf_c.specs.PlacedHeaps.{IsLiveAt, IsGivenAt, IsRefusedAt, IsFreedAt, malloc_with_front, told_block};
+ghost use Rattle.tlsf_c.specs.Status.{number};
+
+use crate::front::{Mark, mark_of, word_of};
+use crate::placed_heap::PlacedHeap;
+use crate::placed_lookup::{later_pool_of, pool_at};
+use crate::placed_pool::PlacedPool;
+use crate::status::{SERVED, number};
+use tlsf_heap::{Heap, Ptr, Refusal};
+
+/// The bytes in front of a block's address.
+const FRONT: u64 = 8;
+
+/// The most bytes that a block has behind its front.
+const MOST: u64 = 1_073_741_808 - FRONT;
+
+/// `Heap::malloc`, and what is known of the block: it lies in a pool, at a multiple of the unit, and has the bytes rounded up.
+#[inline(always)]
+fn allocate(heap: &mut Heap, bytes: u64) -> Result<Ptr, Refusal>
+    ensures ok { IfOk result (λ ptr. IsServed (λ slot. malloc slot bytes) ptr heap.old.content heap.new.content) }
+    ensures in_units { IfOk result (λ ptr. ptr.place % 16 ≡ 0) }
+    ensures lies { IfOk result (λ ptr. LiesIn ptr.place bytes (map range_of heap.old.content.pools)) }
+    ensures size { IfOk result (λ ptr. block_size_ptr ptr heap.new.content ≡ Ok ((bytes + 15) / 16 * 16)) }
+    ensures ranges { OnOk result (map range_of heap.new.content.pools ≡ map range_of heap.old.content.pools) }
+    ensures refused { IfErr result (λ refusal. (slot : ℕ) → malloc slot bytes heap.old.content ≡ Err refusal) }
+    ensures unchanged { OnErr result (IsUnchanged heap.old heap.new) }
+    ensures bound { AtMost malloc_touches heap.old.touches heap.new.touches }
+{
+    heap.keeps_good();
+    heap.malloc(bytes)
+}
+
+/// `Heap::free`, and that each pool lies where it lay.
+#[inline(always)]
+fn release(heap: &mut Heap, ptr: Ptr) -> Result<(), Refusal>
+    ensures ok { OnOk result (free_ptr ptr heap.old.content ≡ Ok heap.new.content) }
+    ensures ranges { OnOk result (map range_of heap.new.content.pools ≡ map range_of heap.old.content.pools) }
+    ensures refused { IfErr result (λ refusal. free_ptr ptr heap.old.content ≡ Err refusal) }
+    ensures unchanged { OnErr result (IsUnchanged heap.old heap.new) }
+    ensures bound { AtMost free_touches heap.old.touches heap.new.touches }
+{
+    heap.free(ptr)
+}
+
+/// The address of a block of this size in the pool, and the word in front of it.
+#[inline(always)]
+fn place_in(pool: &PlacedPool, ptr: Ptr, size: u64, word: &mut u64) -> u64
+    requires placed { IsPlaced pool.now }
+    requires has { HasPlace pool.now ptr.place }
+    requires in_units { ptr.place % 16 ≡ 0 }
+    requires units { size % 16 ≡ 0 }
+    requires most { size < 2 ^ 30 }
+    ensures some { 0 < result }
+    ensures multiple { result % 16 ≡ 0 }
+    ensures at { IsAt pool.now ptr.place result }
+    ensures size { told_size word.new result ≡ size }
+    ensures slot { told_slot word.new result ≡ ptr.slot }
+{
+    let address = pool.address_of(ptr.place());
+    let mark = Mark {
+        size,
+        slot: ptr.slot(),
+    };
+    *word = word_of(mark, address);
+    address
+}
+
+/// The same of the pool that has the block's place.
+#[inline(always)]
+fn place_block(pools: &[PlacedPool; 8], ptr: Ptr, size: u64, word: &mut u64) -> u64
+    requires placed { All IsPlaced pools.now }
+    requires in_units { ptr.place % 16 ≡ 0 }
+    requires somewhere { All (λ pool. HasPlace pool ptr.place → ⊥) pools.now → ⊥ }
+    requires units { size % 16 ≡ 0 }
+    requires most { size < 2 ^ 30 }
+    ensures some { 0 < result }
+    ensures multiple { result % 16 ≡ 0 }
+    ensures at { (pool : PlacedPool) × Contains pools.now pool × IsAt pool ptr.place result }
+    ensures size { told_size word.new result ≡ size }
+    ensures slot { told_slot word.new result ≡ ptr.slot }
+{
+    let first = &pools[0];
+    if first.has_place(ptr.place()) {
+        return place_in(first, ptr, size, word);
+    }
+    let Some(pool) = later_pool_of(pools, ptr.place()) else {
+        return 0;
+    };
+    place_in(pool, ptr, size, word)
+}
+
+/// A live block of at least `bytes` bytes, at the address that is answered, with eight bytes in front of it. `word` gets
+/// what the caller puts into these, and hands back with the address. At most 23 touches.
+///
+/// Where the heap refuses the answer is 0. Then `word` gets the number of `ZeroSize`, `NoFit` or `TableFull`.
+#[unsafe(no_mangle)]
+pub extern "C" fn tlsf_placed_malloc(heap: &mut PlacedHeap, bytes: u64, word: &mut u64) -> u64
+    ensures given { 0 < result → IsGivenAt (λ slot. malloc_with_front slot bytes) bytes result heap.old.pools heap.old.handle.value.content heap.new.handle.value.content }
+    ensures live { 0 < result → IsLiveAt result word.new heap.old.pools heap.new.handle.value.content }
+    ensures multiple { result % 16 ≡ 0 }
+    ensures refused { result ≡ 0 → IsRefusedAt (λ slot. malloc_with_front slot bytes) word.new heap.old.handle.value heap.new.handle.value }
+    ensures pools { heap.new.pools ≡ heap.old.pools }
+    ensures bound { AtMost malloc_touches heap.old.handle.value.touches heap.new.handle.value.touches }
+{
+    if bytes == 0 {
+        *word = u64::from(number(Refusal::ZeroSize));
+        return 0;
+    }
+    if bytes > MOST {
+        *word = u64::from(number(Refusal::NoFit));
+        return 0;
+    }
+    match allocate(heap.handle.heap(), bytes + FRONT) {
+        Ok(ptr) => place_block(&heap.pools, ptr, (bytes + FRONT + 15) / 16 * 16, word),
+        Err(refusal) => {
+            *word = u64::from(number(refusal));
+            0
+        }
+    }
+}
+
+/// The live block that an address and the word in front of it mean. At most one touch.
+#[inline(always)]
+fn find(heap: &mut PlacedHeap, address: u64, word: u64) -> Option<Ptr>
+    ensures some { IfSome result (λ ptr. (ptr ≡ told_block ptr.place address word) × ((pool : PlacedPool) × Contains heap.old.pools pool × IsAt pool ptr.place address) × (block_size_ptr ptr heap.old.handle.value.content ≡ Ok (told_size word address))) }
+    ensures none { IfNone result (IsLiveAt address word heap.old.pools heap.old.handle.value.content → ⊥) }
+    ensures pools { heap.new.pools ≡ heap.old.pools }
+    ensures read { Reads 1 heap.old.handle.value heap.new.handle.value }
+{
+    let pool = pool_at(&heap.pools, address)?;
+    let mark = mark_of(word, address);
+    let ptr = Ptr::new(pool.place_of(address), mark.slot);
+    match heap.handle.heap().block_size(ptr) {
+        Ok(size) => {
+            if u64::from(size) == mark.size {
+                Some(ptr)
+            } else {
+                None
+            }
+        }
+        Err(_) => None,
+    }
+}
+
+/// The block at an address becomes free, where the word in front of it is the block's. At most 33 touches.
+///
+/// The status is 0, or the number of `BadPointer` unless the block is live.
+#[unsafe(no_mangle)]
+pub extern "C" fn tlsf_placed_free(heap: &mut PlacedHeap, address: u64, word: u64) -> u32
+    ensures found { (result ≡ 0) ↔ IsLiveAt address word heap.old.pools heap.old.handle.value.content }
+    ensures freed { result ≡ 0 → IsFreedAt address word heap.old.pools heap.old.handle.value.content heap.new.handle.value.content }
+    ensures refused { result ≢ 0 → result ≡ number BadPointer }
+    ensures unchanged { result ≢ 0 → IsUnchanged heap.old.handle.value heap.new.handle.value }
+    ensures pools { heap.new.pools ≡ heap.old.pools }
+    ensures bound { AtMost (free_touches + 1) heap.old.handle.value.touches heap.new.handle.value.touches }
+{
+    let Some(ptr) = find(heap, address, word) else {
+        return number(Refusal::BadPointer);
+    };
+    match release(heap.handle.heap(), ptr) {
+        Ok(()) => SERVED,
+        Err(refusal) => number(refusal),
+    }
+}
+
+/// Whether a pool has the address, so that the eight bytes in front of it are the pool's.
+#[unsafe(no_mangle)]
+pub extern "C" fn tlsf_placed_has(heap: &PlacedHeap, address: u64) -> bool
+    ensures within { result ≡ true → (pool : PlacedPool) × Contains heap.now.pools pool × HasAddress pool address }
+    ensures none { result ≡ false → All (λ pool. HasAddress pool address → ⊥) heap.now.pools }
+{
+    pool_at(&heap.pools, address).is_some()
+}
