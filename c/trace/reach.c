@@ -277,12 +277,32 @@ static bool is_old_stack(const struct search *search, const struct mapping *mapp
         stack_in(search, mapping) == mapping->to;
 }
 
+/* Looks at the stack of a thread that has ended. Its control block still leads to the thread's table of
+ * variables, which glibc keeps with the stack. On x86-64 it begins with its own address, that table's, and
+ * its own address again. */
+static void look_at_old_stack(struct search *search, const struct mapping *mapping)
+{
+    uintptr_t from = mapping->to - PIECE;
+    size_t got = mapping->to - mapping->from < PIECE ? 0 : read_memory(search->words, from, PIECE) / WORD;
+    for (size_t k = 0; k + 2 < got; k++) {
+        uintptr_t place = from + k * WORD;
+        if (search->words[k] == place && search->words[k + 2] == place) {
+            look_at(search, search->words[k + 1], REACHABLE);
+            return;
+        }
+    }
+}
+
 /* Looks at a mapping. */
 static void look_at_mapping(struct search *search, const struct mapping *mapping, const struct mapping *before)
 {
     bool is_device = strncmp(mapping->path, "/dev/", 5) == 0 && strncmp(mapping->path, "/dev/shm/", 9) != 0 &&
         strncmp(mapping->path, "/dev/zero", 9) != 0;
-    if (!mapping->is_written || is_device || is_heap(mapping) || is_old_stack(search, mapping, before)) {
+    if (!mapping->is_written || is_device || is_heap(mapping)) {
+        return;
+    }
+    if (is_old_stack(search, mapping, before)) {
+        look_at_old_stack(search, mapping);
         return;
     }
     uintptr_t stack = stack_in(search, mapping);
