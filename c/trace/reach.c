@@ -25,12 +25,14 @@
 /* Bytes that are read at once, the most threads whose stacks are told apart, the bytes below a stack's
  * pointer that are in use, and what the arenas of glibc's threads are a multiple of. */
 enum { PIECE = 1 << 16, WORD = sizeof(uintptr_t), THREADS_MOST = 1024, RED_ZONE = 128, ARENA = 1 << 26 };
-enum { WORDS = PIECE / WORD, NAME_MOST = PATH_MOST + 16, ARGUMENTS = 6 };
+/* Words of a piece, bytes of a name, arguments of a system call, the pages that are asked for at once, the
+ * most bytes of exit's code, the words that are looked at for its frame, and the registers that it keeps. */
+enum { WORDS = PIECE / WORD, NAME_MOST = PATH_MOST + 16, ARGUMENTS = 6, PAGES = 64, EXIT_CODE = 64, EXIT_WORDS = 128, EXIT_KEPT = 6 };
 
 /* A part of the memory: a line of the kernel's list. */
 struct mapping {
     uintptr_t from, to;
-    bool is_written, is_guard;
+    bool is_written, is_private, is_guard;
     const char *path;
 };
 
@@ -44,6 +46,8 @@ struct search {
     uintptr_t stacks[THREADS_MOST];
     size_t threads;
     bool is_unknown;
+    /* The kernel's list of pages, or below 0. */
+    int pages;
     struct reader reader;
     uintptr_t words[WORDS];
     char name[NAME_MOST];
@@ -54,13 +58,15 @@ struct sum {
     uint64_t blocks, bytes;
 };
 
-/* An address in glibc's data, where its malloc has its lists, or 0 where malloc is another's. */
-static uintptr_t library_data;
+/* An address in glibc's data, where its malloc has its lists, or 0 where malloc is another's; and where
+ * the code of exit begins. */
+static uintptr_t library_data, exit_code;
 static bool is_child;
 
 void reach_begin(void)
 {
     void *data = dlsym(RTLD_NEXT, "_IO_2_1_stdout_"), *start = dlsym(RTLD_NEXT, "__libc_start_main");
+    exit_code = (uintptr_t)dlsym(RTLD_NEXT, "exit");
     uintptr_t allocator;
     memcpy(&allocator, &real.malloc, sizeof allocator);
     library_data = find_module(allocator) == find_module((uintptr_t)start) ? (uintptr_t)data : 0;
@@ -136,10 +142,31 @@ static void look_at_block(struct search *search, const struct block *block)
     }
 }
 
-/* Looks at the words of a part of the memory, but for those of held blocks and of the search. */
-static void look_at_roots(struct search *search, uintptr_t from, uintptr_t to, bool starts_only)
+/* The first address from here on whose page was ever used, or where the next pages are to be asked for: most
+ * of a large mapping may be unused. */
+static uintptr_t used_from(const struct search *search, uintptr_t from)
 {
+    uint64_t pages[PAGES];
+    uintptr_t page = from / PAGE;
+    long got = syscall(SYS_pread64, search->pages, pages, sizeof pages, (long)(page * sizeof *pages));
+    long known = got < 0 ? 0 : got / (long)sizeof *pages, unused = 0;
+    /* The highest bits tell that a page is there, or was swapped. */
+    while (unused < known && pages[unused] >> 62 == 0) {
+        unused++;
+    }
+    return unused == 0 ? from : (page + (uintptr_t)unused) * PAGE;
+}
+
+/* Looks at the words of a part of the memory, but for those of held blocks and of the search. */
+static void look_at_roots(struct search *search, const struct mapping *mapping, uintptr_t from, bool starts_only)
+{
+    uintptr_t to = mapping->to;
     while (from + WORD <= to) {
+        uintptr_t used = mapping->is_private ? used_from(search, from) : from;
+        if (used > from) {
+            from = used;
+            continue;
+        }
         size_t wanted = to - from < PIECE ? (to - from) / WORD * WORD : PIECE;
         size_t got = read_memory(search->words, from, wanted) / WORD;
         for (size_t k = 0; k < got; k++) {
@@ -243,6 +270,7 @@ static struct mapping mapping_of(const char *line)
     mapping.from = strtoul(line, &at, 16);
     mapping.to = *at == '-' ? strtoul(at + 1, &at, 16) : 0;
     mapping.is_written = strncmp(at, " rw", 3) == 0;
+    mapping.is_private = mapping.is_written && at[4] == 'p';
     mapping.is_guard = strncmp(at, " ---p", 5) == 0;
     mapping.path = mapping.path == NULL ? "" : mapping.path;
     return mapping;
@@ -308,7 +336,7 @@ static void look_at_mapping(struct search *search, const struct mapping *mapping
     uintptr_t stack = stack_in(search, mapping);
     uintptr_t from = stack < mapping->to ? stack / WORD * WORD : mapping->from;
     bool has_lists = library_data >= mapping->from && library_data < mapping->to;
-    look_at_roots(search, from, mapping->to, has_lists && !is_child);
+    look_at_roots(search, mapping, from, has_lists && !is_child);
 }
 
 static bool look_at_mappings(struct search *search)
@@ -411,18 +439,33 @@ static bool look(struct search *search)
     if (search->queue == NULL) {
         return false;
     }
+    search->pages = open_told("/proc/self/pagemap");
     read_threads(search);
     bool looked = look_at_mappings(search);
     follow(search);
+    syscall(SYS_close, search->pages);
     give_pages(search->queue);
     return looked;
+}
+
+/* Where this thread's stack is in use from. Amid exit that is where exit keeps its caller's registers, on x86-64
+ * in front of where it was called: below are words that calls before it have left. */
+static uintptr_t stack_from(struct search *search, uintptr_t here)
+{
+    size_t got = read_memory(search->words, here, EXIT_WORDS * WORD) / WORD;
+    for (size_t k = EXIT_KEPT; k < got && exit_code != 0; k++) {
+        if (search->words[k] - exit_code - 1 < EXIT_CODE) {
+            return here + (k - EXIT_KEPT) * WORD;
+        }
+    }
+    return here;
 }
 
 void reach_tell(void)
 {
     struct search *search = take_pages(sizeof *search);
     if (search != NULL) {
-        search->stacks[search->threads++] = (uintptr_t)__builtin_frame_address(0);
+        search->stacks[search->threads++] = stack_from(search, (uintptr_t)__builtin_frame_address(0));
     }
     bool told = search != NULL && held_read(&search->held, log_path()) && look(search) && tell(search);
     if (!told) {
