@@ -84,8 +84,8 @@ static __attribute__((noinline)) void wipe(void)
 
 static void *stay(void *unused)
 {
-    struct node *volatile here = get(6001); /* reachable thread */
-    of_thread = get(6002); /* reachable thread */
+    struct node *volatile here = get(6001); /* reachable threads */
+    of_thread = get(6002); /* reachable threads */
     (void)unused;
     pthread_barrier_wait(&barrier);
     while (here != NULL) {
@@ -97,7 +97,7 @@ static void *stay(void *unused)
 /* The stack of a thread that has ended is kept by the C library, with what stands in it. */
 static void *leave(void *unused)
 {
-    struct node *volatile here = get(6003); /* lost thread */
+    struct node *volatile here = get(6003); /* lost threads */
     (void)unused;
     pthread_barrier_wait(&barrier);
     return here == NULL ? unused : NULL;
