@@ -35,12 +35,13 @@ static __attribute__((noinline)) void lose(void)
     mapped->next = get(1005); /* lost */
 }
 
-/* A block that was given back isn't one that leads anywhere. */
+/* A block that was given back leads nowhere. The last block stands before the heap's unused rest, to which glibc has a
+ * pointer: it is one into the last word of this block. */
 static __attribute__((noinline)) void leave_stale(void)
 {
-    struct node *given_back = get(5000);
-    given_back[5].next = get(1006); /* lost */
-    get(1007); /* lost */
+    struct node *given_back = get(100000);
+    given_back[1200].next = get(1006); /* lost */
+    get(1016); /* lost */
     free(given_back);
 }
 
