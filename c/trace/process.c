@@ -21,8 +21,8 @@ static char name[PATH_MOST];
 /* Whether settings were read, and whether nothing is to be traced. */
 static bool is_set;
 static bool is_off;
-/* Whether what is still reachable is told at the end. */
-static bool tells_reachable;
+/* Whether what is still reachable is told at the end, and whether the last handler of exit runs. */
+static bool tells_reachable, is_last_handler;
 
 extern int __cxa_atexit(void (*)(void *), void *, void *);
 
@@ -82,7 +82,7 @@ __attribute__((noinline)) static bool end(void)
     log_end();
     if (tells_reachable) {
         __builtin_unwind_init();
-        reach_tell();
+        reach_tell(is_last_handler);
     }
     log_unlock();
     inside = false;
@@ -118,7 +118,9 @@ static void at_exit(void *unused)
     if (!inside && log_is_on() && is_alone()) {
         release_libraries();
     }
+    is_last_handler = true;
     end();
+    is_last_handler = false;
 }
 
 static void at_quick(void) { end(); }

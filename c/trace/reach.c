@@ -461,11 +461,12 @@ static uintptr_t stack_from(struct search *search, uintptr_t here)
     return here;
 }
 
-void reach_tell(void)
+void reach_tell(bool is_last_handler)
 {
+    uintptr_t here = (uintptr_t)__builtin_frame_address(0);
     struct search *search = take_pages(sizeof *search);
     if (search != NULL) {
-        search->stacks[search->threads++] = stack_from(search, (uintptr_t)__builtin_frame_address(0));
+        search->stacks[search->threads++] = is_last_handler ? stack_from(search, here) : here;
     }
     bool told = search != NULL && held_read(&search->held, log_path()) && look(search) && tell(search);
     if (!told) {

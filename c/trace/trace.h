@@ -148,8 +148,9 @@ void reach_begin(void);
 void reach_in_child(void);
 
 /* Writes LOG.reachable: what is lost, and what is still reachable. With the lock of the log held,
- * behind its end. Each register that the caller may not change is to stand in the caller's frame. */
-void reach_tell(void);
+ * behind its end. Each register that the caller may not change is to stand in the caller's frame. Of
+ * exit's last handler nothing on the stack counts but what stands above exit. */
+void reach_tell(bool is_last_handler);
 
 /* The process goes on: the file is taken away. */
 void reach_resume(void);

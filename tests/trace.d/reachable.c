@@ -1,7 +1,8 @@
 /* Blocks that are held at the end, each of another size. Behind each call stands what it is then: lost,
  * which nothing leads to; possibly lost, where a pointer on the way points amid its block; or reachable.
  * With the word `threads` there are blocks of threads, and with the word `fork` those of a child. The word
- * `quick` ends by quick_exit, and `failed exec` is killed behind an exec that failed. */
+ * `quick` ends by quick_exit, `handler` in a handler of exit, and `failed exec` is killed behind an
+ * exec that failed. */
 #include <pthread.h>
 #include <signal.h>
 #include <stdlib.h>
@@ -127,6 +128,13 @@ static void run_child(void)
     free(global);
 }
 
+/* A handler that ends the process, with a block of its own. */
+static void end_in_handler(void)
+{
+    struct node *volatile here = get(6004); /* reachable handler */
+    _exit(here == NULL);
+}
+
 static int run_failed_exec(void)
 {
     global = get(8001);
@@ -153,6 +161,9 @@ int main(int count, char **words)
         run_threads();
     }
     wipe();
+    if (strcmp(word, "handler") == 0) {
+        atexit(end_in_handler);
+    }
     if (strcmp(word, "quick") == 0) {
         quick_exit(here == NULL);
     }
