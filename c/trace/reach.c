@@ -46,8 +46,11 @@ struct search {
     uintptr_t stacks[THREADS_MOST];
     size_t threads;
     bool is_unknown;
-    /* The kernel's list of pages, or below 0. */
-    int pages;
+    /* The kernel's list of pages, or below 0; the file that is written, how many bytes wait for it, and whether
+     * all others could be written. */
+    int pages, file;
+    size_t waiting;
+    bool is_whole;
     struct reader reader;
     uintptr_t words[WORDS];
     char name[NAME_MOST];
@@ -89,7 +92,7 @@ static size_t read_memory(void *to, uintptr_t from, size_t bytes)
 
 /* Whether an address in a block is what a program knows it by: its start; behind its length, as
  * sqlite has it; behind the number of its elements, as of `new[]`; or the text of an old std::string.
- * These are valgrind's rules. */
+ * These are rules of valgrind's, which also knows a second base class by its table of functions. */
 static bool is_start(const struct block *block, uintptr_t address)
 {
     uintptr_t head[2], at = address - block->start;
@@ -373,39 +376,40 @@ static struct sum add_up(const struct held *held, enum reach reach, struct sum *
     return all;
 }
 
-/* Writes text behind what the search has as words, and that to the file where it is full, or at the
- * end, with no text. */
-static void put(struct search *search, int file, size_t *used, const char *text)
+/* Writes what waits, which stands where the words were. */
+static void flush(struct search *search)
 {
-    size_t length = text == NULL ? 0 : strlen(text);
-    char *piece = (char *)search->words;
-    if (text == NULL || *used + length > PIECE) {
-        syscall(SYS_write, file, piece, *used);
-        *used = 0;
+    search->is_whole = search->is_whole && syscall(SYS_write, search->file, search->words, search->waiting) == (long)search->waiting;
+    search->waiting = 0;
+}
+
+static void put(struct search *search, const char *text)
+{
+    size_t length = strlen(text);
+    if (search->waiting + length > PIECE) {
+        flush(search);
     }
-    memcpy(piece + *used, text == NULL ? piece : text, length);
-    *used += length;
+    memcpy((char *)search->words + search->waiting, text, length);
+    search->waiting += length;
 }
 
 /* Writes the part of the blocks of one reach. */
-static void tell_part(struct search *search, int file, enum reach reach, struct sum *sums)
+static void tell_part(struct search *search, enum reach reach, struct sum *sums)
 {
     static const char *const names[] = {"Lost", "Possibly lost", "Still reachable"};
-    size_t used = 0;
     char line[128];
     struct sum all = add_up(&search->held, reach, sums);
     snprintf(line, sizeof line, "%s: %llu blocks, %llu bytes.\n", names[reach], (unsigned long long)all.blocks, (unsigned long long)all.bytes);
-    put(search, file, &used, line);
+    put(search, line);
     for (uint32_t stack = 0; stack <= search->held.stacks; stack++) {
         char place[32] = "";
         if (sums[stack].blocks > 0) {
             snprintf(place, sizeof place, " at s%u", stack);
             snprintf(line, sizeof line, "%llu bytes in %llu blocks%s\n", (unsigned long long)sums[stack].bytes,
                      (unsigned long long)sums[stack].blocks, stack == 0 ? "" : place);
-            put(search, file, &used, line);
+            put(search, line);
         }
     }
-    put(search, file, &used, NULL);
 }
 
 /* The name of the file. */
@@ -415,18 +419,35 @@ static const char *name_in(struct search *search)
     return search->name;
 }
 
-/* Writes the file. */
+static void remove_file(struct search *search) { syscall(SYS_unlinkat, AT_FDCWD, name_in(search), 0); }
+
+/* Writes the file: a new one. Where it can't be written whole there is none. */
 static bool tell(struct search *search)
 {
     struct sum *sums = take_pages((search->held.stacks + 1ul) * sizeof *sums);
-    int flags = O_WRONLY | O_CREAT | O_TRUNC | O_CLOEXEC;
-    int file = sums == NULL ? -1 : (int)syscall(SYS_openat, AT_FDCWD, name_in(search), flags, 0666);
-    for (int reach = LOST; file >= 0 && reach < REACHES; reach++) {
-        tell_part(search, file, (enum reach)reach, sums);
+    int flags = O_WRONLY | O_CREAT | O_EXCL | O_CLOEXEC;
+    remove_file(search);
+    search->file = sums == NULL ? -1 : (int)syscall(SYS_openat, AT_FDCWD, name_in(search), flags, 0666);
+    search->is_whole = search->file >= 0;
+    for (int reach = LOST; search->is_whole && reach < REACHES; reach++) {
+        tell_part(search, (enum reach)reach, sums);
     }
-    syscall(SYS_close, file);
+    if (search->file >= 0) {
+        flush(search);
+        syscall(SYS_close, search->file);
+    }
+    if (!search->is_whole) {
+        remove_file(search);
+    }
     give_pages(sums);
-    return file >= 0;
+    return search->is_whole;
+}
+
+/* Whether the kernel reads memory for this process: it can be forbidden. */
+static bool can_read(void)
+{
+    uintptr_t word = 1, copy = 0;
+    return read_memory(&copy, (uintptr_t)&word, sizeof word) == sizeof word && copy == word;
 }
 
 /* Looks at all roots, and follows the pointers from there. */
@@ -434,6 +455,9 @@ static bool look(struct search *search)
 {
     if (search->held.count == 0) {
         return true;
+    }
+    if (!can_read()) {
+        return false;
     }
     search->queue = take_pages(2 * search->held.count * sizeof *search->queue);
     if (search->queue == NULL) {
@@ -470,7 +494,7 @@ void reach_tell(bool is_last_handler)
     }
     bool told = search != NULL && held_read(&search->held, log_path()) && look(search) && tell(search);
     if (!told) {
-        say(log_path(), "has no list of what is reachable: memory, the log or /proc can't be read");
+        say(log_path(), "has no list of what is reachable: memory, /proc or the log can't be read, or the list not be written");
     }
     if (search != NULL) {
         give_pages(search->held.blocks);
@@ -482,7 +506,7 @@ void reach_resume(void)
 {
     struct search *search = take_pages(sizeof *search);
     if (search != NULL) {
-        syscall(SYS_unlinkat, AT_FDCWD, name_in(search), 0);
+        remove_file(search);
         give_pages(search);
     }
 }

@@ -113,6 +113,8 @@ static void run_threads(void)
     pthread_create(&leaving, NULL, leave, NULL);
     pthread_barrier_wait(&barrier);
     pthread_join(leaving, NULL);
+    /* Until the thread that stays waits: where one runs, its stack's use isn't known. */
+    usleep(300000);
 }
 
 /* A block of a child that a block of its parent points to alone. */
