@@ -102,24 +102,10 @@ module _ (added : ReadLine → List ReadLine → List Diagnostic) where
       wrote = under.wrote;
     }
 
--- ---- a line of which nothing is wrong
-
--- what holds where there is no error
-pub no_error : {T E : Type 0} (result : Result T E) (P : Type 0) → is_err result ≡ false → OnOk result P → P
-no_error (Ok value) P ok p = p
-no_error (Err fault) P ok p = absurd (let e : true ≡ false = ok in cc)
-
 pub no_findings : (findings : List Diagnostic) → (length findings == 0) ≡ true → findings ≡ []
 no_findings [] is = refl
 no_findings (first ∷ more) is = absurd (omega (arith, eqb-true (length (first ∷ more)) 0 is))
 
--- it is followed, and nothing is put
-pub quiet_line : (Stands : List ReadLine → Type 0) (added findings : List Diagnostic) (line : ReadLine) (past : List ReadLine) (writer : WriterState)
-    → Stands (line ∷ past) → findings ≡ added → findings ≡ [] → LineFollowed Stands added line past false writer writer
-quiet_line Stands added findings line past writer stands told none =
-    let nothing : [] ≡ added = sym none ∙ told in
-    record {
-      stands = stands;
-      wrote = subst (λ (all : List Diagnostic). Wrote writer writer (diagnostics_text all)) nothing (Wrote-nothing writer);
-      has_diagnostics_is = ap has_some nothing;
-    }
+pub some_findings : (findings : List Diagnostic) → (length findings == 0) ≡ false → true ≡ has_some findings
+some_findings [] is = absurd (let e : true ≡ false = is in cc)
+some_findings (first ∷ more) is = refl

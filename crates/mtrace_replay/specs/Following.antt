@@ -27,21 +27,6 @@ pub record LineBegun (Stands : List ReadLine → Type 0) (added : List Diagnosti
   pub stands : Stands (line ∷ past)
   pub begun : Begins writer_old writer_new (diagnostics_text added)
 
--- What a call leaves that follows one line and puts what is wrong with it, for all lines before it. Where memory is refused, nothing
--- is put.
-pub record FollowsLine {R : Type 0} (rules : LineRules R) (number : ℕ) (line : ReadLine) (result : Result Bool Stop) (old new : R) (findings : List Diagnostic) (writer_old writer_new : WriterState) : Type 0 where
-  pub done : IfOk result (λ has_diagnostics. (start : rules.Start) (past : List ReadLine) → rules.Stands start old past
-      → LineFollowed (rules.Stands start new) (rules.added start line past) line past has_diagnostics writer_old writer_new)
-  pub counted : OnOk result (rules.lines new ≡ number)
-  pub ready : OnOk result (rules.IsReady new)
-  pub cleared : OnOk result (findings ≡ [])
-  pub took : result ≢ Err Writer → HasTaken writer_old.calls writer_new.calls
-  pub no_reader : result ≢ Err Reader
-  pub write : IsErrOf result Writer → (start : rules.Start) (past : List ReadLine) → rules.Stands start old past
-      → LineBegun (rules.Stands start new) (rules.added start line past) line past writer_old writer_new
-  pub failed : IsErrOf result Writer → HasTakenAndFailed writer_old.calls writer_new.calls
-  pub memory : IsErrOf result Memory → rules.Lacks × (writer_new ≡ writer_old)
-
 -- all lines of the log were read and followed, and their diagnostics were written
 pub record HasFollowed (Stands : List ReadLine → Type 0) (added : ReadLine → List ReadLine → List Diagnostic) (has_diagnostics : Bool) (reader_old reader_new : ReaderState) (writer_old writer_new : WriterState) : Type 0 where
   pub lines : List ReadLine

@@ -1,12 +1,15 @@
 //! The lines of a log, read and replayed, with what is wrong with each put at once.
 
-ghost use Rattle.std.specs.Prelude.{◌≡◌, ◌+◌, []};
-ghost use Rattle.mtrace_replay.specs.Following.{FollowsLine, FollowsLines};
+ghost use Rattle.std.specs.Prelude.{◌≡◌, [], IfOk, OnOk};
+ghost use Rattle.mtrace_log.specs.Output.{Puts};
+ghost use Rattle.mtrace_replay.specs.Texts.{diagnostics_text};
+ghost use Rattle.mtrace_replay.specs.Run.{has_some};
+ghost use Rattle.mtrace_replay.specs.Following.{FollowsLines};
 
 use crate::findings::Findings;
 use crate::line_replay::LineReplay;
 use crate::run::put_findings;
-use mtrace_log::{Event, LentLocation, LineFault, Lines, Sink, Source};
+use mtrace_log::{Failed, Lines, Sink, Source};
 
 /// Why no more lines are followed.
 #[derive(Clone, Copy)]
@@ -19,34 +22,22 @@ pub(crate) enum Stop {
     Memory,
 }
 
-/// Follows one line and puts what is wrong with it. Answers whether anything is. The findings are empty before and after, so one
-/// serves all lines.
+/// Puts what is wrong with a line, and then nothing is. Answers whether anything was.
 #[inline(always)]
-fn follow_line<P: LineReplay, W: Sink>(
-    writer: &mut W,
-    replay: &mut P,
-    number: u64,
-    event: Result<Event<LentLocation<'_>>, LineFault>,
-    findings: &mut Findings,
-) -> Result<bool, Stop>
-    requires next { number ≡ P.rules.lines replay.old + 1 }
-    requires none { findings.old ≡ [] }
-    requires ready { P.rules.IsReady replay.old }
-    ensures { FollowsLine P.rules number event.entry result replay.old replay.new findings.new (W.shown writer.old) (W.shown writer.new) }
+fn put_found<W: Sink>(writer: &mut W, findings: &mut Findings) -> Result<bool, Failed>
+    ensures put { Puts result (diagnostics_text findings.old) (W.shown writer.old) (W.shown writer.new) }
+    ensures found { IfOk result (λ more. more ≡ has_some findings.old) }
+    ensures cleared { OnOk result (findings.new ≡ []) }
 {
-    if replay.take_line(number, event, findings).is_err() {
-        return Err(Stop::Memory);
-    }
     if findings.is_empty() {
         return Ok(false);
     }
-    match put_findings(writer, findings) {
-        Ok(()) => Ok(true),
-        Err(_) => Err(Stop::Writer),
-    }
+    put_findings(writer, findings)?;
+    Ok(true)
 }
 
-/// Reads and follows all lines of the log; what is wrong with a line is put at once. Answers whether anything is.
+/// Reads and follows all lines of the log; what is wrong with a line is put at once. Answers whether anything is. The findings are
+/// empty before each line, so one serves all.
 pub(crate) fn follow_lines<P: LineReplay, R: Source, W: Sink>(
     reader: &mut R,
     writer: &mut W,
@@ -65,9 +56,13 @@ pub(crate) fn follow_lines<P: LineReplay, R: Source, W: Sink>(
             Ok(None) => return Ok(has_diagnostics),
             Err(_) => return Err(Stop::Reader),
         };
-        match follow_line(writer, replay, number, lines.event(), &mut findings) {
+        match replay.take_line(number, lines.event(), &mut findings) {
+            Ok(()) => {}
+            Err(_) => return Err(Stop::Memory),
+        }
+        match put_found(writer, &mut findings) {
             Ok(more) => has_diagnostics |= more,
-            Err(stop) => return Err(stop),
+            Err(_) => return Err(Stop::Writer),
         }
     }
 }

@@ -1,6 +1,9 @@
-use Rattle.std.proofs.Common.{false, refl, sym, subst, ap, ◌∙◌, reverse, inr}
+use Rattle.std.proofs.Common.{List, false, refl, sym, subst, ap, ◌∙◌, reverse, inr}
 use Rattle.mtrace_log.specs.Progress.{Progress, CallsFor}
-use Rattle.mtrace_log.specs.declared.line.Line.{Line}
+use Rattle.mtrace_log.specs.Output.{Wrote, Begins}
+use Rattle.mtrace_replay.specs.declared.diagnostic.Diagnostic.{Diagnostic}
+use Rattle.mtrace_replay.specs.Texts.{diagnostics_text}
+use Rattle.mtrace_replay.specs.Run.{has_some}
 use Rattle.mtrace_log.specs.declared.call.Call.TheVariants.{Gave, Took, Failed}
 use Rattle.mtrace_log.proofs.TraceLemmas.{moved_none, moved_append, moved_then_append}
 use Rattle.mtrace_log.proofs.CallLemmas.{calls_more, calls_of_line, calls_to_end, calls_to_fault}
@@ -75,47 +78,84 @@ loop-number-preserved g c =
     let kept = c.loop-number.invariant in
     let passed = rw c.in-Ok-Some.field-0-is at c.in-Ok-Some.ensures.line in
     let given = passed c.event.result c.event.ensures in
+    let taken = c.in-Ok.ensures in
+    let put = c.in-Ok-put_found.ensures in
     record {
-      under_way = (λ start stands. let under = kept.under_way start stands in
-          following_line (rules.added start) (rules.Stands start c.loop-number.replay) (rules.Stands start c.follow_line.new.replay) c.loop-number.lines c.advance.new.self c.loop-number.has_diagnostics
-          (reads c.args.reader.now) (reads c.loop-number.reader) (reads c.advance.new.reader) (writes c.args.writer.now) (writes c.loop-number.writer) (writes c.follow_line.new.writer)
-          (record { number = c.in-Ok-Some.number; event = c.event.result }) under given c.in-Ok.more (c.in-Ok.ensures.done start (reverse under.so_far.lines) under.so_far.stands));
-      counted = c.in-Ok.ensures.counted ∙ sym given.count;
-      ready = c.in-Ok.ensures.ready;
-      none = c.in-Ok.ensures.cleared;
+      under_way = (λ start stands.
+          let under = kept.under_way start stands in
+          let stood = under.so_far.stands in
+          let told = taken.told start (reverse under.so_far.lines) stood in
+          following_line (rules.added start) (rules.Stands start c.loop-number.replay) (rules.Stands start c.take_line.new.self) c.loop-number.lines c.advance.new.self c.loop-number.has_diagnostics
+          (reads c.args.reader.now) (reads c.loop-number.reader) (reads c.advance.new.reader) (writes c.args.writer.now) (writes c.loop-number.writer) (writes c.put_found.new.writer)
+          (record { number = c.in-Ok-Some.number; event = c.event.result }) under given c.in-Ok-put_found.more (record {
+            stands = taken.stands start (reverse under.so_far.lines) stood;
+            wrote = subst (λ (all : List Diagnostic). Wrote (writes c.loop-number.writer) (writes c.put_found.new.writer) (diagnostics_text all)) told put.put.wrote;
+            has_diagnostics_is = put.found ∙ ap has_some told;
+          }));
+      counted = taken.counted ∙ sym given.count;
+      ready = taken.ready;
+      none = put.cleared;
       whole = c.in-Ok-Some.ensures.whole ∙ kept.whole;
       gave = calls_more c.loop-number.lines.stage c.advance.new.self.stage _ _ _ given.was_reading kept.gave c.in-Ok-Some.ensures.calls;
-      took = moved_append Took _ _ _ kept.took (c.in-Ok.ensures.took (λ is. cc));
+      took = moved_append Took _ _ _ kept.took put.put.took;
     }
 
-pub returns-in-Err-follow_line : goal.returns-in-Err-follow_line
-returns-in-Err-follow_line g c =
+-- memory was refused
+pub returns-in-Err-take_line : goal.returns-in-Err-take_line
+returns-in-Err-take_line g c =
     let reads = g.R.Source.shown in
     let writes = g.W.Sink.shown in
     let rules = g.P.LineReplay.rules in
     let kept = c.loop-number.invariant in
     let passed = rw c.in-Ok-Some.field-0-is at c.in-Ok-Some.ensures.line in
     let given = passed c.event.result c.event.ensures in
-    let line : Line = record { number = c.in-Ok-Some.number; event = c.event.result } in
-    let followed = c.in-Err-follow_line.ensures in
     record {
       done = tt;
       whole = c.advance.ensures.whole ∙ kept.whole;
       reader_ended = tt;
       reader_not_failed = λ other. calls_of_line c.advance.new.self.stage _ _ _ _ _ given.taken
           (calls_more c.loop-number.lines.stage c.advance.new.self.stage _ _ _ given.was_reading kept.gave c.in-Ok-Some.ensures.calls);
-      writer_took = λ other. moved_append Took _ _ _ kept.took (followed.took other);
-      writer_failed = λ is. moved_then_append Took Failed _ _ _ kept.took (followed.failed is);
-      read = λ is. absurd (followed.no_reader is);
-      write = λ is start stands.
-          let under = kept.under_way start stands in
-          following_write (rules.added start) (rules.Stands start c.loop-number.replay) (rules.Stands start c.follow_line.new.replay) c.loop-number.lines c.advance.new.self c.loop-number.has_diagnostics
-          (reads c.args.reader.now) (reads c.loop-number.reader) (reads c.advance.new.reader) (writes c.args.writer.now) (writes c.loop-number.writer) (writes c.follow_line.new.writer)
-          line under given (followed.write is start (reverse under.so_far.lines) under.so_far.stands);
-      lacks = λ is. (followed.memory is).0;
+      writer_took = λ other. kept.took;
+      writer_failed = λ is. absurd (cc);
+      read = λ is. absurd (cc);
+      write = λ is. absurd (cc);
+      lacks = λ is. c.in-Err-take_line.ensures.memory;
       memory = λ is start stands.
           let under = kept.under_way start stands in
-          following_memory (rules.added start) (rules.Stands start c.loop-number.replay) (rules.Stands start c.follow_line.new.replay) c.loop-number.lines c.advance.new.self c.loop-number.has_diagnostics
-          (reads c.args.reader.now) (reads c.loop-number.reader) (reads c.advance.new.reader) (writes c.args.writer.now) (writes c.loop-number.writer) (writes c.follow_line.new.writer)
-          line under given (followed.memory is).1;
+          following_memory (rules.added start) (rules.Stands start c.loop-number.replay) (rules.Stands start c.take_line.new.self) c.loop-number.lines c.advance.new.self c.loop-number.has_diagnostics
+          (reads c.args.reader.now) (reads c.loop-number.reader) (reads c.advance.new.reader) (writes c.args.writer.now) (writes c.loop-number.writer) (writes c.loop-number.writer)
+          (record { number = c.in-Ok-Some.number; event = c.event.result }) under given refl;
+    }
+
+-- the writer failed
+pub returns-in-Err-put_found : goal.returns-in-Err-put_found
+returns-in-Err-put_found g c =
+    let reads = g.R.Source.shown in
+    let writes = g.W.Sink.shown in
+    let rules = g.P.LineReplay.rules in
+    let kept = c.loop-number.invariant in
+    let passed = rw c.in-Ok-Some.field-0-is at c.in-Ok-Some.ensures.line in
+    let given = passed c.event.result c.event.ensures in
+    let taken = c.in-Ok.ensures in
+    let put = c.in-Err-put_found.ensures.put in
+    record {
+      done = tt;
+      whole = c.advance.ensures.whole ∙ kept.whole;
+      reader_ended = tt;
+      reader_not_failed = λ other. calls_of_line c.advance.new.self.stage _ _ _ _ _ given.taken
+          (calls_more c.loop-number.lines.stage c.advance.new.self.stage _ _ _ given.was_reading kept.gave c.in-Ok-Some.ensures.calls);
+      writer_took = λ other. absurd (other refl);
+      writer_failed = λ is. moved_then_append Took Failed _ _ _ kept.took put.failed;
+      read = λ is. absurd (cc);
+      write = λ is start stands.
+          let under = kept.under_way start stands in
+          let stood = under.so_far.stands in
+          following_write (rules.added start) (rules.Stands start c.loop-number.replay) (rules.Stands start c.take_line.new.self) c.loop-number.lines c.advance.new.self c.loop-number.has_diagnostics
+          (reads c.args.reader.now) (reads c.loop-number.reader) (reads c.advance.new.reader) (writes c.args.writer.now) (writes c.loop-number.writer) (writes c.put_found.new.writer)
+          (record { number = c.in-Ok-Some.number; event = c.event.result }) under given (record {
+            stands = taken.stands start (reverse under.so_far.lines) stood;
+            begun = subst (λ (all : List Diagnostic). Begins (writes c.loop-number.writer) (writes c.put_found.new.writer) (diagnostics_text all)) (taken.told start (reverse under.so_far.lines) stood) put.begun;
+          });
+      lacks = λ is. absurd (cc);
+      memory = λ is. absurd (cc);
     }
