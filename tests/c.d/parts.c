@@ -27,7 +27,7 @@ static uint64_t below(uint64_t bound)
 /* ---- the bytes ---- */
 
 /* 2,130 blocks of 80 bytes and 16 more for each record; the heap's 1,696, its start, and twice 8. */
-#define START (sizeof(void *) == 8 ? 392 : 248)
+#define START (sizeof(void *) == 8 ? 392 : 344)
 _Static_assert(TLSF_PART_BYTES(64, 2130) == 2130 * (80 + 16) + 1696 + START + 16, "a part");
 #define LIST(part) part(64, 2130) part(2048, 41) part(335872, 1)
 _Static_assert(TLSF_PARTS_BYTES(LIST) - TLSF_PARTS_OWN

@@ -45,6 +45,15 @@ static struct bounds any_bounds(void)
     return bounds;
 }
 
+/* The end of a line that tells bytes, or that there are none. */
+static int put_bytes(char *text, size_t room, uint64_t bytes)
+{
+    if (bytes == 0) {
+        return snprintf(text, room, "-\n");
+    }
+    return snprintf(text, room, "%llu bytes\n", (unsigned long long)bytes);
+}
+
 /* The text by the functions of the header. */
 static void wanted_text(struct bounds bounds, char *text, size_t room)
 {
@@ -55,11 +64,10 @@ static void wanted_text(struct bounds bounds, char *text, size_t room)
     uint32_t pool = tlsf_heap_sure_pool(bounds.blocks, bytes, size);
     int length = snprintf(text, room, "records: %llu\ntable: %zu bytes\nsure pool: ",
                           (unsigned long long)records, TLSF_HEAP_TABLE_BYTES(records));
-    if (pool == 0) {
-        snprintf(text + length, room - (size_t)length, "-\n");
-    } else {
-        snprintf(text + length, room - (size_t)length, "%lu bytes\n", (unsigned long)pool);
-    }
+    length += put_bytes(text + length, room - (size_t)length, pool);
+    length += snprintf(text + length, room - (size_t)length, "rounded pool: ");
+    uint64_t rounded = bounds.blocks * size;
+    (void)put_bytes(text + length, room - (size_t)length, rounded > 1073741808 ? 0 : rounded);
 }
 
 /* Puts an option and its number behind the words so far. */
