@@ -346,7 +346,3 @@ EXPORT int dlclose(void *library)
     stack_forget();
     return result;
 }
-
-/* c/Makefile makes the tracer of the files that it names. These two are made as parts of this one. */
-#include "held.c"
-#include "reach.c"
