@@ -14,6 +14,7 @@ use Rattle.tlsf_heap.proofs.Content.MemalignCases.{memalign_given}
 use Rattle.tlsf_heap.proofs.Good.StaysLive.{live_given, live_through_malloc, given_elsewhere}
 use Rattle.tlsf_heap.proofs.Good.AlignedStaysLive.{live_aligned, live_through_memalign, aligned_elsewhere}
 use Rattle.tlsf_heap.proofs.Good.LiveBlocks.{live_from_malloc, live_from_memalign}
+use Rattle.tlsf_heap.proofs.Good.GivenSizes.{AreRounded, malloc_sized, memalign_sized}
 use Rattle.mtrace_replay.specs.Moment.{asked_block}
 
 -- the same place is given, or the refusal is the same, whatever live blocks are known by
@@ -54,3 +55,8 @@ pub live_from_asked : {A : Type 0} (owner : A) (align : Option ℕ) (n place : �
     → Contains (blocks_of content.pools) block ⊎ (block.place ≡ place)
 live_from_asked owner None n place content new block served = live_from_malloc owner n place content new block served
 live_from_asked owner (Some align) n place content new block served = live_from_memalign owner align n place content new block served
+
+-- the live block that begins where one was given has the bytes asked for, rounded up
+pub asked_sized : {A : Type 0} (owner : A) (align : Option ℕ) (n : ℕ) (content : Content A) (given : ℕ × Content A) → IsGood content → asked_block owner align n content ≡ Ok given → AreRounded n given.0 given.1
+asked_sized owner None n content given good served = malloc_sized owner n content given served
+asked_sized owner (Some align) n content given good served = memalign_sized owner align n content given good served

@@ -19,27 +19,9 @@ use Rattle.tlsf_heap.proofs.Content.ReallocCases.{realloc_refused}
 use Rattle.tlsf_heap.proofs.Content.Replacing.{blocks_of-replaced}
 use Rattle.tlsf_heap.proofs.Meaning.BlockPositions.{at_most_one}
 use Rattle.tlsf_heap.proofs.Good.Implied.{malloc_full}
-use Rattle.tlsf_heap.proofs.Good.LiveBlocks.{none_stands, stands_first, stands_later, stands_first_or_later}
+use Rattle.tlsf_heap.proofs.Good.LiveBlocks.{none_stands, stands_first, stands_later, stands_first_or_later, elsewhere_or_other}
 
 module _ {A : Type 0} where
-  -- what stands where a block gave way to others is one of these, or stands elsewhere
-  pub elsewhere_or_other : (place : ℕ) (others blocks : List (Block A)) (b : Block A) → Contains (replaced place others blocks) b → (b.place ≢ place) ⊎ Contains others b
-  elsewhere_or_other place others [] b has = none_stands b has
-  elsewhere_or_other place others (block ∷ blocks) b has = elim (cases_Bool (is_at place block)) [
-    | inl here ↦
-        let is : replaced place others (block ∷ blocks) ≡ others ++ replaced place others blocks = rw here refl in
-        elim (Contains-append_cases others (replaced place others blocks) b (subst (λ (xs : List (Block A)). Contains xs b) is has)) [
-          | inl came ↦ inr came
-          | inr rest ↦ elsewhere_or_other place others blocks b rest
-        ]
-    | inr away ↦
-        let is : replaced place others (block ∷ blocks) ≡ block ∷ replaced place others blocks = rw away refl in
-        elim (stands_first_or_later block b (replaced place others blocks) (subst (λ (xs : List (Block A)). Contains xs b) is has)) [
-          | inl same ↦ inl (λ at. let there : is_at place block ≡ true = eq-eqb block.place place (ap (λ (x : Block A). x.place) same ∙ at) in let e : true ≡ false = sym there ∙ away in cc)
-          | inr rest ↦ elsewhere_or_other place others blocks b rest
-        ]
-  ]
-
   -- where a block was freed none is live
   pub freed_elsewhere : (place : ℕ) (content : Content A) (b : Block A) → Contains (blocks_of (after_free place content).pools) b → is_free b ≡ false → b.place ≢ place
   freed_elsewhere place content b has live =

@@ -31,9 +31,9 @@ use Rattle.mtrace_replay.specs.Moment.{ReadLine, Given, Moment, unserved, after_
 use Rattle.mtrace_replay.specs.Entry.{Entry}
 use Rattle.mtrace_replay.specs.Totals.{first_moments}
 use Rattle.mtrace_replay.specs.Enough.{HoldsAtMost, IsNeverRefused, IsNeverFull, act_of}
-use Rattle.mtrace_replay.proofs.AskedBlock.{asked_records}
+use Rattle.mtrace_replay.proofs.AskedBlock.{asked_records, asked_sized}
 use Rattle.mtrace_replay.proofs.FreeAndRealloc.{moved_records}
-use Rattle.mtrace_replay.proofs.GivenSizes.{IsRounded, asked_sized, moved_sized}
+use Rattle.tlsf_heap.proofs.Good.GivenSizes.{IsRounded, moved_sized}
 use Rattle.mtrace_replay.proofs.Moments.{moments-none, moments-line}
 use Rattle.mtrace_replay.proofs.HeldLemmas.{moment_gives}
 use Rattle.mtrace_replay.proofs.PlanLemmas.{Fits, IsNoRefusal, is_planned}
@@ -367,6 +367,13 @@ module _ (Fits : Given → Block (Unit {0}) → Type 0) (content : Bare) (held :
             (was.0, held_still was.0 was.1 left, was.2, was.3)
       ]
 
+-- what is so after any number of lines is so after any number of all but the last
+pub first_but_one : (P : List Moment → Type 0) (moment : Moment) (past : List Moment) → ((k : ℕ) → P (first_moments k (moment ∷ past))) → (k : ℕ) → P (first_moments k past)
+first_but_one P moment past so k = elim (le_or_more k (length past)) [
+  | inl within ↦ subst P (first_moments_before k moment past within) (so k)
+  | inr beyond ↦ subst P (first_moments_before (length past) moment past (omega arith) ∙ first_moments_all past ∙ sym (first_moments_most k past (omega (arith, beyond)))) (so (length past))
+]
+
 -- the heap after lines on one pool
 pub record Stands (start : Bare) (past : List Moment) : Type 0 where
   pub good : IsGood (content_after start past)
@@ -413,25 +420,20 @@ module _ (start : Bare) (good : IsGood start) (free : AreAllFree start) where
       subst (AllByRecursion (IsNeverRefused why)) (sym (moments-line start line past))
       (never_told (IsRefusedAs (act_of start line past) content) why _ (never line past so) leaves.refused, never_refused why So fewer never past (fewer line past so))
 
-  -- what is so after any number of lines is so after any number of all but the last
   pub first_but_last : (P : List Moment → Type 0) (line : ReadLine) (past : List ReadLine) → ((k : ℕ) → P (first_moments k (moments start (line ∷ past)))) → (k : ℕ) → P (first_moments k (moments start past))
-  first_but_last P line past so = before _ (moments start past) (subst (λ (ms : List Moment). (k : ℕ) → P (first_moments k ms)) (moments-line start line past) so)
-    where
-      before : (moment : Moment) (past : List Moment) → ((k : ℕ) → P (first_moments k (moment ∷ past))) → (k : ℕ) → P (first_moments k past)
-      before moment past so k = elim (le_or_more k (length past)) [
-        | inl within ↦ subst P (first_moments_before k moment past within) (so k)
-        | inr beyond ↦ subst P (first_moments_before (length past) moment past (omega arith) ∙ first_moments_all past ∙ sym (first_moments_most k past (omega (arith, beyond)))) (so (length past))
-      ]
+  first_but_last P line past so = first_but_one P _ (moments start past) (subst (λ (ms : List Moment). (k : ℕ) → P (first_moments k ms)) (moments-line start line past) so)
 
   -- there are no more live blocks than addresses held
+  pub few_held : (past : List ReadLine) (all : List Given) → AreHeld all (moments start past) → live_blocks (content_after start (moments start past)) ≤ length all
+  few_held past all are =
+      let stands = stands_all past in
+      few_live (λ (given : Given). given.place) (content_after start (moments start past)) all stands.good (λ b has live. (let own = stands.owns b has live in (own.0, (are.each own.0).1 own.1, own.2)))
+
   pub few_blocks : (most : ℕ) (past : List ReadLine) → HoldsAtMost most (moments start past) → live_blocks (content_after start (moments start past)) ≤ most
   few_blocks most past holds =
       let ms = moments start past in
-      let stands = stands_all past in
       let now = holds (length ms) in
-      let all_held : AreHeld now.0 ms = subst (λ (first : List Moment). AreHeld now.0 first) (first_moments_all ms) now.1 in
-      let few = few_live (λ (given : Given). given.place) (content_after start ms) now.0 stands.good (λ b has live. (let own = stands.owns b has live in (own.0, (all_held.each own.0).1 own.1, own.2))) in
-      omega (arith, few, now.2)
+      omega (arith, few_held past now.0 (subst (λ (first : List Moment). AreHeld now.0 first) (first_moments_all ms) now.1), now.2)
 
   -- where a record is left at each line, each live block has no more bytes than what it is held under
   pub owns_sized : (So : List ReadLine → Type 0) → ((line : ReadLine) (past : List ReadLine) → So (line ∷ past) → So past)

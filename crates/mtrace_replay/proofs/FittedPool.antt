@@ -38,25 +38,30 @@ use Rattle.mtrace_replay.proofs.UnrefusedLemmas.{Answer, bare, bare_act, plain, 
 
 -- ---- what the heap refuses where it has room
 
+-- a good alignment isn't told to be a bad one
+pub never_bad : (align n : ℕ) (content : Bare) → is_alignment align ≡ true → (n == 0) ≡ false → memalign tt align n content ≡ Err BadAlign → ⊥
+never_bad align n content good some refused =
+    let is : memalign tt align n content ≡ memalign_rounded tt align (round n) content = rw (good, some) refl in
+    of_rounded (round n) (sym is ∙ refused)
+  where
+    full_or : (b : Bool) (given : ℕ × Bare) → (let answer : Result (ℕ × Bare) Refusal = cond b (Err TableFull) (Ok given) in answer ≡ Err BadAlign) → ⊥
+    full_or true given is = cc
+    full_or false given is = cc
+
+    of_picked : (m : ℕ) (place : Option ℕ) → memalign_picked tt align m place content ≡ Err BadAlign → ⊥
+    of_picked m None is = cc
+    of_picked m (Some place) is = full_or _ _ is
+
+    of_rounded : (rounded : Option ℕ) → memalign_rounded tt align rounded content ≡ Err BadAlign → ⊥
+    of_rounded None is = cc
+    of_rounded (Some m) is = of_picked m (pick (size_asked align m) content.lists) is
+
 module _ (most bytes size : ℕ) (content : Bare) (enough : IsEnough most bytes size content) (why : Refusal) where
   -- a block at a good alignment
   aligned_fits : (align n : ℕ) → is_alignment align ≡ true → (n == 0) ≡ false → AsksAtMost size (size_asked align) n → memalign tt align n content ≡ Err why → ⊥
   aligned_fits align n good some asks refused =
       let bad : why ≡ BadAlign = aligned_room_serves tt align n content why enough.good (room most bytes size (size_asked align) 2 n content (omega arith) enough asks) refused in
-      let is : memalign tt align n content ≡ memalign_rounded tt align (round n) content = rw (good, some) refl in
-      never_bad (round n) (sym is ∙ refused ∙ ap Err bad)
-    where
-      full_or : (b : Bool) (given : ℕ × Bare) → (let answer : Result (ℕ × Bare) Refusal = cond b (Err TableFull) (Ok given) in answer ≡ Err BadAlign) → ⊥
-      full_or true given is = cc
-      full_or false given is = cc
-
-      picked_bad : (m : ℕ) (place : Option ℕ) → memalign_picked tt align m place content ≡ Err BadAlign → ⊥
-      picked_bad m None is = cc
-      picked_bad m (Some place) is = full_or _ _ is
-
-      never_bad : (rounded : Option ℕ) → memalign_rounded tt align rounded content ≡ Err BadAlign → ⊥
-      never_bad None is = cc
-      never_bad (Some m) is = picked_bad m (pick (size_asked align m) content.lists) is
+      never_bad align n content good some (refused ∙ ap Err bad)
 
   -- a live block is reallocated
   moved_fits : (place n : ℕ) → IsLiveAt place content → (n == 0) ≡ false → AsksAtMost size (λ m. m) n → realloc (λ one other. true) tt (Some (place, tt)) n content ≡ Err why → ⊥
@@ -84,7 +89,7 @@ module _ (most bytes size : ℕ) (content : Bare) (enough : IsEnough most bytes 
 
 -- ---- a line that is refused nothing has no diagnostic that is a refusal
 
-no_refusal : (answers : Refusal → Type 0) (diagnostics : List Diagnostic) → AreRefusals answers diagnostics → ((why : Refusal) → answers why → ⊥) → list_any (λ (d : Diagnostic). is_refusal d.kind) diagnostics ≡ false
+pub no_refusal : (answers : Refusal → Type 0) (diagnostics : List Diagnostic) → AreRefusals answers diagnostics → ((why : Refusal) → answers why → ⊥) → list_any (λ (d : Diagnostic). is_refusal d.kind) diagnostics ≡ false
 no_refusal answers [] refusals never = refl
 no_refusal answers (d ∷ more) refusals never =
     by_kind d.kind refl ∙ no_refusal answers more refusals.1 never
@@ -133,7 +138,7 @@ module _ (one other : List Moment) (same : map plain one ≡ map plain other) wh
   look_alike : bare_look one ≡ bare_look other
   look_alike = fun_ext (λ address. sym (held_plain one address) ∙ ap (λ (ms : List Moment). held ms address) same ∙ held_plain other address)
 
-act_bare : (number : ℕ) (line : ReadLine) (pending : Option ℕ) (look : ℕ → Option Given) → bare_act (plan number line pending (λ a. bare (look a))).act ≡ bare_act (plan number line pending look).act
+pub act_bare : (number : ℕ) (line : ReadLine) (pending : Option ℕ) (look : ℕ → Option Given) → bare_act (plan number line pending (λ a. bare (look a))).act ≡ bare_act (plan number line pending look).act
 act_bare number line pending look = ap (λ (planned : Plan). planned.act) (planned_bare number line pending look)
 
 of_bare : (size : ℕ) (act : Act) → IsOfAtMost size act → IsOfAtMost size (bare_act act)

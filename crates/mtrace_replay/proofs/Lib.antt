@@ -13,7 +13,6 @@ mod FittedPool
 mod FollowingLemmas
 mod FoundLemmas
 mod GapLemmas
-mod GivenSizes
 mod HeapSteps
 mod HeldBytes
 mod HeldFew
@@ -46,6 +45,8 @@ mod SizePartsLemmas
 mod SlotLemmas
 mod SortedLemmas
 mod OneLineMore
+mod OneSizeLog
+mod OneSizeRows
 mod StartLemmas
 mod StartSteps
 mod StepLemmas

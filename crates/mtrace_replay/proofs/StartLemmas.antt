@@ -9,6 +9,7 @@ use Rattle.tlsf_heap.specs.Room.{pool_bytes}
 use Rattle.tlsf_heap.specs.Pools.{most_pools, most_records, end_of_places, add_pool, with_pool, is_apart, can_be_pool, in_order_of_base, created}
 use Rattle.mtrace_replay.specs.declared.settings.Settings.{Settings}
 use Rattle.mtrace_replay.specs.Settings.{are_bad}
+use Rattle.mtrace_replay.specs.Fit.{one_pool}
 use Rattle.tlsf_heap.proofs.Content.PoolCases.{pool_is_added}
 use Rattle.mtrace_replay.specs.Started.{Bare, with_pools, left_by, started}
 use Rattle.std.proofs.lemmas.Bool.{ltb-false, lt-ltb, le-leb, lt-leb, eqb-true, eq-eqb, ne_eqb}
@@ -143,3 +144,11 @@ started_room settings h = omega (arith, (is_started settings h).records)
 -- and of the bytes that they say
 pub started_bytes : (settings : Settings) → are_bad settings ≡ false → pool_bytes (started settings).pools ≡ settings.pools * settings.pool
 started_bytes settings h = omega (arith, (is_started settings h).bytes)
+
+-- a heap of one pool starts as the pool was added
+pub one_pool_added : (pool records : ℕ) → are_bad (one_pool pool records) ≡ false → add_pool (0 * pool) pool (created records) ≡ Ok (started (one_pool pool records))
+unfolding started
+one_pool_added pool records h =
+    let settings = one_pool pool records in
+    let added = is_added settings (are_good settings h) 0 (created records) (record { above = tt; count = omega arith; used = refl; records = refl; bytes = omega arith }) in
+    added ∙ ap Ok (sym (ap (left_by (created records)) added))

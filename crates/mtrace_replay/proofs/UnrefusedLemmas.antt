@@ -4,6 +4,7 @@ use Rattle.std.proofs.Common.{◌≡◌, ℕ, zero, suc, ◌-◌, Bool, true, fa
 use Rattle.std.specs.Prelude.{◌==◌, count_by, is_some, option_map, unwrap_or, nat_lt, ⊤}
 use Rattle.std.specs.List.{Contains, list_any}
 use Rattle.std.proofs.lemmas.Bool.{cases_Bool, eqb-true}
+use Rattle.std.proofs.lemmas.List.{length-map}
 use Rattle.std.specs.List.Sorted.{IsStrictlyIncreasing}
 use Rattle.mtrace_log.specs.declared.event.Event.TheVariants.{Alloc, Free, New, Aligned}
 use Rattle.mtrace_log.specs.declared.event.LineFault.TheVariants as fault
@@ -88,7 +89,7 @@ planned_bare number (Ok (Free at address)) pending look = released_bare number a
 planned_bare number (Ok (New at address size)) pending look = renewed_bare (record { addr = address; size = size; line = number; at = at }) pending look
 planned_bare number (Ok _) pending look = refl
 
-served_bare : (act : Act) → served (bare_act act) ≡ served act
+pub served_bare : (act : Act) → served (bare_act act) ≡ served act
 served_bare idle = refl
 served_bare (give entry align) = refl
 served_bare (take address place) = refl
@@ -324,6 +325,9 @@ module _ (past : List Moment) where
 
     pub entries_back : entries_of (map placed all) ≡ entries_of all
     entries_back = entries_placed all each_is
+
+    pub length_back : length (map placed all) ≡ length all
+    length_back = length-map all placed
 
     pub held_back : AreHeld (map placed all) past
     held_back =

@@ -51,3 +51,4 @@ pub mod CountedReplay
 pub mod Cuts
 pub mod RunParts
 pub mod PartsText
+pub mod OneSize

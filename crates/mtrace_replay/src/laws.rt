@@ -1,7 +1,9 @@
 //! Laws of the definitions, each the contract of a function that does nothing.
 
-ghost use Rattle.std.specs.Prelude.{◌≡◌, ◌==◌, ◌↔◌, ◌+◌, ◌-◌, ◌*◌, ◌<◌, ◌≤◌, ℕ, Bool, false, List, length, reverse, take, Some};
-ghost use Rattle.tlsf_heap.specs.Sizing.{sure_records, sure_pool};
+ghost use Rattle.std.specs.Prelude.{◌≡◌, ◌==◌, ◌↔◌, ◌+◌, ◌-◌, ◌*◌, ◌<◌, ◌≤◌, ℕ, Bool, false, List, length, map, reverse, take, Some};
+ghost use Rattle.tlsf_heap.specs.Sizing.{class_size, sure_records, sure_pool};
+ghost use Rattle.tlsf_heap.specs.OneSize.{HasRecords};
+ghost use Rattle.mtrace_replay.specs.OneSize.{AsksForSize, rounded_up, served_acts};
 ghost use Rattle.tlsf_class.specs.Classes.{unit};
 ghost use Rattle.tlsf_heap.specs.declared.refusal.Refusal.TheVariants.{NoFit, TableFull};
 ghost use Rattle.mtrace_replay.specs.declared.settings.Settings.{Settings};
@@ -128,4 +130,15 @@ pub fn sure_pool_serves_the_log()
     ensures { (settings : Settings) (pool records most bytes size : ℕ) (lines : List ReadLine) → refusals settings lines ≡ 0
         → HoldsAtMost most (history settings lines) → HoldsBytesAtMost bytes (history settings lines) → AllByRecursion (IsOfAtMost size) (acts_of (started settings) (reverse lines))
         → sure_pool most bytes (Some size) ≡ Some pool → are_bad (one_pool pool records) ≡ false → sure_records most ≤ records → refusals (one_pool pool records) lines ≡ 0 }
+{}
+
+/// A log that asks for blocks of one size alone, the lowest of a class, is refused nothing on one pool, where three things hold. The
+/// pool has at least the bytes of `blocks` of them. The heap has records for as many such blocks as have the bytes of the pool, or
+/// two for each of the `blocks`. Without a heap, at most `blocks` addresses are held after any number of lines. So it is for any log
+/// whose requests are each rounded up to that size (`rounded_up`), as those at a heap by size are.
+pub fn one_size_serves_the_log()
+    ensures asked { (blocks size pool records : ℕ) (lines : List ReadLine) → class_size 1 size ≡ Some size → AllByRecursion (AsksForSize size) (served_acts (reverse lines))
+        → HoldsAtMost blocks (served_history lines) → are_bad (one_pool pool records) ≡ false → blocks * size ≤ pool → HasRecords blocks size pool records → refusals (one_pool pool records) lines ≡ 0 }
+    ensures rounded { (blocks size pool records : ℕ) (lines : List ReadLine) → class_size 1 size ≡ Some size
+        → HoldsAtMost blocks (served_history (map (rounded_up size) lines)) → are_bad (one_pool pool records) ≡ false → blocks * size ≤ pool → HasRecords blocks size pool records → refusals (one_pool pool records) (map (rounded_up size) lines) ≡ 0 }
 {}

@@ -13,3 +13,5 @@ pub mod Realloc
 pub mod StaysLive
 pub mod AlignedStaysLive
 pub mod LiveBlocks
+pub mod GivenSizes
+pub mod LastAsked

@@ -3,4 +3,5 @@ mod Heap
 mod Run
 mod Sizing
 mod OneSize
+mod LastAsked
 mod Pools

@@ -25,6 +25,7 @@ pub mod Implied
 pub mod Room
 pub mod Within
 pub mod OneSize
+pub mod LastAsked
 pub mod Sizing
 pub mod Inner
 pub mod Images

@@ -16,6 +16,8 @@ ghost use Rattle.tlsf_heap.specs.Run.{Run};
 ghost use Rattle.tlsf_heap.specs.Sizing.{class_size, most_refusing, sure_pool, sure_records};
 ghost use Rattle.tlsf_heap.specs.Within.{AsksAtMost, IsLargeEnough, IsNotFull, StaysWithin, TakesWithin};
 ghost use Rattle.tlsf_heap.specs.OneSize.{HasRecords, StaysOfSize};
+ghost use Rattle.tlsf_heap.specs.Implied.{live_blocks};
+ghost use Rattle.tlsf_heap.specs.LastAsked.{AreAsAsked, last_asked};
 
 use crate::Heaped;
 
@@ -73,4 +75,12 @@ pub fn a_record_left_serves()
 pub fn blocks_of_one_size_find_room<H: Heaped>()
     ensures { (blocks size records base pool : ℕ) (requests : List Request) (answers : List Answer) (old new : Content ℕ) (before after : ℕ) (run : Run H.lacks requests answers old new before after)
         → add_pool base pool (created records) ≡ Ok old → class_size 1 size ≡ Some size → blocks * size ≤ pool → HasRecords blocks size pool records → StaysOfSize blocks size H.lacks requests answers old new before after run → All IsNotFull answers }
+{}
+
+/// A live block has the size of what was last asked for, rounded up, where a run stays within the bounds and the heap that it
+/// starts on, with no block live, is large enough for these. So a program that knows what it asked for knows how many bytes its
+/// live blocks have.
+pub fn live_blocks_are_as_asked<H: Heaped>()
+    ensures { (blocks bytes size : ℕ) (requests : List Request) (answers : List Answer) (old new : Content ℕ) (before after : ℕ) (run : Run H.lacks requests answers old new before after)
+        → IsGood old → IsLargeEnough blocks bytes size old → live_blocks old ≡ 0 → StaysWithin blocks bytes size H.lacks requests answers old new before after run → AreAsAsked (last_asked requests answers) new }
 {}

@@ -1,5 +1,5 @@
 -- Each live block after a call was one before it, or begins where the call gave one; and the live block that a test tells.
-use Rattle.std.proofs.Common.{◌≡◌, ℕ, ◌+◌, ◌-◌, ◌≤◌, Bool, true, false, ◌&&◌, List, [], ◌∷◌, map, refl, sym, ap, ◌∙◌, subst, arith, Option, Some, None, Ok, ◌⊎◌, inl, inr}
+use Rattle.std.proofs.Common.{◌≡◌, ◌≢◌, ℕ, ◌+◌, ◌-◌, ◌≤◌, Bool, true, false, ◌&&◌, List, [], ◌∷◌, ◌++◌, map, refl, sym, ap, ◌∙◌, subst, arith, Option, Some, None, Ok, ◌⊎◌, inl, inr}
 use Rattle.std.specs.Prelude.{◌==◌}
 use Rattle.std.specs.Int.{next_multiple_of}
 use Rattle.std.specs.List.{Contains, list_any}
@@ -61,6 +61,24 @@ module _ {A : Type 0} where
               | inr rest ↦ later rest
             ]
       ]
+
+  -- what stands where a block gave way to others is one of these, or stands elsewhere
+  pub elsewhere_or_other : (place : ℕ) (others blocks : List (Block A)) (b : Block A) → Contains (replaced place others blocks) b → (b.place ≢ place) ⊎ Contains others b
+  elsewhere_or_other place others [] b has = none_stands b has
+  elsewhere_or_other place others (block ∷ blocks) b has = elim (cases_Bool (is_at place block)) [
+    | inl here ↦
+        let is : replaced place others (block ∷ blocks) ≡ others ++ replaced place others blocks = rw here refl in
+        elim (Contains-append_cases others (replaced place others blocks) b (subst (λ (xs : List (Block A)). Contains xs b) is has)) [
+          | inl came ↦ inr came
+          | inr rest ↦ elsewhere_or_other place others blocks b rest
+        ]
+    | inr away ↦
+        let is : replaced place others (block ∷ blocks) ≡ block ∷ replaced place others blocks = rw away refl in
+        elim (stands_first_or_later block b (replaced place others blocks) (subst (λ (xs : List (Block A)). Contains xs b) is has)) [
+          | inl same ↦ inl (λ at. let there : is_at place block ≡ true = eq-eqb block.place place (ap (λ (x : Block A). x.place) same ∙ at) in let e : true ≡ false = sym there ∙ away in cc)
+          | inr rest ↦ elsewhere_or_other place others blocks b rest
+        ]
+  ]
 
   pub from_replaced_in : (place : ℕ) (others : List (Block A)) (pools : List (Pool A)) (b : Block A) → Contains (blocks_of (map (replaced_in place others) pools)) b → Contains (blocks_of pools) b ⊎ Contains others b
   from_replaced_in place others pools b has = from_replaced place others (blocks_of pools) b (subst (λ (xs : List (Block A)). Contains xs b) (blocks_of-replaced place others pools) has)

@@ -32,8 +32,8 @@ use Rattle.tlsf_heap.specs.Run.{IsRefused, Step, Run}
 use Rattle.tlsf_heap.specs.Within.{IsNotFull}
 use Rattle.tlsf_heap.specs.OneSize.{HasRecords, TakesOne, IsOfSize, StaysOfSize}
 use Rattle.tlsf_heap.proofs.Content.Given.{malloc_gave, free_gave}
-use Rattle.tlsf_heap.proofs.Content.MallocCases.{IsPicked, split_there, malloc_cases}
-use Rattle.tlsf_heap.proofs.Content.MemalignCases.{few_gap, used_aligned, IsPicked as IsPickedAligned, split_aligned_of, memalign_cases, memalign_given}
+use Rattle.tlsf_heap.proofs.Content.MallocCases.{IsPicked, split_there, malloc_cases, malloc_reasons}
+use Rattle.tlsf_heap.proofs.Content.MemalignCases.{few_gap, used_aligned, IsPicked as IsPickedAligned, split_aligned_of, memalign_cases, memalign_given, memalign_reasons}
 use Rattle.tlsf_heap.proofs.Content.ReallocCases.{realloc_freed, realloc_resized, sized_same, realloc_reasons}
 use Rattle.tlsf_heap.proofs.Counts.{count-append}
 use Rattle.tlsf_heap.proofs.Good.Cut.{at_base, IsCut, AreCut, gap_cut, found_at, allocated_cut, cut_stands, freed_cut, is_larger, sizes_more, sizes_least}
@@ -59,23 +59,32 @@ pub record IsLowest (size : ℕ) : Type 0 where
   pub c : ℕ
   pub needed : need size ≡ Some c
   pub sized : low c ≡ size
+  pub rounds : round size ≡ Some size
+
+-- a size that is rounded to has bytes
+pub positive : (size n : ℕ) → round n ≡ Some size → 0 < size
+positive size n rounds = let is = round-Some n size rounds in omega (arith, is.least, is.some)
+
+-- at an alignment of at most the unit no more is asked of the lists
+size_asked_within : (align m : ℕ) → align ≤ unit → size_asked align m ≡ m
+size_asked_within align m few = ap (λ b. cond b m ((m + align) - unit)) (le-leb align unit few)
 
 -- the bytes of one pool, by its blocks
-module _ (size base : ℕ) (some : 0 < size) where
+module _ {A : Type 0} (size base : ℕ) (some : 0 < size) where
   -- where each free block is smaller than the size, there are fewer than in one block more than the live ones
-  bytes_least : (from : ℕ) (pools : List (Pool ℕ)) → length pools ≡ 1 → AreGoodPools from pools → AreCut size base (blocks_of pools) → AllByRecursion (λ block. IsTrue (is_free block) → block.size < size) (blocks_of pools)
+  bytes_least : (from : ℕ) (pools : List (Pool A)) → length pools ≡ 1 → AreGoodPools from pools → AreCut size base (blocks_of pools) → AllByRecursion (λ block. IsTrue (is_free block) → block.size < size) (blocks_of pools)
       → pool_bytes pools < count_by (λ block. not (is_free block)) (blocks_of pools) * size + size
   bytes_least from [] one g all below = absurd (omega (arith, one))
   bytes_least from (pool ∷ []) one g all below =
-      let used : Block ℕ → Bool = λ block. not (is_free block) in
-      let Below : Block ℕ → Type 0 = λ block. IsTrue (is_free block) → block.size < size in
+      let used : Block A → Bool = λ block. not (is_free block) in
+      let Below : Block A → Type 0 = λ block. IsTrue (is_free block) → block.size < size in
       let least = sizes_least size base pool.base (pool.base + pool.bytes) pool.blocks some g.1.covered (front_of (IsCut size base) pool.blocks [] all) (front_of Below pool.blocks [] below) in
       let counts : count_by used (pool.blocks ++ []) * size ≡ (count_by used pool.blocks + 0) * size = ap (λ n. n * size) (count-append used pool.blocks []) in
       omega (arith, least, counts, add_product (count_by used pool.blocks) 0 size)
   bytes_least from (pool ∷ other ∷ pools) one g all below = absurd (omega (arith, one))
 
   -- where a block is larger, there are more than as many blocks of the size have
-  bytes_more : (from : ℕ) (pools : List (Pool ℕ)) → length pools ≡ 1 → AreGoodPools from pools → AreCut size base (blocks_of pools) → 1 ≤ count_by (is_larger size base) (blocks_of pools) → length (blocks_of pools) * size < pool_bytes pools
+  bytes_more : (from : ℕ) (pools : List (Pool A)) → length pools ≡ 1 → AreGoodPools from pools → AreCut size base (blocks_of pools) → 1 ≤ count_by (is_larger size base) (blocks_of pools) → length (blocks_of pools) * size < pool_bytes pools
   bytes_more from [] one g all larger = absurd (omega (arith, one))
   bytes_more from (pool ∷ []) one g all larger =
       let more = sizes_more size base pool.base (pool.base + pool.bytes) pool.blocks some g.1.covered (front_of (IsCut size base) pool.blocks [] all) (omega (arith, larger, count-append (is_larger size base) pool.blocks [])) in
@@ -83,18 +92,18 @@ module _ (size base : ℕ) (some : 0 < size) where
       omega (arith, more, counts, add_product (length pool.blocks) 0 size)
   bytes_more from (pool ∷ other ∷ pools) one g all larger = absurd (omega (arith, one))
 
-module _ (blocks size base : ℕ) where
+module _ {A : Type 0} (blocks size base : ℕ) where
   -- A good content of one pool, whose blocks each begin a whole multiple of the size behind its base, and are of the size where they
   -- are live. The pool has the bytes of `blocks` such blocks. There are as many records as blocks of the size have its bytes, or two
   -- for each of the `blocks`.
-  pub record IsForSize (content : Content ℕ) : Type 0 where
+  pub record IsForSize (content : Content A) : Type 0 where
     pub good : IsGood content
     pub cut : AreCut size base (blocks_of content.pools)
     pub one : length content.pools ≡ 1
     pub bytes : blocks * size ≤ pool_bytes content.pools
     pub records : HasRecords blocks size (pool_bytes content.pools) content.records
 
-  still_for : (old new : Content ℕ) → IsForSize old → IsGood new → AreCut size base (blocks_of new.pools) → Keeps old new → IsForSize new
+  still_for : (old new : Content A) → IsForSize old → IsGood new → AreCut size base (blocks_of new.pools) → Keeps old new → IsForSize new
   still_for old new is good cut keeps = record {
     good = good;
     cut = cut;
@@ -103,19 +112,16 @@ module _ (blocks size base : ℕ) where
     records = subst (HasRecords blocks size (pool_bytes new.pools)) (sym keeps.records) (subst (λ bytes. HasRecords blocks size bytes old.records) (sym keeps.bytes) is.records);
   }
 
-  positive : (n : ℕ) → round n ≡ Some size → 0 < size
-  positive n rounds = let is = round-Some n size rounds in omega (arith, is.least, is.some)
-
   -- not each free block is too small, where fewer blocks are live
-  one_fits : (lowest : IsLowest size) (content : Content ℕ) → IsForSize content → 0 < size → live_blocks content < blocks → AreFreeBelow (low lowest.c) (blocks_of content.pools) → ⊥
+  one_fits : (lowest : IsLowest size) (content : Content A) → IsForSize content → 0 < size → live_blocks content < blocks → AreFreeBelow (low lowest.c) (blocks_of content.pools) → ⊥
   one_fits lowest content is some few below =
-      let Below : ℕ → Type 0 = λ bound. AllByRecursion (λ (block : Block ℕ). is_free block ≡ true → block.size < bound) (blocks_of content.pools) in
-      let all = subst Below lowest.sized (recursion_from_All (λ (block : Block ℕ). is_free block ≡ true → block.size < low lowest.c) (blocks_of content.pools) below) in
+      let Below : ℕ → Type 0 = λ bound. AllByRecursion (λ (block : Block A). is_free block ≡ true → block.size < bound) (blocks_of content.pools) in
+      let all = subst Below lowest.sized (recursion_from_All (λ (block : Block A). is_free block ≡ true → block.size < low lowest.c) (blocks_of content.pools) below) in
       let least = bytes_least size base some 0 content.pools is.one is.good.pools_good is.cut all in
       omega (arith, least, is.bytes, product_le (1 + live_blocks content) blocks size (omega (arith, few)), add_product 1 (live_blocks content) size)
 
   -- where a larger block was picked there is a record for the rest
-  one_left : (content : Content ℕ) → IsForSize content → 0 < size → live_blocks content < blocks → 1 ≤ count_by (is_larger size base) (blocks_of content.pools) → used_records content < content.records
+  one_left : (content : Content A) → IsForSize content → 0 < size → live_blocks content < blocks → 1 ≤ count_by (is_larger size base) (blocks_of content.pools) → used_records content < content.records
   one_left content is some few larger = elim is.records [
     | inl as_many ↦ elim (cases_lt (used_records content) content.records) [
       | inl less ↦ less
@@ -124,17 +130,17 @@ module _ (blocks size base : ℕ) where
     | inr twice ↦ omega (arith, few_blocks content.pools 0 is.good.pools_good, is.one, few, twice)
   ]
 
-  picked_larger : (content : Content ℕ) → IsForSize content → (place : ℕ) → pick size content.lists ≡ Some place → size < size_at place (blocks_of content.pools) → 1 ≤ count_by (is_larger size base) (blocks_of content.pools)
+  picked_larger : (content : Content A) → IsForSize content → (place : ℕ) → pick size content.lists ≡ Some place → size < size_at place (blocks_of content.pools) → 1 ≤ count_by (is_larger size base) (blocks_of content.pools)
   picked_larger content is place found larger =
       let there = picked size place content is.good found in
       found_stands (is_larger size base) place (blocks_of content.pools) there.found (lt-ltb size there.found.block.size (omega (arith, larger, there.size_is)))
 
   -- malloc finds a block and a record
-  malloc_fits : IsLowest size → (owner n : ℕ) (content : Content ℕ) → IsForSize content → TakesOne blocks size n content → malloc owner n content ≡ Err NoFit → ⊥
+  malloc_fits : IsLowest size → (owner : A) (n : ℕ) (content : Content A) → IsForSize content → TakesOne blocks size n content → malloc owner n content ≡ Err NoFit → ⊥
   malloc_fits lowest owner n content is takes refused =
-      one_fits lowest content is (positive n takes.rounds) takes.few (no_fit owner n content is.good refused size lowest.c takes.rounds lowest.needed)
+      one_fits lowest content is (positive size n takes.rounds) takes.few (no_fit owner n content is.good refused size lowest.c takes.rounds lowest.needed)
 
-  malloc_recorded : (owner n : ℕ) (content : Content ℕ) → IsForSize content → n ≢ 0 → TakesOne blocks size n content → malloc owner n content ≡ Err TableFull → ⊥
+  malloc_recorded : (owner : A) (n : ℕ) (content : Content A) → IsForSize content → n ≢ 0 → TakesOne blocks size n content → malloc owner n content ≡ Err TableFull → ⊥
   malloc_recorded owner n content is some takes refused =
       malloc_cases owner content n (λ r. r ≡ Err TableFull → ⊥) (λ nothing e. absurd (cc)) (λ more none e. absurd (cc)) (λ p used e. full p used) (λ p e. absurd (cc)) refused
     where
@@ -144,7 +150,7 @@ module _ (blocks size base : ℕ) where
           let found : pick size content.lists ≡ Some p.place = ap (λ m. pick m content.lists) (sym same) ∙ p.found in
           elim (cases_Bool (nat_lt size (size_at p.place (blocks_of content.pools)))) [
             | inl larger ↦
-                omega (arith, used, one_left content is (positive n takes.rounds) takes.few (picked_larger content is p.place found (ltb-true _ _ larger)))
+                omega (arith, used, one_left content is (positive size n takes.rounds) takes.few (picked_larger content is p.place found (ltb-true _ _ larger)))
             | inr whole ↦
                 let asked : malloc owner n content ≡ malloc_rounded owner (round n) content = rw (ne_eqb n 0 some) refl in
                 let sized : malloc_rounded owner (round n) content ≡ malloc_rounded owner (Some size) content = ap (λ m. malloc_rounded owner m content) takes.rounds in
@@ -153,28 +159,25 @@ module _ (blocks size base : ℕ) where
           ]
 
   -- who is given a block asked for bytes
-  some_served : (owner n : ℕ) (content : Content ℕ) (given : ℕ × Content ℕ) → malloc owner n content ≡ Ok given → n ≢ 0
+  some_served : (owner : A) (n : ℕ) (content : Content A) (given : ℕ × Content A) → malloc owner n content ≡ Ok given → n ≢ 0
   some_served owner n content given served nothing = let gave = malloc_gave owner content n given served in absurd (omega (arith, (round-Some n gave.0 gave.2).some, nothing))
 
   -- what malloc leaves
-  malloc_cut : (owner n : ℕ) (content : Content ℕ) (given : ℕ × Content ℕ) → IsGood content → AreCut size base (blocks_of content.pools) → round n ≡ Some size → malloc owner n content ≡ Ok given → AreCut size base (blocks_of given.1.pools)
+  malloc_cut : (owner : A) (n : ℕ) (content : Content A) (given : ℕ × Content A) → IsGood content → AreCut size base (blocks_of content.pools) → round n ≡ Some size → malloc owner n content ≡ Ok given → AreCut size base (blocks_of given.1.pools)
   malloc_cut owner n content given good cut rounds served =
       let gave = malloc_gave owner content n given served in
       let same : gave.0 ≡ size = cc (gave.2, rounds) in
       let found : pick size content.lists ≡ Some gave.1 = ap (λ m. pick m content.lists) (sym same) ∙ gave.3 in
-      let P : ℕ × Content ℕ → Type 0 = λ g. AreCut size base (blocks_of g.1.pools) in
+      let P : ℕ × Content A → Type 0 = λ g. AreCut size base (blocks_of g.1.pools) in
       subst P (ap (λ m. split_there owner content m gave.1) (sym same) ∙ gave.4) (allocated_cut size base owner gave.1 content cut (found_at size base gave.1 (blocks_of content.pools) cut (picked size gave.1 content good found).found))
 
   -- at an alignment of at most the unit a block begins where the one picked does
-  size_asked_within : (align m : ℕ) → align ≤ unit → size_asked align m ≡ m
-  size_asked_within align m few = ap (λ b. cond b m ((m + align) - unit)) (le-leb align unit few)
-
-  starts_there : (align n owner : ℕ) (content : Content ℕ) → IsGood content → align ≤ unit → (p : IsPickedAligned owner align n content) → next_multiple_of p.place align ≡ p.place
+  starts_there : (align n : ℕ) (owner : A) (content : Content A) → IsGood content → align ≤ unit → (p : IsPickedAligned owner align n content) → next_multiple_of p.place align ≡ p.place
   starts_there align n owner content good few p =
       let start = (can_split_aligned align p.asked p.place content good p.is p.found).start in
       omega (arith, start.begins, start.fits, size_asked_within align p.asked few)
 
-  memalign_cut : (owner align n : ℕ) (content : Content ℕ) (given : ℕ × Content ℕ) → IsGood content → AreCut size base (blocks_of content.pools) → align ≤ unit → round n ≡ Some size → memalign owner align n content ≡ Ok given → AreCut size base (blocks_of given.1.pools)
+  memalign_cut : (owner : A) (align n : ℕ) (content : Content A) (given : ℕ × Content A) → IsGood content → AreCut size base (blocks_of content.pools) → align ≤ unit → round n ≡ Some size → memalign owner align n content ≡ Ok given → AreCut size base (blocks_of given.1.pools)
   memalign_cut owner align n content given good cut few rounds served =
       let gave = memalign_given owner align n content given served in
       let p : IsPickedAligned owner align n content = gave.0 in
@@ -183,16 +186,16 @@ module _ (blocks size base : ℕ) where
       let there = starts_there align n owner content good few p in
       let is : split_aligned_of owner align n content p ≡ (split_there owner content size p.place).1 =
       ap (λ start. aligned owner start p.asked p.place bytes content) there ∙ ap (λ m. aligned owner p.place m p.place bytes content) same ∙ aligned_here owner size p.place bytes content in
-      let P : Content ℕ → Type 0 = λ left. AreCut size base (blocks_of left.pools) in
-      subst (λ (g : ℕ × Content ℕ). P g.1) gave.1 (subst P (sym is) (allocated_cut size base owner p.place content cut (found_at size base p.place (blocks_of content.pools) cut (can_split_aligned align p.asked p.place content good p.is p.found).picked.found)))
+      let P : Content A → Type 0 = λ left. AreCut size base (blocks_of left.pools) in
+      subst (λ (g : ℕ × Content A). P g.1) gave.1 (subst P (sym is) (allocated_cut size base owner p.place content cut (found_at size base p.place (blocks_of content.pools) cut (can_split_aligned align p.asked p.place content good p.is p.found).picked.found)))
 
   -- memalign finds a block and a record, too
-  memalign_fits : IsLowest size → (owner align n : ℕ) (content : Content ℕ) → IsForSize content → align ≤ unit → TakesOne blocks size n content → memalign owner align n content ≡ Err NoFit → ⊥
+  memalign_fits : IsLowest size → (owner : A) (align n : ℕ) (content : Content A) → IsForSize content → align ≤ unit → TakesOne blocks size n content → memalign owner align n content ≡ Err NoFit → ⊥
   memalign_fits lowest owner align n content is few takes refused =
       let needed : need (size_asked align size) ≡ Some lowest.c = ap need (size_asked_within align size few) ∙ lowest.needed in
-      one_fits lowest content is (positive n takes.rounds) takes.few (aligned_no_fit owner align n content is.good refused size lowest.c takes.rounds needed)
+      one_fits lowest content is (positive size n takes.rounds) takes.few (aligned_no_fit owner align n content is.good refused size lowest.c takes.rounds needed)
 
-  memalign_recorded : (owner align n : ℕ) (content : Content ℕ) → IsForSize content → align ≤ unit → TakesOne blocks size n content → memalign owner align n content ≡ Err TableFull → ⊥
+  memalign_recorded : (owner : A) (align n : ℕ) (content : Content A) → IsForSize content → align ≤ unit → TakesOne blocks size n content → memalign owner align n content ≡ Err TableFull → ⊥
   memalign_recorded owner align n content is few takes =
       memalign_cases owner align n content (λ r. r ≡ Err TableFull → ⊥) (λ e. absurd (cc)) (λ nothing e. absurd (cc)) (λ none e. absurd (cc)) (λ p over e. full p over) (λ p room e. absurd (cc))
     where
@@ -208,55 +211,85 @@ module _ (blocks size base : ℕ) where
           let used = used_aligned owner start p.asked p.place bytes content (picked size p.place content is.good found).found in
           let back : ℕ = (bytes - (start - p.place)) - p.asked in
           elim (cases_lt size bytes) [
-            | inl larger ↦ omega (arith, over, used, front, few_gap back, one_left content is (positive n takes.rounds) takes.few (picked_larger content is p.place found larger))
+            | inl larger ↦ omega (arith, over, used, front, few_gap back, one_left content is (positive size n takes.rounds) takes.few (picked_larger content is p.place found larger))
             | inr whole ↦
                 let nothing : back ≡ 0 = omega (arith, whole, same) in
                 let none : gap_records back ≡ 0 = ap gap_records nothing in
                 omega (arith, over, used, front, none, is.good.blocks_few)
           ]
 
+  -- what each call leaves is for the size still
+  pub malloc_for : (owner : A) (n : ℕ) (content : Content A) (given : ℕ × Content A) → IsForSize content → round n ≡ Some size → malloc owner n content ≡ Ok given → IsForSize given.1
+  malloc_for owner n content given is rounds served =
+      still_for content given.1 is (malloc_is_good owner n content given is.good served) (malloc_cut owner n content given is.good is.cut rounds served) (malloc_keeps owner n content given served)
+
+  pub memalign_for : (owner : A) (align n : ℕ) (content : Content A) (given : ℕ × Content A) → IsForSize content → align ≤ unit → round n ≡ Some size → memalign owner align n content ≡ Ok given → IsForSize given.1
+  memalign_for owner align n content given is few rounds served =
+      still_for content given.1 is (memalign_is_good owner align n content given is.good served) (memalign_cut owner align n content given is.good is.cut few rounds served) (memalign_keeps owner align n content given served)
+
+  pub freed_for : (meant : A → Bool) (place : ℕ) (content : Content A) → IsForSize content → is_live meant place (blocks_of content.pools) ≡ true → IsForSize (after_free place content)
+  freed_for meant place content is live =
+      still_for content (after_free place content) is (freed_is_good meant place content is.good live) (freed_cut size base meant place content live is.cut) (freed_keeps place content)
+
   -- a live block has the size
-  live_size : (meant : ℕ → Bool) (place : ℕ) (content : Content ℕ) → IsGood content → AreCut size base (blocks_of content.pools) → is_live meant place (blocks_of content.pools) ≡ true → size ≡ size_at place (blocks_of content.pools)
+  live_size : (meant : A → Bool) (place : ℕ) (content : Content A) → IsGood content → AreCut size base (blocks_of content.pools) → is_live meant place (blocks_of content.pools) ≡ true → size ≡ size_at place (blocks_of content.pools)
   live_size meant place content good cut live =
       let here = live_here meant place content live in
       sym ((cut_stands size base (blocks_of content.pools) here.0 cut here.1).live here.3) ∙ size_here place content here.0 good here.1 here.2
 
   -- so a live block stays as it is
-  realloc_kept : (owner place known n : ℕ) (content : Content ℕ) → IsGood content → AreCut size base (blocks_of content.pools) → is_live (λ other. are_same other known) place (blocks_of content.pools) ≡ true → n ≢ 0 → round n ≡ Some size
-      → realloc are_same owner (Some (place, known)) n content ≡ Ok (Some (place, known), content)
-  realloc_kept owner place known n content good cut live some rounds =
-      realloc_resized are_same owner known place n size content live some rounds ∙ sized_same owner known place size content (live_size (λ other. are_same other known) place content good cut live)
+  pub realloc_kept : (same : A → A → Bool) (owner : A) (place : ℕ) (known : A) (n : ℕ) (content : Content A) → IsGood content → AreCut size base (blocks_of content.pools) → is_live (λ other. same other known) place (blocks_of content.pools) ≡ true → n ≢ 0 → round n ≡ Some size
+      → realloc same owner (Some (place, known)) n content ≡ Ok (Some (place, known), content)
+  realloc_kept same owner place known n content good cut live some rounds =
+      realloc_resized same owner known place n size content live some rounds ∙ sized_same owner known place size content (live_size (λ other. same other known) place content good cut live)
 
-  realloc_fits : (why : Refusal) → IsWant why → (owner place known n : ℕ) (content : Content ℕ) → IsForSize content → (IsTrue (is_live (λ other. are_same other known) place (blocks_of content.pools)) → n ≢ 0 → round n ≡ Some size) → realloc are_same owner (Some (place, known)) n content ≡ Err why → ⊥
-  realloc_fits why want owner place known n content is rounds refused = elim (cases_Bool (is_live (λ other. are_same other known) place (blocks_of content.pools))) [
-    | inr stale ↦ let bad : realloc are_same owner (Some (place, known)) n content ≡ Err BadPointer = rw stale refl in not_bad why want (cc (bad, refused))
+  realloc_fits : (same : A → A → Bool) (why : Refusal) → IsWant why → (owner : A) (place : ℕ) (known : A) (n : ℕ) (content : Content A) → IsForSize content → (IsTrue (is_live (λ other. same other known) place (blocks_of content.pools)) → n ≢ 0 → round n ≡ Some size) → realloc same owner (Some (place, known)) n content ≡ Err why → ⊥
+  realloc_fits same why want owner place known n content is rounds refused = elim (cases_Bool (is_live (λ other. same other known) place (blocks_of content.pools))) [
+    | inr stale ↦ let bad : realloc same owner (Some (place, known)) n content ≡ Err BadPointer = rw stale refl in not_bad why want (cc (bad, refused))
     | inl live ↦ elim (cases_eq n 0) [
-      | inl nothing ↦ cc (realloc_freed are_same owner known place n content live nothing, refused)
-      | inr some ↦ cc (realloc_kept owner place known n content is.good is.cut live some (rounds live some), refused)
+      | inl nothing ↦ cc (realloc_freed same owner known place n content live nothing, refused)
+      | inr some ↦ cc (realloc_kept same owner place known n content is.good is.cut live some (rounds live some), refused)
     ]
   ]
 
-  realloc_cut : (owner place known n : ℕ) (content : Content ℕ) (given : Option (ℕ × ℕ) × Content ℕ) → IsForSize content → (IsTrue (is_live (λ other. are_same other known) place (blocks_of content.pools)) → n ≢ 0 → round n ≡ Some size) → realloc are_same owner (Some (place, known)) n content ≡ Ok given → AreCut size base (blocks_of given.1.pools)
-  realloc_cut owner place known n content given is rounds served = elim (cases_Bool (is_live (λ other. are_same other known) place (blocks_of content.pools))) [
-    | inr stale ↦ let bad : realloc are_same owner (Some (place, known)) n content ≡ Err BadPointer = rw stale refl in absurd (cc (bad, served))
+  realloc_cut : (same : A → A → Bool) (owner : A) (place : ℕ) (known : A) (n : ℕ) (content : Content A) (given : Option (ℕ × A) × Content A) → IsForSize content → (IsTrue (is_live (λ other. same other known) place (blocks_of content.pools)) → n ≢ 0 → round n ≡ Some size) → realloc same owner (Some (place, known)) n content ≡ Ok given → AreCut size base (blocks_of given.1.pools)
+  realloc_cut same owner place known n content given is rounds served = elim (cases_Bool (is_live (λ other. same other known) place (blocks_of content.pools))) [
+    | inr stale ↦ let bad : realloc same owner (Some (place, known)) n content ≡ Err BadPointer = rw stale refl in absurd (cc (bad, served))
     | inl live ↦ elim (cases_eq n 0) [
-      | inl nothing ↦ left (None, after_free place content) (realloc_freed are_same owner known place n content live nothing) (freed_cut size base (λ other. are_same other known) place content live is.cut)
-      | inr some ↦ left (Some (place, known), content) (realloc_kept owner place known n content is.good is.cut live some (rounds live some)) is.cut
+      | inl nothing ↦ left (None, after_free place content) (realloc_freed same owner known place n content live nothing) (freed_cut size base (λ other. same other known) place content live is.cut)
+      | inr some ↦ left (Some (place, known), content) (realloc_kept same owner place known n content is.good is.cut live some (rounds live some)) is.cut
     ]
   ]
     where
-      left : (there : Option (ℕ × ℕ) × Content ℕ) → realloc are_same owner (Some (place, known)) n content ≡ Ok there → AreCut size base (blocks_of there.1.pools) → AreCut size base (blocks_of given.1.pools)
-      left there gave cut = let same : there ≡ given = cc (gave, served) in subst (λ (g : Option (ℕ × ℕ) × Content ℕ). AreCut size base (blocks_of g.1.pools)) same cut
+      left : (there : Option (ℕ × A) × Content A) → realloc same owner (Some (place, known)) n content ≡ Ok there → AreCut size base (blocks_of there.1.pools) → AreCut size base (blocks_of given.1.pools)
+      left there gave cut = let is : there ≡ given = cc (gave, served) in subst (λ (g : Option (ℕ × A) × Content A). AreCut size base (blocks_of g.1.pools)) is cut
 
-  anew_cut : (owner n : ℕ) (content : Content ℕ) (given : Option (ℕ × ℕ) × Content ℕ) → IsForSize content → (n ≢ 0 → TakesOne blocks size n content) → realloc are_same owner None n content ≡ Ok given → AreCut size base (blocks_of given.1.pools)
-  anew_cut owner n content given is takes served = of (malloc owner n content) refl served
+  anew_cut : (same : A → A → Bool) (owner : A) (n : ℕ) (content : Content A) (given : Option (ℕ × A) × Content A) → IsForSize content → (n ≢ 0 → TakesOne blocks size n content) → realloc same owner None n content ≡ Ok given → AreCut size base (blocks_of given.1.pools)
+  anew_cut same owner n content given is takes served = of (malloc owner n content) refl served
     where
-      of : (answer : Result (ℕ × Content ℕ) Refusal) → malloc owner n content ≡ answer → given_anew owner answer ≡ Ok given → AreCut size base (blocks_of given.1.pools)
+      of : (answer : Result (ℕ × Content A) Refusal) → malloc owner n content ≡ answer → given_anew owner answer ≡ Ok given → AreCut size base (blocks_of given.1.pools)
       of (Err refusal) gave e = absurd (cc)
       of (Ok new) gave e =
           let there : (Some (new.0, owner), new.1) ≡ given = cc in
           let some : n ≢ 0 = some_served owner n content new gave in
-          subst (λ (g : Option (ℕ × ℕ) × Content ℕ). AreCut size base (blocks_of g.1.pools)) there (malloc_cut owner n content new is.good is.cut (takes some).rounds gave)
+          subst (λ (g : Option (ℕ × A) × Content A). AreCut size base (blocks_of g.1.pools)) there (malloc_cut owner n content new is.good is.cut (takes some).rounds gave)
+
+module _ {A : Type 0} (blocks size base : ℕ) (lowest : IsLowest size) where
+  -- a block is given: where some bytes are asked for, at a good alignment, nothing else is refused
+  pub malloc_given : (owner : A) (n : ℕ) (content : Content A) → IsForSize blocks size base content → n ≢ 0 → TakesOne blocks size n content → (why : Refusal) → malloc owner n content ≡ Err why → ⊥
+  malloc_given owner n content is some takes why refused = elim (malloc_reasons owner n content why refused) [
+    | inl nothing ↦ some nothing
+    | inr (inl fit) ↦ malloc_fits blocks size base lowest owner n content is takes (refused ∙ ap (λ r. Err r) fit)
+    | inr (inr full) ↦ malloc_recorded blocks size base owner n content is some takes (refused ∙ ap (λ r. Err r) full)
+  ]
+
+  pub memalign_given_or_bad : (owner : A) (align n : ℕ) (content : Content A) → IsForSize blocks size base content → align ≤ unit → n ≢ 0 → TakesOne blocks size n content → (why : Refusal) → memalign owner align n content ≡ Err why → why ≡ BadAlign
+  memalign_given_or_bad owner align n content is few some takes why refused = elim (memalign_reasons owner align n content why refused) [
+    | inl bad ↦ bad
+    | inr (inl nothing) ↦ absurd (some nothing)
+    | inr (inr (inl fit)) ↦ absurd (memalign_fits blocks size base lowest owner align n content is few takes (refused ∙ ap (λ r. Err r) fit))
+    | inr (inr (inr full)) ↦ absurd (memalign_recorded blocks size base owner align n content is few takes (refused ∙ ap (λ r. Err r) full))
+  ]
 
 module _ (blocks size base : ℕ) (lowest : IsLowest size) where
   -- no request is refused for want of a block, nor of a record
@@ -300,7 +333,7 @@ module _ (blocks size base : ℕ) (lowest : IsLowest size) where
   request_served (Memalign align n) why want content is within refused = memalign_served why want 0 align n content is within (refused 0)
   request_served (Free pointer) why want content is within refused = not_bad why want (free_refused (λ slot. slot == pointer.slot) pointer.place content why refused)
   request_served (Realloc None n) why want content is within refused = anew_served why want 0 n content is within (refused 0)
-  request_served (Realloc (Some pointer) n) why want content is within refused = realloc_fits blocks size base why want 0 pointer.place pointer.slot n content is within (refused 0)
+  request_served (Realloc (Some pointer) n) why want content is within refused = realloc_fits blocks size base are_same why want 0 pointer.place pointer.slot n content is within (refused 0)
   request_served (BlockSize pointer) why want content is within refused = not_bad why want (size_refused (λ slot. slot == pointer.slot) pointer.place content why refused)
 
   step_not_full : (lacks : Type 0) (request : Request) (answer : Answer) (old new : Content ℕ) → IsForSize blocks size base old → IsOfSize blocks size request old → Step lacks request answer old new → IsNotFull answer
@@ -318,24 +351,23 @@ module _ (blocks size base : ℕ) (lowest : IsLowest size) where
   step_for lacks (Malloc n) (Given pointer) old new is within step =
       let given : ℕ × Content ℕ = (pointer.place, new) in
       let some : n ≢ 0 = some_served blocks size base pointer.slot n old given step.ok in
-      still_for blocks size base old new is (malloc_is_good pointer.slot n old given is.good step.ok) (malloc_cut blocks size base pointer.slot n old given is.good is.cut (within some).rounds step.ok) (malloc_keeps pointer.slot n old given step.ok)
+      malloc_for blocks size base pointer.slot n old given is (within some).rounds step.ok
   step_for lacks (Memalign align n) (Given pointer) old new is within step =
       let given : ℕ × Content ℕ = (pointer.place, new) in
       let picked = (memalign_given pointer.slot align n old given step.ok).0 in
       let takes = within picked.is picked.some in
-      still_for blocks size base old new is (memalign_is_good pointer.slot align n old given is.good step.ok) (memalign_cut blocks size base pointer.slot align n old given is.good is.cut takes.0 takes.1.rounds step.ok) (memalign_keeps pointer.slot align n old given step.ok)
+      memalign_for blocks size base pointer.slot align n old given is takes.0 takes.1.rounds step.ok
   step_for lacks (Free pointer) Done old new is within step =
       let gave = free_gave (λ slot. slot == pointer.slot) pointer.place old new step in
-      subst (IsForSize blocks size base) gave.1
-      (still_for blocks size base old (after_free pointer.place old) is (freed_is_good (λ slot. slot == pointer.slot) pointer.place old is.good gave.0) (freed_cut size base (λ slot. slot == pointer.slot) pointer.place old gave.0 is.cut) (freed_keeps pointer.place old))
+      subst (IsForSize blocks size base) gave.1 (freed_for blocks size base (λ slot. slot == pointer.slot) pointer.place old is gave.0)
   step_for lacks (Realloc None n) (Moved given) old new is within step =
       let left : Option (ℕ × ℕ) × Content ℕ = (place_and_slot given, new) in
-      still_for blocks size base old new is (realloc_is_good are_same (slot_of given) None n old left is.good step.ok) (anew_cut blocks size base (slot_of given) n old left is within step.ok) (realloc_keeps are_same (slot_of given) None n old left step.ok)
+      still_for blocks size base old new is (realloc_is_good are_same (slot_of given) None n old left is.good step.ok) (anew_cut blocks size base are_same (slot_of given) n old left is within step.ok) (realloc_keeps are_same (slot_of given) None n old left step.ok)
   step_for lacks (Realloc (Some pointer) n) (Moved given) old new is within step =
       let left : Option (ℕ × ℕ) × Content ℕ = (place_and_slot given, new) in
       let known : Option (ℕ × ℕ) = Some (pointer.place, pointer.slot) in
       still_for blocks size base old new is (realloc_is_good are_same (slot_of given) known n old left is.good step.ok)
-      (realloc_cut blocks size base (slot_of given) pointer.place pointer.slot n old left is within step.ok) (realloc_keeps are_same (slot_of given) known n old left step.ok)
+      (realloc_cut blocks size base are_same (slot_of given) pointer.place pointer.slot n old left is within step.ok) (realloc_keeps are_same (slot_of given) known n old left step.ok)
   step_for lacks (BlockSize pointer) (Size told) old new is within step = subst (IsForSize blocks size base) (sym step.1) is
   step_for lacks _ _ old new is within step = absurd step
 
@@ -349,16 +381,16 @@ module _ (blocks size base : ℕ) (lowest : IsLowest size) where
       (run_of_size_fits lacks requests answers run.0 new run.1 after run.5 (step_for lacks request answer old run.0 is within.0 run.2) within.1)
 
 -- one pool with the bytes of `blocks` such blocks is for it
-one_pool_for : (blocks size records base pool : ℕ) (content : Content ℕ) → add_pool base pool (created records) ≡ Ok content → blocks * size ≤ pool → HasRecords blocks size pool records → IsForSize blocks size base content
-one_pool_for blocks size records base pool content added large many =
+pub one_pool_for : {A : Type 0} (blocks size records base pool : ℕ) (content : Content A) → add_pool base pool (created records) ≡ Ok content → blocks * size ≤ pool → HasRecords blocks size pool records → IsForSize blocks size base content
+one_pool_for {A} blocks size records base pool content added large many =
     let good : IsGood content = add_pool_is_good base pool (created records) content (created_is_good records) added in
-    let all : AreCut size base (gap {A = ℕ} base pool ++ []) = all-append (IsCut size base) (gap base pool) [] (gap_cut size base ℕ base pool (at_base size base)) tt in
+    let all : AreCut size base (gap {A = A} base pool ++ []) = all-append (IsCut size base) (gap base pool) [] (gap_cut size base A base pool (at_base size base)) tt in
     let bytes : pool ≡ pool + 0 = omega arith in
-    subst (λ (c : Content ℕ). IsGood c → IsForSize blocks size base c) (pool_added base pool (created records) content added).is
+    subst (λ (c : Content A). IsGood c → IsForSize blocks size base c) (pool_added base pool (created records) content added).is
     (λ was_good. record { good = was_good; cut = all; one = refl; bytes = omega (arith, large); records = subst (λ n. HasRecords blocks size n records) bytes many }) good
 
 -- a size that is its own class's lowest
-own_class : (size : ℕ) → class_size 1 size ≡ Some size → IsLowest size
+pub own_class : (size : ℕ) → class_size 1 size ≡ Some size → IsLowest size
 own_class size is = of (round size) refl is
   where
     of : (rounds : Option ℕ) → round size ≡ rounds → option_and_then (λ m. option_map low (need (size_asked 1 m))) rounds ≡ Some size → IsLowest size
@@ -370,7 +402,7 @@ own_class size is = of (round size) refl is
         at (Some c) needed lows =
             let sized : low c ≡ size = cc in
             let same : m ≡ size = omega (arith, (round-Some size m rounds).least, le-low_need m c needed, sized) in
-            record { c = c; needed = ap need (sym same) ∙ needed; sized = sized }
+            record { c = c; needed = ap need (sym same) ∙ needed; sized = sized; rounds = rounds ∙ ap (λ n. Some n) same }
 
 -- no request of a run for blocks of one size is refused for want of a block or of a record
 pub run_of_size : (lacks : Type 0) (blocks size records base pool : ℕ) (requests : List Request) (answers : List Answer) (old new : Content ℕ) (before after : ℕ) (run : Run lacks requests answers old new before after)

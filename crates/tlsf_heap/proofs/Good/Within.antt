@@ -159,9 +159,9 @@ room_within blocks bytes size asked rests n content most enough within =
 
 module _ (blocks bytes size : ℕ) where
   -- a good content that is large enough for the bounds
-  record IsEnough (content : Content ℕ) : Type 0 where
-    good : IsGood content
-    large : IsLargeEnough blocks bytes size content
+  pub record IsEnough (content : Content ℕ) : Type 0 where
+    pub good : IsGood content
+    pub large : IsLargeEnough blocks bytes size content
 
   still_enough : (old new : Content ℕ) → IsEnough old → IsGood new → Keeps old new → IsEnough new
   still_enough old new enough good keeps = record {
@@ -225,7 +225,7 @@ module _ (blocks bytes size : ℕ) where
       )
 
   -- what a request leaves is large enough still
-  step_enough : (lacks : Type 0) (request : Request) (answer : Answer) (old new : Content ℕ) → IsEnough old → IsWithin blocks bytes size request old → Step lacks request answer old new → IsEnough new
+  pub step_enough : (lacks : Type 0) (request : Request) (answer : Answer) (old new : Content ℕ) → IsEnough old → IsWithin blocks bytes size request old → Step lacks request answer old new → IsEnough new
   step_enough lacks request (Refused refusal) old new enough within step = subst IsEnough (sym step.0) enough
   step_enough lacks (AddPool base pool) Done old new enough within step = absurd within
   step_enough lacks (RemovePool base) Done old new enough within step = absurd within

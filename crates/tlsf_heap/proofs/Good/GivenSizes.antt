@@ -9,7 +9,7 @@ use Rattle.tlsf_heap.specs.declared.refusal.Refusal.{Refusal}
 use Rattle.tlsf_heap.specs.declared.refusal.Refusal.TheVariants.{BadPointer}
 use Rattle.tlsf_heap.specs.Content.{Block, Pool, Content, blocks_of, is_free, is_at, size_at, used_records}
 use Rattle.tlsf_heap.specs.Malloc.{gap, replaced_in, split, malloc, malloc_rounded}
-use Rattle.tlsf_heap.specs.Memalign.{size_asked, split_in_three}
+use Rattle.tlsf_heap.specs.Memalign.{size_asked, split_in_three, memalign}
 use Rattle.tlsf_heap.specs.Free.{is_live, after_free, free_next, without_block}
 use Rattle.tlsf_heap.specs.Realloc.{size_with_next, fits_in_place, resized, moved, realloc_sized, realloc_rounded, realloc}
 use Rattle.tlsf_heap.specs.Good.{IsGood}
@@ -18,11 +18,9 @@ use Rattle.tlsf_heap.proofs.Content.Given.{malloc_gave}
 use Rattle.tlsf_heap.proofs.Content.MemalignCases.{IsPicked, split_aligned_of, memalign_given}
 use Rattle.tlsf_heap.proofs.Content.ReallocCases.{sized_same, sized_in_place, sized_moved, realloc_freed, realloc_resized}
 use Rattle.tlsf_heap.proofs.Content.Replacing.{blocks_of-replaced}
-use Rattle.tlsf_heap.proofs.Good.LiveBlocks.{stands_first, stands_later, stands_first_or_later, gap_is_free, size_here, live_from_after_free}
+use Rattle.tlsf_heap.proofs.Good.LiveBlocks.{stands_first, stands_later, stands_first_or_later, gap_is_free, size_here, live_from_after_free, elsewhere_or_other}
 use Rattle.tlsf_heap.proofs.Good.StaysLive.{is_free_at, picked_stands, given_replaced}
 use Rattle.tlsf_heap.proofs.Meaning.AlignedIsGood.{memalign_is_good}
-use Rattle.mtrace_replay.specs.Moment.{asked_block}
-use Rattle.mtrace_replay.proofs.EnoughBlocks.{elsewhere_or_other}
 
 module _ {A : Type 0} where
   -- n bytes, rounded up, are the block's
@@ -30,7 +28,7 @@ module _ {A : Type 0} where
   IsRounded n b = (m : ℕ) × (round n ≡ Some m) × (b.size ≡ m)
 
   -- each live block at the place has the bytes asked for
-  abbrev AreRounded : ℕ → ℕ → Content A → Type 0
+  abbrev pub AreRounded : ℕ → ℕ → Content A → Type 0
   AreRounded n place content = (b : Block A) → Contains (blocks_of content.pools) b → is_free b ≡ false → b.place ≡ place → IsRounded n b
 
   abbrev is_sized : ℕ → ℕ → Block A → Bool
@@ -75,11 +73,13 @@ module _ {A : Type 0} where
       ]
 
   -- what malloc and memalign give
-  pub asked_sized : (owner : A) (align : Option ℕ) (n : ℕ) (content : Content A) (given : ℕ × Content A) → IsGood content → asked_block owner align n content ≡ Ok given → AreRounded n given.0 given.1
-  asked_sized owner None n content given good served =
+  pub malloc_sized : (owner : A) (n : ℕ) (content : Content A) (given : ℕ × Content A) → malloc owner n content ≡ Ok given → AreRounded n given.0 given.1
+  malloc_sized owner n content given served =
       let gave = malloc_gave owner content n given served in
       subst (λ (g : ℕ × Content A). AreRounded n g.0 g.1) gave.4 (λ b has live at. replaced_sized owner gave.1 gave.0 (size_at gave.1 (blocks_of content.pools)) n content.pools b gave.2 has live at)
-  asked_sized owner (Some align) n content given good served =
+
+  pub memalign_sized : (owner : A) (align n : ℕ) (content : Content A) (given : ℕ × Content A) → IsGood content → memalign owner align n content ≡ Ok given → AreRounded n given.0 given.1
+  memalign_sized owner align n content given good served =
       let gave = memalign_given owner align n content given served in
       let p : IsPicked owner align n content = gave.0 in
       let start : ℕ = next_multiple_of p.place align in
@@ -102,7 +102,7 @@ module _ {A : Type 0} where
 
   -- what realloc gives
   module _ (same : A → A → Bool) (owner known : A) (place n : ℕ) (content : Content A) (good : IsGood content) (room : used_records content < content.records) where
-    abbrev IsMoved : Option (ℕ × A) × Content A → Type 0
+    abbrev pub IsMoved : Option (ℕ × A) × Content A → Type 0
     IsMoved given = (q : ℕ) (o : A) → given.0 ≡ Some (q, o) → AreRounded n q given.1
 
     moved_to : (q : ℕ) (o : A) (now : Content A) → AreRounded n q now → IsMoved (Some (q, o), now)
@@ -118,7 +118,7 @@ module _ {A : Type 0} where
     anew given (Err why) is e = absurd (cc)
     anew given (Ok new) is e =
         let there : (Some (new.0, owner), after_free place new.1) ≡ given = cc in
-        subst IsMoved there (moved_to new.0 owner (after_free place new.1) (λ b has live at. asked_sized owner None n content new good is b (live_from_after_free place new.1 b has live) live at))
+        subst IsMoved there (moved_to new.0 owner (after_free place new.1) (λ b has live at. malloc_sized owner n content new is b (live_from_after_free place new.1 b has live) live at))
 
     rounded_moved : (m : ℕ) (given : Option (ℕ × A) × Content A) → n ≢ 0 → round n ≡ Some m → realloc_sized owner place known m content ≡ Ok given → IsMoved given
     rounded_moved m given some rounds e = elim (cases_eq m (size_at place (blocks_of content.pools))) [
