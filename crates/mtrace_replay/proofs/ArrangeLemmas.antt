@@ -5,7 +5,7 @@ use Rattle.std.proofs.Math.Seq.{take-suc, take-suc-set, drop-cons}
 use Rattle.std.proofs.lemmas.List.{append_assoc, drop-set-lt, take-set-le, length-set}
 use Rattle.tlsf_heap.specs.Pointer.{Pointer}
 use Rattle.mtrace_replay.specs.Keys.{Rows}
-use Rattle.mtrace_replay.specs.declared.key.Key.{Key}
+use Rattle.mtrace_replay.specs.declared.heap.key.Key.{Key}
 use Rattle.mtrace_replay.specs.Key.{held_under, holding_of, all_held, IsRow, HaveRows, least_behind, RiseFrom}
 use Rattle.mtrace_replay.specs.Arrange.{held_keys}
 use Rattle.mtrace_replay.proofs.KeyLemmas.{rise_lower, not_lower}

@@ -10,7 +10,7 @@ use Rattle.mtrace_replay.specs.declared.no_heap.count.Count.{Count}
 use Rattle.mtrace_replay.specs.Sites.{weigh}
 use Rattle.mtrace_replay.specs.Texts.{total_size}
 use Rattle.mtrace_replay.specs.Moment.{ReadLine, Given, Plan, plan, move, none_for, doing, allocation, reallocation, renewal, release}
-use Rattle.mtrace_replay.specs.declared.diagnostic.Kind.TheVariants.{AlreadyHeld}
+use Rattle.mtrace_replay.specs.declared.held.diagnostic.Kind.TheVariants.{AlreadyHeld}
 use Rattle.mtrace_replay.specs.Calls.{Called, CountsMore, CountsReleased}
 use Rattle.mtrace_replay.specs.Callers.{with_call, with_call_of, with_temporary, AreCounted}
 use Rattle.mtrace_replay.specs.Ledger.{held_at}

@@ -22,9 +22,9 @@ use Rattle.tlsf_heap.proofs.Meaning.AlignedIsGood.{memalign_is_good}
 use Rattle.tlsf_heap.proofs.Meaning.FreedIsGood.{freed_is_good}
 use Rattle.tlsf_heap.proofs.Content.Given.{malloc_gave, realloc_gave}
 use Rattle.tlsf_heap.proofs.Content.MemalignCases.{memalign_given}
-use Rattle.mtrace_replay.specs.declared.diagnostic.Diagnostic.{Diagnostic}
-use Rattle.mtrace_replay.specs.declared.diagnostic.Kind.TheVariants.{Refused}
-use Rattle.mtrace_replay.specs.declared.settings.Settings.{Settings}
+use Rattle.mtrace_replay.specs.declared.held.diagnostic.Diagnostic.{Diagnostic}
+use Rattle.mtrace_replay.specs.declared.held.diagnostic.Kind.TheVariants.{Refused}
+use Rattle.mtrace_replay.specs.declared.heap.settings.Settings.{Settings}
 use Rattle.mtrace_replay.specs.Started.{Bare, left_by, with_pools, started}
 use Rattle.mtrace_replay.specs.History.{AreHeld, held, held_after, given_or, unless_taken, moments, pending, content_after}
 use Rattle.mtrace_replay.specs.Moment.{ReadLine, Given, Moment, unserved, after_diagnostics, without, outcome, asked_size, rounded_bytes, asked_block, moment, is_new, half, Act, idle, give, take, move, plan, answered, moved, done}

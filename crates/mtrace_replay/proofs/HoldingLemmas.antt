@@ -6,7 +6,7 @@ use Rattle.std.proofs.lemmas.List.{append_assoc, drop_more, get_or_default}
 use Rattle.tlsf_heap.specs.Pointer.{Pointer}
 use Rattle.mtrace_replay.specs.Holding.{Holding}
 use Rattle.mtrace_replay.specs.Entry.{Entry}
-use Rattle.mtrace_replay.specs.declared.key.Key.{Key}
+use Rattle.mtrace_replay.specs.declared.heap.key.Key.{Key}
 use Rattle.mtrace_replay.specs.Keys.{Rows, row_number, row_at}
 use Rattle.mtrace_replay.specs.Key.{no_row, held_under, holding_of, all_held, IsRow, HaveRows, AreBelow, AreAbove}
 use Rattle.mtrace_replay.specs.Search.{IsVacantAt}

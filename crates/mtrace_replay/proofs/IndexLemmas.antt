@@ -12,11 +12,11 @@ use Rattle.std.proofs.lemmas.Map.Keys.{IsStrictlyIncreasing-from_sorted}
 use Rattle.tlsf_heap.specs.Pointer.{Pointer}
 use Rattle.mtrace_replay.specs.Holding.{Holding}
 use Rattle.mtrace_replay.specs.Entry.{Entry}
-use Rattle.mtrace_replay.specs.declared.key.Key.{Key}
+use Rattle.mtrace_replay.specs.declared.heap.key.Key.{Key}
 use Rattle.mtrace_replay.specs.Keys.{Rows, row_at, HasRow, Kept, KeepsRows, SetsRow}
 use Rattle.mtrace_replay.specs.Key.{no_row, held_under, holding_of, all_held, IsRow, HaveRows, least_behind, RiseFrom, AreAbove}
 use Rattle.mtrace_replay.specs.Search.{StandsAt, FitsAt, IsVacantAt, AreOthers}
-use Rattle.mtrace_replay.specs.declared.index.LookUp.{LookUp}
+use Rattle.mtrace_replay.specs.declared.heap.index.LookUp.{LookUp}
 use Rattle.mtrace_replay.specs.Moment.{rounded_bytes}
 use Rattle.mtrace_replay.specs.Index.{addresses, held_at, held_bytes, held_rounded, AreInOrder, IsNewSlot, Indexed, IsFound, IsIndex}
 use Rattle.mtrace_replay.proofs.KeyLemmas.{above_all, fits_there, rise_remove, rise_insert, all_remove, all_insert, all_there}

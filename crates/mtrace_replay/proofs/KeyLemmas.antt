@@ -1,7 +1,7 @@
 -- The order of keys.
 use Rattle.std.proofs.Common.{◌≡◌, ℕ, zero, suc, ◌+◌, ◌<◌, ◌≤◌, List, [], ◌∷◌, take, drop, length, slice_index_or, arith, subst}
 use Rattle.std.specs.List.{insert, remove, AllByRecursion}
-use Rattle.mtrace_replay.specs.declared.key.Key.{Key}
+use Rattle.mtrace_replay.specs.declared.heap.key.Key.{Key}
 use Rattle.mtrace_replay.specs.Key.{least_behind, RiseFrom, AreBelow, AreAbove}
 use Rattle.mtrace_replay.specs.Search.{StandsAt, FitsAt}
 

@@ -2,10 +2,10 @@
 use Rattle.std.proofs.Common.{◌≡◌, ℕ, zero, suc, ◌+◌, ◌-◌, ◌*◌, ◌/◌, ◌%◌, ◌<◌, ◌≤◌, List, [], ◌∷◌, ◌++◌, take, length, get_or, set, length-append, length-set, length-take, arith, refl, sym, ap, ◌∙◌, subst}
 use Rattle.std.proofs.lemmas.List.{get_or-take, get_or_default, take-append-le, get_or-set_same, get_or-set_other}
 use Rattle.std.proofs.lemmas.List.Concat.{flat_map-append}
-use Rattle.mtrace_replay.specs.declared.key.Key.{Key}
+use Rattle.mtrace_replay.specs.declared.heap.key.Key.{Key}
 use Rattle.mtrace_replay.specs.Entry.{Entry}
-use Rattle.mtrace_replay.specs.declared.keys.Chunk.{Chunk}
-use Rattle.mtrace_replay.specs.declared.keys.Keys.TheInside.{Inside}
+use Rattle.mtrace_replay.specs.declared.heap.keys.Chunk.{Chunk}
+use Rattle.mtrace_replay.specs.declared.heap.keys.Keys.TheInside.{Inside}
 use Rattle.std.specs.Vec.{vec_capacity}
 use Rattle.std.specs.Prelude.{min}
 use Rattle.mtrace_replay.specs.Keys.{Rows, row_number, row_at, Kept, IsWholeChunk, AreWholeChunks, AreChunks, all_keys, all_rows, KeepsRows, SetsRow}

@@ -6,7 +6,7 @@ use Rattle.std.proofs.lemmas.Bool.{false≢true, eq-eqb, cases_eq, ne_eqb}
 use Rattle.mtrace_log.specs.declared.event.Event.TheVariants.{Start, End, Alloc, Free, Old, New, Failed, Aligned}
 use Rattle.mtrace_log.specs.declared.event.LineFault.TheVariants as fault
 use Rattle.mtrace_replay.specs.Entry.{Entry}
-use Rattle.mtrace_replay.specs.declared.diagnostic.Kind.TheVariants.{AlreadyHeld}
+use Rattle.mtrace_replay.specs.declared.held.diagnostic.Kind.TheVariants.{AlreadyHeld}
 use Rattle.mtrace_replay.specs.Moment.{ReadLine, Given, Plan, idle, move, one_diagnostic, plan, allocation, release, reallocation}
 use Rattle.mtrace_replay.specs.History.{unless_taken}
 use Rattle.mtrace_replay.specs.Served.{all_served}

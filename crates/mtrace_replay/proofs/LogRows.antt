@@ -6,7 +6,7 @@ use Rattle.mtrace_log.specs.declared.event.LineFault.TheVariants as fault
 use Rattle.std.specs.Fmt.{digits}
 use Rattle.tlsf_class.specs.Classes.{class, need, low}
 use Rattle.tlsf_class.specs.Rounding.{rounded}
-use Rattle.mtrace_replay.specs.declared.settings.Settings.{Settings}
+use Rattle.mtrace_replay.specs.declared.heap.settings.Settings.{Settings}
 use Rattle.mtrace_replay.specs.Started.{started}
 use Rattle.mtrace_replay.specs.Moment.{ReadLine}
 use Rattle.mtrace_replay.specs.History.{moments, history, held, content_after, diagnostics}

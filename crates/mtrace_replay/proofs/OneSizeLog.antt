@@ -23,7 +23,7 @@ use Rattle.tlsf_heap.proofs.Good.StaysLive.{free_of_live}
 use Rattle.indexmap.proofs.ReorderLemmas.{map-reverse}
 use Rattle.mtrace_log.specs.declared.event.Event.TheVariants.{Alloc, Free, New, Aligned}
 use Rattle.mtrace_log.specs.declared.event.LineFault.TheVariants as fault
-use Rattle.mtrace_replay.specs.declared.diagnostic.Kind.TheVariants.{AlreadyHeld}
+use Rattle.mtrace_replay.specs.declared.held.diagnostic.Kind.TheVariants.{AlreadyHeld}
 use Rattle.mtrace_replay.specs.Entry.{Entry}
 use Rattle.mtrace_replay.specs.Started.{Bare, left_by, started}
 use Rattle.mtrace_replay.specs.Settings.{are_bad}

@@ -7,8 +7,8 @@ use Rattle.std.proofs.Math.Seq.{take-suc}
 use Rattle.std.proofs.lemmas.List.{take-append-le, take_all, map-append}
 use Rattle.std.proofs.lemmas.List.Elements.{All-append}
 use Rattle.mtrace_log.specs.Progress.{Progress}
-use Rattle.mtrace_replay.specs.declared.point.Point.{Point}
-use Rattle.mtrace_replay.specs.declared.settings.Settings.{Settings}
+use Rattle.mtrace_replay.specs.declared.heap.point.Point.{Point}
+use Rattle.mtrace_replay.specs.declared.heap.settings.Settings.{Settings}
 use Rattle.mtrace_replay.specs.Started.{started}
 use Rattle.mtrace_replay.specs.Moment.{ReadLine}
 use Rattle.mtrace_replay.specs.History.{history, moments}

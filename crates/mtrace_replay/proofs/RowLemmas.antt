@@ -14,8 +14,8 @@ use Rattle.tlsf_heap.specs.Bare.{bare, renamed_block, renamed_pool}
 use Rattle.tlsf_heap.specs.Counted.{range_of}
 use Rattle.tlsf_heap.specs.Good.{IsGood, AreGoodPools}
 use Rattle.tlsf_heap.specs.Rows.{row_of, rows_from}
-use Rattle.mtrace_replay.specs.declared.survey.Survey.{Survey}
-use Rattle.mtrace_replay.specs.declared.totals.Totals.{Totals}
+use Rattle.mtrace_replay.specs.declared.heap.survey.Survey.{Survey}
+use Rattle.mtrace_replay.specs.declared.heap.totals.Totals.{Totals}
 use Rattle.mtrace_replay.specs.Started.{Bare}
 use Rattle.mtrace_replay.specs.Texts.{peak_lines, peak_report, pair_line, row_text, greatest, free_sizes, rows_text, pool_text, walk_report}
 use Rattle.mtrace_replay.specs.Rows.{or_none, rows_at}

@@ -9,20 +9,20 @@ use Rattle.mtrace_log.specs.Shown.{Bytes, ReaderState, WriterState}
 use Rattle.mtrace_log.specs.HasRead.{HasReadAll}
 use Rattle.mtrace_log.specs.Event.{Event}
 use Rattle.mtrace_log.specs.declared.event.LineFault.{LineFault}
-use Rattle.mtrace_replay.specs.declared.settings.Settings.{Settings}
-use Rattle.mtrace_replay.specs.declared.diagnostic.Diagnostic.{Diagnostic}
+use Rattle.mtrace_replay.specs.declared.heap.settings.Settings.{Settings}
+use Rattle.mtrace_replay.specs.declared.held.diagnostic.Diagnostic.{Diagnostic}
 use Rattle.mtrace_replay.specs.Entry.{Entry}
-use Rattle.mtrace_replay.specs.declared.status.Status.{Status}
-use Rattle.mtrace_replay.specs.declared.status.Status.TheVariants.{Clean, Found}
+use Rattle.mtrace_replay.specs.declared.runs.status.Status.{Status}
+use Rattle.mtrace_replay.specs.declared.runs.status.Status.TheVariants.{Clean, Found}
 use Rattle.mtrace_replay.specs.Started.{started}
 use Rattle.mtrace_replay.specs.Moment.{ReadLine, Moment, Given, moment, half}
 use Rattle.mtrace_replay.specs.History.{moments, content_after, held, history, notes, pending, entries_of}
 use Rattle.mtrace_replay.specs.Texts.{diagnostics_text, report_text, clean_or_found}
 use Rattle.mtrace_log.specs.Output.{Wrote, Begins}
 use Rattle.mtrace_replay.specs.Replay.{Replayed, StandsFor, entries, added_diagnostics, heap_rules}
-use Rattle.mtrace_replay.specs.declared.report.Report.{Report}
-use Rattle.mtrace_replay.specs.declared.report.Report.TheVariants.{Nothing}
-use Rattle.mtrace_replay.specs.declared.totals.Totals.{Totals}
+use Rattle.mtrace_replay.specs.declared.runs.report.Report.{Report}
+use Rattle.mtrace_replay.specs.declared.runs.report.Report.TheVariants.{Nothing}
+use Rattle.mtrace_replay.specs.declared.heap.totals.Totals.{Totals}
 use Rattle.mtrace_replay.specs.LineReplay.{noted}
 use Rattle.mtrace_replay.specs.Following.{noted_text, HasFollowed, StopsReading, StopsWriting}
 use Rattle.mtrace_replay.specs.Run.{text_of_notes, whole_text, end_text, StopsAtRead, StopsAtWrite, Reports, HoldsAtEnd, EndsAt, has_some, HasReplayed}

@@ -3,7 +3,7 @@ use Rattle.std.proofs.Common.{is_some, cond, ◌≡◌, ℕ, zero, suc, ◌+◌,
 use Rattle.std.proofs.lemmas.List.{get_or_default}
 use Rattle.std.proofs.Math.Bool.{or-false}
 use Rattle.std.proofs.lemmas.Bool.Decides.{nat_tests}
-use Rattle.mtrace_replay.specs.declared.key.Key.{Key}
+use Rattle.mtrace_replay.specs.declared.heap.key.Key.{Key}
 use Rattle.mtrace_replay.specs.Key.{least_behind, RiseFrom, AreBelow, AreAbove}
 use Rattle.mtrace_replay.specs.Search.{StandsAt}
 use Rattle.mtrace_replay.proofs.KeyLemmas.{above_behind, not_higher, not_below_one_before, below_up_to, above_from}

@@ -4,7 +4,7 @@ use Rattle.std.proofs.Common.{cond, Bool, true, false, Some, None, ◌≡◌, �
 use Rattle.std.specs.Prelude.{◌==◌, ◌++◌, is_some, count_by, nat_lt, if◌then◌else◌, option_map}
 use Rattle.std.specs.List.Sorted.{IsStrictlyIncreasing}
 use Rattle.mtrace_replay.specs.Entry.{Entry}
-use Rattle.mtrace_replay.specs.declared.diagnostic.Diagnostic.{Diagnostic}
+use Rattle.mtrace_replay.specs.declared.held.diagnostic.Diagnostic.{Diagnostic}
 use Rattle.mtrace_replay.specs.Moment.{ReadLine, Given, Moment, Plan, plan, half, is_new}
 use Rattle.mtrace_replay.specs.History.{held, held_after, pending, old_address, AreHeld, entries_of}
 use Rattle.mtrace_replay.specs.Step.{found}

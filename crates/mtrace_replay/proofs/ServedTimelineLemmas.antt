@@ -7,9 +7,9 @@ use Rattle.mtrace_log.specs.Progress.{greatest_number}
 use Rattle.mtrace_log.specs.Shown.{Bytes, ReaderState, WriterState}
 use Rattle.mtrace_replay.specs.declared.no_heap.point.LedgerPoint.{LedgerPoint}
 use Rattle.mtrace_replay.specs.declared.no_heap.replay.LedgerTotals.{LedgerTotals}
-use Rattle.mtrace_replay.specs.declared.status.Status.{Status}
-use Rattle.mtrace_replay.specs.declared.status.RunFault.{RunFault}
-use Rattle.mtrace_replay.specs.declared.status.RunFault.TheVariants.{Read, Write, OutOfMemory}
+use Rattle.mtrace_replay.specs.declared.runs.status.Status.{Status}
+use Rattle.mtrace_replay.specs.declared.runs.status.RunFault.{RunFault}
+use Rattle.mtrace_replay.specs.declared.runs.status.RunFault.TheVariants.{Read, Write, OutOfMemory}
 use Rattle.mtrace_replay.specs.Moment.{ReadLine}
 use Rattle.mtrace_replay.specs.Totals.{IsPeak}
 use Rattle.mtrace_replay.specs.Texts.{ledger_timeline_text}

@@ -11,7 +11,7 @@ use Rattle.std.proofs.lemmas.Bool.{cases_eq, cases_lt, false≢true, eq-eqb, ne_
 use Rattle.std.proofs.lemmas.List.{get_or_past}
 use Rattle.std.proofs.lemmas.Option.{slice_get_past, slice_get_within, slice_get-get_or}
 use Rattle.mtrace_replay.specs.declared.no_heap.ledger.Kept.{Kept}
-use Rattle.mtrace_replay.specs.declared.amount.Amount.{Amount}
+use Rattle.mtrace_replay.specs.declared.held.amount.Amount.{Amount}
 use Rattle.mtrace_replay.specs.declared.no_heap.shares.Share.{Share}
 use Rattle.mtrace_replay.specs.Locations.{Extends, HasLocation}
 use Rattle.mtrace_replay.specs.Shares.{ByLocation, no_share, nothing, amount_more, amount_less, now_at, marked_at, Changes, KeepsCounts, KeepsShares, Marks}

@@ -9,7 +9,7 @@ use Rattle.std.proofs.lemmas.Bool.{eqb-true}
 use Rattle.mtrace_replay.specs.Entry.{Entry}
 use Rattle.mtrace_replay.specs.Sites.{Origin, Site, weigh, AreTallied}
 use Rattle.mtrace_replay.specs.declared.no_heap.ledger.Kept.{Kept}
-use Rattle.mtrace_replay.specs.declared.amount.Amount.{Amount}
+use Rattle.mtrace_replay.specs.declared.held.amount.Amount.{Amount}
 use Rattle.mtrace_replay.specs.Locations.{location_of, HasLocation}
 use Rattle.mtrace_replay.specs.Shares.{ByLocation, now_at, origins, has_no_block, site_at, sites_by, sites_of}
 use Rattle.mtrace_replay.specs.Ledger.{entry_of, put_in_order, in_order, slot_of, in_slot, AreShared}

@@ -1,8 +1,8 @@
 -- The run that tells who holds the memory of a log.
 use Rattle.std.proofs.Common.{◌≡◌, ℕ, List, ◌++◌, length, reverse, refl, ◌∙◌}
 use Rattle.std.proofs.lemmas.List.{length-map}
-use Rattle.mtrace_replay.specs.declared.settings.Settings.{Settings}
-use Rattle.mtrace_replay.specs.declared.totals.Totals.{Totals}
+use Rattle.mtrace_replay.specs.declared.heap.settings.Settings.{Settings}
+use Rattle.mtrace_replay.specs.declared.heap.totals.Totals.{Totals}
 use Rattle.mtrace_replay.specs.Moment.{ReadLine, Given}
 use Rattle.mtrace_replay.specs.Replay.{Replayed, StandsFor, entries}
 use Rattle.mtrace_log.specs.Shown.{Bytes}

@@ -1,7 +1,7 @@
 -- The parts for bounds that are told, one after the other.
 use Rattle.std.proofs.Common.{◌≡◌, List, [], ◌∷◌, ◌++◌, Option, Some, None, refl, sym, ap, ◌∙◌, append_assoc}
 use Rattle.std.specs.Prelude.{option_map, option_and_then}
-use Rattle.mtrace_replay.specs.declared.size_parts.PartBounds.{PartBounds}
+use Rattle.mtrace_replay.specs.declared.runs.size_parts.PartBounds.{PartBounds}
 use Rattle.mtrace_replay.specs.Parts.{Part}
 use Rattle.mtrace_replay.specs.SizeParts.{part_for, parts_for}
 

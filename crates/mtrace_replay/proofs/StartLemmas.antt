@@ -7,7 +7,7 @@ use Rattle.tlsf_heap.specs.Content.{Block, Pool, used_records, blocks_of}
 use Rattle.tlsf_heap.specs.Malloc.{gap}
 use Rattle.tlsf_heap.specs.Room.{pool_bytes}
 use Rattle.tlsf_heap.specs.Pools.{most_pools, most_records, end_of_places, add_pool, with_pool, is_apart, can_be_pool, in_order_of_base, created}
-use Rattle.mtrace_replay.specs.declared.settings.Settings.{Settings}
+use Rattle.mtrace_replay.specs.declared.heap.settings.Settings.{Settings}
 use Rattle.mtrace_replay.specs.Settings.{are_bad}
 use Rattle.mtrace_replay.specs.Fit.{one_pool}
 use Rattle.tlsf_heap.proofs.Content.PoolCases.{pool_is_added}

@@ -2,7 +2,7 @@
 use Rattle.std.proofs.Common.{◌≡◌, ℕ, zero, suc, ◌-◌, ◌*◌, ◌<◌, ap, ◌∙◌, arith}
 use Rattle.std.proofs.Math.Numerals.{sub-one}
 use Rattle.tlsf_heap.specs.Pools.{add_pool}
-use Rattle.mtrace_replay.specs.declared.settings.Settings.{Settings}
+use Rattle.mtrace_replay.specs.declared.heap.settings.Settings.{Settings}
 use Rattle.mtrace_replay.specs.Started.{Bare, left_by, with_pools}
 
 -- the highest pool that is left is added

@@ -2,9 +2,9 @@
 use Rattle.std.proofs.Common.{◌≡◌, ◌<◌, ◌≤◌, ℕ, List, reverse, refl, sym, subst, arith}
 use Rattle.std.specs.List.{All}
 use Rattle.mtrace_log.specs.Progress.{greatest_number}
-use Rattle.mtrace_replay.specs.declared.point.Point.{Point}
-use Rattle.mtrace_replay.specs.declared.settings.Settings.{Settings}
-use Rattle.mtrace_replay.specs.declared.totals.Totals.{Totals}
+use Rattle.mtrace_replay.specs.declared.heap.point.Point.{Point}
+use Rattle.mtrace_replay.specs.declared.heap.settings.Settings.{Settings}
+use Rattle.mtrace_replay.specs.declared.heap.totals.Totals.{Totals}
 use Rattle.mtrace_replay.specs.Started.{started}
 use Rattle.mtrace_replay.specs.Totals.{AreTotals}
 use Rattle.mtrace_replay.specs.Moment.{ReadLine}

@@ -10,7 +10,7 @@ use Rattle.tlsf_heap.specs.Content.{Block, Pool, blocks_of, is_free, used_record
 use Rattle.tlsf_heap.specs.Malloc.{gap}
 use Rattle.tlsf_heap.specs.Pools.{most_pools, created, can_be_pool, is_apart, in_order_of_base, with_pool, add_pool}
 use Rattle.tlsf_heap.proofs.Good.LiveBlocks.{none_stands, gap_is_free}
-use Rattle.mtrace_replay.specs.declared.settings.Settings.{Settings}
+use Rattle.mtrace_replay.specs.declared.heap.settings.Settings.{Settings}
 use Rattle.mtrace_replay.specs.Started.{Bare, left_by, with_pools, started}
 use Rattle.mtrace_replay.specs.Moment.{Given, Moment}
 use Rattle.mtrace_replay.specs.Totals.{first_moments, Measures, IsGreatestOf, IsMost, IsEnd, IsHighPlace}

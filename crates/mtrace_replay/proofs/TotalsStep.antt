@@ -4,8 +4,8 @@ use Rattle.std.specs.Prelude.{max, nat_lt, unwrap_or, is_some, option_map, if◌
 use Rattle.std.specs.List.{Contains, list_any}
 use Rattle.tlsf_heap.specs.Content.{Block, blocks_of, is_free}
 use Rattle.tlsf_heap.proofs.Counts.{count-cons, one_if}
-use Rattle.mtrace_replay.specs.declared.diagnostic.Diagnostic.{Diagnostic}
-use Rattle.mtrace_replay.specs.declared.totals.Totals.{Totals}
+use Rattle.mtrace_replay.specs.declared.held.diagnostic.Diagnostic.{Diagnostic}
+use Rattle.mtrace_replay.specs.declared.heap.totals.Totals.{Totals}
 use Rattle.mtrace_replay.specs.Started.{Bare}
 use Rattle.mtrace_replay.specs.Moment.{Given, Moment}
 use Rattle.mtrace_replay.specs.History.{AreHeld, content_after, entries_of}

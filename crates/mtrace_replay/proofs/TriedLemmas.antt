@@ -7,7 +7,7 @@ use Rattle.mtrace_log.specs.Progress.{Progress, most_asked}
 use Rattle.mtrace_log.specs.Trace.{HasNotFailed}
 use Rattle.mtrace_log.specs.declared.call.Call.{Call}
 use Rattle.mtrace_log.specs.declared.call.Call.TheVariants.{Gave, Failed, Began, Ended as ToldEnd}
-use Rattle.mtrace_replay.specs.declared.settings.Settings.{Settings}
+use Rattle.mtrace_replay.specs.declared.heap.settings.Settings.{Settings}
 use Rattle.mtrace_replay.specs.Replay.{Replayed, StandsFor}
 use Rattle.mtrace_log.specs.Shown.{ReaderState}
 use Rattle.mtrace_replay.specs.Again.{HasReadFirst, StopsEarly, FailsAgain}

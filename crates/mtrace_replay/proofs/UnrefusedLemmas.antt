@@ -9,16 +9,16 @@ use Rattle.std.specs.List.Sorted.{IsStrictlyIncreasing}
 use Rattle.mtrace_log.specs.declared.event.Event.TheVariants.{Alloc, Free, New, Aligned}
 use Rattle.mtrace_log.specs.declared.event.LineFault.TheVariants as fault
 use Rattle.mtrace_replay.specs.Entry.{Entry}
-use Rattle.mtrace_replay.specs.declared.diagnostic.Diagnostic.{Diagnostic}
-use Rattle.mtrace_replay.specs.declared.diagnostic.Kind.TheVariants.{AlreadyHeld}
+use Rattle.mtrace_replay.specs.declared.held.diagnostic.Diagnostic.{Diagnostic}
+use Rattle.mtrace_replay.specs.declared.held.diagnostic.Kind.TheVariants.{AlreadyHeld}
 use Rattle.mtrace_replay.specs.Started.{Bare}
 use Rattle.mtrace_replay.specs.Moment.{ReadLine, Given, Moment, Plan, Act, idle, give, take, move, plan, allocation, release, reallocation, renewal, none_for, doing, done, moment, answered, moved, asked_size, after_diagnostics, half, is_new}
 use Rattle.mtrace_replay.specs.History.{held, given_or, unless_taken, pending, notes, AreHeld, entries_of, moments, next_moment, content_after}
 use Rattle.mtrace_replay.specs.Totals.{is_served, is_refused, is_refusal, Measures, IsPeak, bytes_in, blocks_in, first_moments, AreTotals}
 use Rattle.mtrace_replay.specs.Step.{found}
 use Rattle.mtrace_replay.specs.RunServed.{AreServedTotals}
-use Rattle.mtrace_replay.specs.declared.totals.Totals.{Totals}
-use Rattle.mtrace_replay.specs.declared.point.Point.{Point}
+use Rattle.mtrace_replay.specs.declared.heap.totals.Totals.{Totals}
+use Rattle.mtrace_replay.specs.declared.heap.point.Point.{Point}
 use Rattle.mtrace_replay.specs.declared.no_heap.point.LedgerPoint.{LedgerPoint}
 use Rattle.mtrace_replay.specs.Timeline.{IsPoint}
 use Rattle.mtrace_replay.specs.ServedTimeline.{IsLedgerPoint}

@@ -1,6 +1,6 @@
 -- The keys under which something is held.
 use Rattle.std.specs.Prelude.{List, filter, is_some}
-use Rattle.mtrace_replay.specs.declared.key.Key.{Key}
+use Rattle.mtrace_replay.specs.declared.heap.key.Key.{Key}
 
 -- the held keys, in their order
 abbrev pub held_keys : List Key → List Key

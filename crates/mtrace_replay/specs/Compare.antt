@@ -1,6 +1,6 @@
 -- How two addresses stand to each other.
 use Rattle.std.specs.Prelude.{◌≡◌, ℕ, ◌+◌, ◌<◌, ◌≤◌, ◌==◌}
-use Rattle.mtrace_replay.specs.declared.key.Standing.{Standing}
+use Rattle.mtrace_replay.specs.declared.heap.key.Standing.{Standing}
 
 -- One comparison of two addresses, which was counted: 1 where the own one is at most the other, else 0.
 pub record StandsTo (own other : ℕ) (standing : Standing) (counted_old counted_new : ℕ) : Type 0 where

@@ -5,8 +5,8 @@ use Rattle.tlsf_heap.specs.declared.refusal.Refusal.{Refusal}
 use Rattle.tlsf_heap.specs.declared.refusal.Refusal.TheVariants.{TableFull}
 use Rattle.tlsf_heap.specs.Memalign.{is_alignment, size_asked}
 use Rattle.tlsf_heap.specs.Within.{AsksAtMost}
-use Rattle.mtrace_replay.specs.declared.diagnostic.Diagnostic.{Diagnostic}
-use Rattle.mtrace_replay.specs.declared.diagnostic.Kind.TheVariants.{Refused}
+use Rattle.mtrace_replay.specs.declared.held.diagnostic.Diagnostic.{Diagnostic}
+use Rattle.mtrace_replay.specs.declared.held.diagnostic.Kind.TheVariants.{Refused}
 use Rattle.mtrace_replay.specs.Moment.{ReadLine, Given, Moment, asked_size, Act, give, move, plan}
 use Rattle.mtrace_replay.specs.Started.{Bare}
 use Rattle.mtrace_replay.specs.History.{AreHeld, held, moments, pending}

@@ -4,9 +4,9 @@ use Rattle.mtrace_log.specs.HasRead.{HasReadAll}
 use Rattle.mtrace_log.specs.Shown.{ReaderState, WriterState}
 use Rattle.mtrace_log.specs.Output.{Wrote, Begins}
 use Rattle.mtrace_log.specs.Trace.{HasGivenAll, HasNotFailed, HasTaken, HasTakenAndFailed}
-use Rattle.mtrace_replay.specs.declared.diagnostic.Diagnostic.{Diagnostic}
-use Rattle.mtrace_replay.specs.declared.following.Stop.{Stop}
-use Rattle.mtrace_replay.specs.declared.following.Stop.TheVariants.{Reader, Writer, Memory}
+use Rattle.mtrace_replay.specs.declared.held.diagnostic.Diagnostic.{Diagnostic}
+use Rattle.mtrace_replay.specs.declared.runs.following.Stop.{Stop}
+use Rattle.mtrace_replay.specs.declared.runs.following.Stop.TheVariants.{Reader, Writer, Memory}
 use Rattle.mtrace_replay.specs.Moment.{ReadLine}
 use Rattle.mtrace_replay.specs.Texts.{diagnostics_text}
 use Rattle.mtrace_replay.specs.Run.{with_unused, FailedInPiece, IsPastLastNumber, HasReadThese, has_some}

@@ -4,8 +4,8 @@ use Rattle.std.specs.List.Sorted.{IsStrictlyIncreasing}
 use Rattle.tlsf_heap.specs.Touches.{AtMost}
 use Rattle.mtrace_replay.specs.Moment.{rounded_bytes}
 use Rattle.mtrace_replay.specs.Holding.{Holding}
-use Rattle.mtrace_replay.specs.declared.key.Key.{Key}
-use Rattle.mtrace_replay.specs.declared.index.LookUp.{LookUp}
+use Rattle.mtrace_replay.specs.declared.heap.key.Key.{Key}
+use Rattle.mtrace_replay.specs.declared.heap.index.LookUp.{LookUp}
 use Rattle.mtrace_replay.specs.Keys.{Kept}
 use Rattle.mtrace_replay.specs.Key.{all_held, HaveRows, RiseFrom}
 use Rattle.mtrace_replay.specs.Search.{StandsAt, FitsAt}

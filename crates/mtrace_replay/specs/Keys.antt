@@ -1,8 +1,8 @@
 -- Chunks as two lists: the keys of all chunks that are in use, and the rows of all chunks.
 use Rattle.std.specs.Prelude.{◌≡◌, ◌≢◌, ℕ, suc, ◌+◌, ◌-◌, ◌*◌, ◌/◌, ◌^◌, ◌<◌, ◌≤◌, List, length, slice_index_or}
 use Rattle.std.specs.List.{flat_map, AllByRecursion}
-use Rattle.mtrace_replay.specs.declared.key.Key.{Key}
-use Rattle.mtrace_replay.specs.declared.keys.Chunk.{Chunk}
+use Rattle.mtrace_replay.specs.declared.heap.key.Key.{Key}
+use Rattle.mtrace_replay.specs.declared.heap.keys.Chunk.{Chunk}
 use Rattle.mtrace_replay.specs.Entry.{Entry}
 
 -- the rows by number, and how many there can be

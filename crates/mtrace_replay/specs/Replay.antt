@@ -1,11 +1,11 @@
 -- What a replay stands for.
 use Rattle.std.specs.Prelude.{◌≡◌, ℕ, ◌*◌, ◌^◌, ◌<◌, Bool, true, false, List, ◌∷◌, length, Option, Result, Err, IfOk, IfErr, OnOk, OnErr}
 use Rattle.mtrace_replay.specs.Entry.{Entry}
-use Rattle.mtrace_replay.specs.declared.diagnostic.Diagnostic.{Diagnostic}
-use Rattle.mtrace_replay.specs.declared.replay.ReplayFault.{ReplayFault}
-use Rattle.mtrace_replay.specs.declared.replay.ReplayFault.TheVariants.{OutOfMemory}
-use Rattle.mtrace_replay.specs.declared.settings.Settings.{Settings}
-use Rattle.mtrace_replay.specs.declared.totals.Totals.{Totals}
+use Rattle.mtrace_replay.specs.declared.held.diagnostic.Diagnostic.{Diagnostic}
+use Rattle.mtrace_replay.specs.declared.heap.replay.ReplayFault.{ReplayFault}
+use Rattle.mtrace_replay.specs.declared.heap.replay.ReplayFault.TheVariants.{OutOfMemory}
+use Rattle.mtrace_replay.specs.declared.heap.settings.Settings.{Settings}
+use Rattle.mtrace_replay.specs.declared.heap.totals.Totals.{Totals}
 use Rattle.tlsf_heap.specs.Touches.{AtMost}
 use Rattle.mtrace_replay.specs.Started.{Bare, started}
 use Rattle.mtrace_replay.specs.Asked.{greatest_class}

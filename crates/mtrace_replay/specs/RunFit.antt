@@ -5,11 +5,11 @@ use Rattle.tlsf_heap.specs.Sizing.{sure_pool}
 use Rattle.mtrace_log.specs.Shown.{Bytes, ReaderState, WriterState}
 use Rattle.mtrace_log.specs.declared.call.Call.{Call}
 use Rattle.mtrace_log.specs.declared.call.Call.TheVariants.{Began, Failed}
-use Rattle.mtrace_replay.specs.declared.settings.Settings.{Settings}
-use Rattle.mtrace_replay.specs.declared.status.Status.{Status}
-use Rattle.mtrace_replay.specs.declared.status.RunFault.{RunFault}
-use Rattle.mtrace_replay.specs.declared.status.RunFault.TheVariants.{BadSettings}
-use Rattle.mtrace_replay.specs.declared.totals.Totals.{Totals}
+use Rattle.mtrace_replay.specs.declared.heap.settings.Settings.{Settings}
+use Rattle.mtrace_replay.specs.declared.runs.status.Status.{Status}
+use Rattle.mtrace_replay.specs.declared.runs.status.RunFault.{RunFault}
+use Rattle.mtrace_replay.specs.declared.runs.status.RunFault.TheVariants.{BadSettings}
+use Rattle.mtrace_replay.specs.declared.heap.totals.Totals.{Totals}
 use Rattle.mtrace_replay.specs.Started.{started}
 use Rattle.mtrace_replay.specs.Totals.{blocks_in, rounded_bytes_in, AreTotals, IsMost, is_refused}
 use Rattle.mtrace_replay.specs.Moment.{ReadLine}

@@ -3,9 +3,9 @@ use Rattle.std.specs.Prelude.{◌≡◌, ◌⊎◌, ◌||◌, ◌==◌, ℕ, nat
 use Rattle.mtrace_log.specs.Shown.{ReaderState, WriterState}
 use Rattle.mtrace_log.specs.Output.{Wrote, Begins}
 use Rattle.mtrace_log.specs.Trace.{HasTakenAndFlushed, HasFailedToWrite}
-use Rattle.mtrace_replay.specs.declared.status.Status.{Status}
-use Rattle.mtrace_replay.specs.declared.status.RunFault.{RunFault}
-use Rattle.mtrace_replay.specs.declared.status.RunFault.TheVariants.{Write, BadSettings, OutOfMemory}
+use Rattle.mtrace_replay.specs.declared.runs.status.Status.{Status}
+use Rattle.mtrace_replay.specs.declared.runs.status.RunFault.{RunFault}
+use Rattle.mtrace_replay.specs.declared.runs.status.RunFault.TheVariants.{Write, BadSettings, OutOfMemory}
 use Rattle.mtrace_replay.specs.declared.no_heap.report.LedgerReport.TheVariants.{Nothing}
 use Rattle.mtrace_replay.specs.declared.parts.replay.CountedReplay.{CountedReplay}
 use Rattle.mtrace_replay.specs.Moment.{ReadLine}

@@ -4,10 +4,10 @@ use Rattle.mtrace_log.specs.HasRead.{HasReadAll}
 use Rattle.mtrace_log.specs.Shown.{ReaderState, WriterState}
 use Rattle.mtrace_log.specs.Output.{Wrote, Begins}
 use Rattle.mtrace_log.specs.Trace.{HasGivenAll, HasNotFailed, HasTakenAndFlushed, HasFailedToWrite, FlushWasAsked}
-use Rattle.mtrace_replay.specs.declared.status.Status.{Status}
-use Rattle.mtrace_replay.specs.declared.status.Status.TheVariants.{Clean, Found}
-use Rattle.mtrace_replay.specs.declared.status.RunFault.{RunFault}
-use Rattle.mtrace_replay.specs.declared.status.RunFault.TheVariants.{Read, Write, OutOfMemory}
+use Rattle.mtrace_replay.specs.declared.runs.status.Status.{Status}
+use Rattle.mtrace_replay.specs.declared.runs.status.Status.TheVariants.{Clean, Found}
+use Rattle.mtrace_replay.specs.declared.runs.status.RunFault.{RunFault}
+use Rattle.mtrace_replay.specs.declared.runs.status.RunFault.TheVariants.{Read, Write, OutOfMemory}
 use Rattle.mtrace_replay.specs.declared.no_heap.replay.LedgerTotals.{LedgerTotals}
 use Rattle.mtrace_replay.specs.declared.no_heap.report.LedgerReport.{LedgerReport}
 use Rattle.mtrace_replay.specs.declared.no_heap.report.LedgerReport.TheVariants.{Held, Sums, Sites, Callers, Nothing}

@@ -6,11 +6,11 @@ use Rattle.mtrace_log.specs.Trace.{HasTakenAndFlushed, HasFailedToWrite}
 use Rattle.tlsf_heap.specs.Content.{Content}
 use Rattle.tlsf_heap.specs.Bare.{bare}
 use Rattle.tlsf_heap.specs.Images.Described.{IsImageOf, Saves}
-use Rattle.mtrace_replay.specs.declared.report.Report.TheVariants.{Nothing}
-use Rattle.mtrace_replay.specs.declared.settings.Settings.{Settings}
-use Rattle.mtrace_replay.specs.declared.status.Status.{Status}
-use Rattle.mtrace_replay.specs.declared.status.RunFault.{RunFault}
-use Rattle.mtrace_replay.specs.declared.status.RunFault.TheVariants.{Image}
+use Rattle.mtrace_replay.specs.declared.runs.report.Report.TheVariants.{Nothing}
+use Rattle.mtrace_replay.specs.declared.heap.settings.Settings.{Settings}
+use Rattle.mtrace_replay.specs.declared.runs.status.Status.{Status}
+use Rattle.mtrace_replay.specs.declared.runs.status.RunFault.{RunFault}
+use Rattle.mtrace_replay.specs.declared.runs.status.RunFault.TheVariants.{Image}
 use Rattle.mtrace_replay.specs.Started.{Bare}
 use Rattle.mtrace_replay.specs.Run.{Runs, HoldsAtEnd}
 

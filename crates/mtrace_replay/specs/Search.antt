@@ -2,7 +2,7 @@
 use Rattle.std.specs.Prelude.{◌≡◌, ◌⊎◌, ℕ, ◌+◌, ◌<◌, ◌≤◌, ◌^◌, List, length, take, drop, slice_index_or, None}
 use Rattle.std.specs.List.{remove}
 use Rattle.tlsf_heap.specs.Touches.{AtMost}
-use Rattle.mtrace_replay.specs.declared.key.Key.{Key}
+use Rattle.mtrace_replay.specs.declared.heap.key.Key.{Key}
 use Rattle.mtrace_replay.specs.Key.{AreBelow, AreAbove}
 
 -- the key there has the address, held or not, and the keys behind it have higher ones

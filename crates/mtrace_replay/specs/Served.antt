@@ -3,13 +3,13 @@ use Rattle.std.specs.Prelude.{◌≡◌, ℕ, suc, Bool, true, false, nat_lt, Li
 use Rattle.std.specs.Option.{option_map}
 use Rattle.tlsf_heap.specs.Pools.{created}
 use Rattle.mtrace_replay.specs.Entry.{Entry}
-use Rattle.mtrace_replay.specs.declared.diagnostic.Diagnostic.{Diagnostic}
+use Rattle.mtrace_replay.specs.declared.held.diagnostic.Diagnostic.{Diagnostic}
 use Rattle.mtrace_replay.specs.Started.{Bare}
 use Rattle.mtrace_replay.specs.Moment.{ReadLine, Given, Moment, Plan, Act, idle, give, take, move, plan, half, is_new, unserved, after_diagnostics}
 use Rattle.mtrace_replay.specs.History.{held, held_after, pending, notes, AreHeld, entries_of}
 use Rattle.mtrace_replay.specs.Totals.{is_served, first_moments, Measures, IsPeak, blocks_in}
 use Rattle.mtrace_replay.specs.declared.no_heap.replay.LedgerTotals.{LedgerTotals}
-use Rattle.mtrace_replay.specs.declared.totals.Totals.{Totals}
+use Rattle.mtrace_replay.specs.declared.heap.totals.Totals.{Totals}
 use Rattle.mtrace_replay.specs.Texts.{total_size}
 use Rattle.mtrace_replay.specs.Sites.{Site, AreTallied}
 use Rattle.mtrace_replay.specs.Calls.{Called, CountsMore, CountsReleased}

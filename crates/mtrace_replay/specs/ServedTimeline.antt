@@ -5,8 +5,8 @@ use Rattle.mtrace_log.specs.Shown.{Bytes, ReaderState}
 use Rattle.mtrace_log.specs.Trace.{HasNotFailed}
 use Rattle.mtrace_log.specs.Progress.{Progress, greatest_number}
 use Rattle.mtrace_replay.specs.declared.no_heap.point.LedgerPoint.{LedgerPoint}
-use Rattle.mtrace_replay.specs.declared.status.RunFault.{RunFault}
-use Rattle.mtrace_replay.specs.declared.status.RunFault.TheVariants.{Read, OutOfMemory}
+use Rattle.mtrace_replay.specs.declared.runs.status.RunFault.{RunFault}
+use Rattle.mtrace_replay.specs.declared.runs.status.RunFault.TheVariants.{Read, OutOfMemory}
 use Rattle.mtrace_replay.specs.Moment.{ReadLine, Moment}
 use Rattle.mtrace_replay.specs.Totals.{Measures, bytes_in, blocks_in}
 use Rattle.mtrace_replay.specs.Served.{served_history, Standing, IsServed}

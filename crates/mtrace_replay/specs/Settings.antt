@@ -1,7 +1,7 @@
 -- The settings of a replay.
 use Rattle.std.specs.Prelude.{◌*◌, ◌%◌, Bool, not, ◌||◌, ◌==◌, nat_lt}
 use Rattle.tlsf_class.specs.Classes.{unit, greatest_size}
-use Rattle.mtrace_replay.specs.declared.settings.Settings.{Settings}
+use Rattle.mtrace_replay.specs.declared.heap.settings.Settings.{Settings}
 use Rattle.tlsf_heap.specs.Pools.{most_pools, most_records, end_of_places}
 
 -- `pool` isn't a whole number of units from one to the greatest size; `pools` isn't 1 to 8; `records`

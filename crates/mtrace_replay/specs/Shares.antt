@@ -3,7 +3,7 @@ use Rattle.std.specs.Prelude.{◌≡◌, ℕ, suc, ◌+◌, ◌-◌, ◌*◌, �
 use Rattle.std.specs.List.{All, sum_by}
 use Rattle.mtrace_replay.specs.declared.no_heap.count.Count.{Count}
 use Rattle.mtrace_replay.specs.Calls.{Caller, no_calls, count_temporary, has_no_call, caller_of}
-use Rattle.mtrace_replay.specs.declared.amount.Amount.{Amount}
+use Rattle.mtrace_replay.specs.declared.held.amount.Amount.{Amount}
 use Rattle.mtrace_replay.specs.declared.no_heap.shares.Share.{Share}
 use Rattle.mtrace_replay.specs.declared.no_heap.shares.When.{When}
 use Rattle.mtrace_replay.specs.declared.no_heap.shares.When.TheVariants.{Peak, End}

@@ -4,11 +4,11 @@ use Rattle.mtrace_log.specs.Shown.{WriterState}
 use Rattle.tlsf_class.specs.Rounding.{round}
 use Rattle.tlsf_heap.specs.Memalign.{is_alignment}
 use Rattle.tlsf_heap.specs.Sizing.{class_size, sure_records, sure_pool}
-use Rattle.mtrace_replay.specs.declared.size.Bounds.{Bounds}
-use Rattle.mtrace_replay.specs.declared.status.Status.{Status}
-use Rattle.mtrace_replay.specs.declared.status.Status.TheVariants.{Clean}
-use Rattle.mtrace_replay.specs.declared.status.RunFault.{RunFault}
-use Rattle.mtrace_replay.specs.declared.status.RunFault.TheVariants.{Write, BadSettings}
+use Rattle.mtrace_replay.specs.declared.runs.size.Bounds.{Bounds}
+use Rattle.mtrace_replay.specs.declared.runs.status.Status.{Status}
+use Rattle.mtrace_replay.specs.declared.runs.status.Status.TheVariants.{Clean}
+use Rattle.mtrace_replay.specs.declared.runs.status.RunFault.{RunFault}
+use Rattle.mtrace_replay.specs.declared.runs.status.RunFault.TheVariants.{Write, BadSettings}
 use Rattle.mtrace_replay.specs.Moment.{asked_size, rounded_bytes}
 use Rattle.mtrace_replay.specs.Saving.{PutsAndFlushes}
 use Rattle.mtrace_replay.specs.Texts.{record_lines, size_line}

@@ -2,11 +2,11 @@
 use Rattle.std.specs.Prelude.{◌≡◌, ◌≢◌, ◌⊎◌, ◌↔◌, ◌||◌, ◌==◌, ℕ, nat_lt, Bool, not, List, [], ◌∷◌, ◌++◌, length, flat_map, codes, is_some, Option, Some, option_map, option_and_then, Result, Err, IfOk, IfErr, IsErrOf, IsTrue}
 use Rattle.mtrace_log.specs.Shown.{WriterState}
 use Rattle.tlsf_heap.specs.Sizing.{class_size}
-use Rattle.mtrace_replay.specs.declared.size_parts.PartBounds.{PartBounds}
-use Rattle.mtrace_replay.specs.declared.status.Status.{Status}
-use Rattle.mtrace_replay.specs.declared.status.Status.TheVariants.{Clean}
-use Rattle.mtrace_replay.specs.declared.status.RunFault.{RunFault}
-use Rattle.mtrace_replay.specs.declared.status.RunFault.TheVariants.{Write, BadSettings}
+use Rattle.mtrace_replay.specs.declared.runs.size_parts.PartBounds.{PartBounds}
+use Rattle.mtrace_replay.specs.declared.runs.status.Status.{Status}
+use Rattle.mtrace_replay.specs.declared.runs.status.Status.TheVariants.{Clean}
+use Rattle.mtrace_replay.specs.declared.runs.status.RunFault.{RunFault}
+use Rattle.mtrace_replay.specs.declared.runs.status.RunFault.TheVariants.{Write, BadSettings}
 use Rattle.mtrace_replay.specs.Saving.{PutsAndFlushes}
 use Rattle.mtrace_replay.specs.Texts.{size_line}
 use Rattle.mtrace_replay.specs.Parts.{Part, pool_bytes, records_bytes, sum_over, part_line}

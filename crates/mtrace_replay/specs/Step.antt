@@ -10,11 +10,11 @@ use Rattle.tlsf_heap.specs.declared.refusal.Refusal.{Refusal}
 use Rattle.tlsf_heap.specs.declared.refusal.Refusal.TheVariants.{OutOfMemory}
 use Rattle.tlsf_heap.specs.Pointer.{Pointer}
 use Rattle.tlsf_heap.specs.Touches.{AtMost}
-use Rattle.mtrace_replay.specs.declared.diagnostic.Diagnostic.{Diagnostic}
+use Rattle.mtrace_replay.specs.declared.held.diagnostic.Diagnostic.{Diagnostic}
 use Rattle.mtrace_replay.specs.Holding.{Holding}
-use Rattle.mtrace_replay.specs.declared.totals.Totals.{Totals}
+use Rattle.mtrace_replay.specs.declared.heap.totals.Totals.{Totals}
 use Rattle.mtrace_replay.specs.Started.{Bare}
-use Rattle.mtrace_replay.specs.declared.step.Block.{Block}
+use Rattle.mtrace_replay.specs.declared.heap.step.Block.{Block}
 use Rattle.mtrace_replay.specs.Moment.{Given, Moment, Plan, carried_out, acts, without}
 use Rattle.mtrace_replay.specs.History.{held_after}
 use Rattle.mtrace_replay.specs.Index.{Indexed, held_at, LooksUp}

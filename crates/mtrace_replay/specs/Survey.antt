@@ -3,7 +3,7 @@ use Rattle.std.specs.Prelude.{◌≡◌, ℕ, ◌+◌, ◌*◌, ◌^◌, ◌≤�
 use Rattle.std.specs.List.{filter}
 use Rattle.tlsf_heap.specs.declared.row.Row.{Row}
 use Rattle.tlsf_heap.specs.Content.{Content, blocks_of, is_free}
-use Rattle.mtrace_replay.specs.declared.survey.Survey.{Survey}
+use Rattle.mtrace_replay.specs.declared.heap.survey.Survey.{Survey}
 use Rattle.mtrace_replay.specs.Started.{Bare}
 use Rattle.mtrace_replay.specs.Texts.{greatest}
 

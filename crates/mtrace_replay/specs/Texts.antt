@@ -10,22 +10,22 @@ use Rattle.tlsf_heap.specs.Rows.{row_of}
 use Rattle.mtrace_replay.specs.Entry.{Entry}
 use Rattle.mtrace_replay.specs.declared.no_heap.point.LedgerPoint.{LedgerPoint}
 use Rattle.mtrace_replay.specs.declared.no_heap.replay.LedgerTotals.{LedgerTotals}
-use Rattle.mtrace_replay.specs.declared.report.Report.{Report}
-use Rattle.mtrace_replay.specs.declared.report.Report.TheVariants.{Leaks, Peak, Walk, Nothing}
-use Rattle.mtrace_replay.specs.declared.point.Point.{Point}
-use Rattle.mtrace_replay.specs.declared.totals.Totals.{Totals}
+use Rattle.mtrace_replay.specs.declared.runs.report.Report.{Report}
+use Rattle.mtrace_replay.specs.declared.runs.report.Report.TheVariants.{Leaks, Peak, Walk, Nothing}
+use Rattle.mtrace_replay.specs.declared.heap.point.Point.{Point}
+use Rattle.mtrace_replay.specs.declared.heap.totals.Totals.{Totals}
 use Rattle.mtrace_replay.specs.Started.{Bare}
 use Rattle.mtrace_replay.specs.Calls.{Caller}
 use Rattle.mtrace_replay.specs.declared.no_heap.count.Count.{Count}
 use Rattle.mtrace_replay.specs.Sites.{Site}
-use Rattle.mtrace_replay.specs.declared.fitted.Fitted.{Fitted}
-use Rattle.mtrace_replay.specs.declared.diagnostic.Diagnostic.{Diagnostic}
-use Rattle.mtrace_replay.specs.declared.diagnostic.Kind.{Kind}
-use Rattle.mtrace_replay.specs.declared.diagnostic.Kind.TheVariants.{TooLong, NotALine, NotHeld, AlreadyHeld, Refused, Half, Stray}
+use Rattle.mtrace_replay.specs.declared.runs.fitted.Fitted.{Fitted}
+use Rattle.mtrace_replay.specs.declared.held.diagnostic.Diagnostic.{Diagnostic}
+use Rattle.mtrace_replay.specs.declared.held.diagnostic.Kind.{Kind}
+use Rattle.mtrace_replay.specs.declared.held.diagnostic.Kind.TheVariants.{TooLong, NotALine, NotHeld, AlreadyHeld, Refused, Half, Stray}
 use Rattle.tlsf_heap.specs.declared.refusal.Refusal.{Refusal}
 use Rattle.tlsf_heap.specs.declared.refusal.Refusal.TheVariants.{ZeroSize, NoFit, TableFull, BadPointer, BadAlign, BadPool, PoolsFull, PoolInUse, OutOfMemory, NoPool}
-use Rattle.mtrace_replay.specs.declared.status.Status.{Status}
-use Rattle.mtrace_replay.specs.declared.status.Status.TheVariants.{Clean, Found}
+use Rattle.mtrace_replay.specs.declared.runs.status.Status.{Status}
+use Rattle.mtrace_replay.specs.declared.runs.status.Status.TheVariants.{Clean, Found}
 
 -- a refusal in words
 abbrev pub refusal_text : Refusal → List ℕ

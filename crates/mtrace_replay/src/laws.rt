@@ -6,7 +6,7 @@ ghost use Rattle.tlsf_heap.specs.OneSize.{HasRecords};
 ghost use Rattle.mtrace_replay.specs.OneSize.{AsksForSize, rounded_up, served_acts};
 ghost use Rattle.tlsf_class.specs.Classes.{unit};
 ghost use Rattle.tlsf_heap.specs.declared.refusal.Refusal.TheVariants.{NoFit, TableFull};
-ghost use Rattle.mtrace_replay.specs.declared.settings.Settings.{Settings};
+ghost use Rattle.mtrace_replay.specs.declared.heap.settings.Settings.{Settings};
 ghost use Rattle.mtrace_replay.specs.Started.{Bare, started};
 ghost use Rattle.mtrace_replay.specs.Moment.{ReadLine, Given, Moment};
 ghost use Rattle.mtrace_replay.specs.History.{AreHeld, held, moments, history, diagnostics, entries_of};
@@ -21,14 +21,14 @@ ghost use Rattle.mtrace_replay.specs.Enough.{HoldsAtMost, HoldsBytesAtMost, acts
 ghost use Rattle.mtrace_replay.specs.Held.{IsHeldUnder};
 ghost use Rattle.mtrace_replay.specs.Entry.{Entry};
 ghost use Rattle.mtrace_replay.specs.Sites.{Site, AreSites};
-ghost use Rattle.mtrace_replay.specs.declared.totals.Totals.{Totals};
+ghost use Rattle.mtrace_replay.specs.declared.heap.totals.Totals.{Totals};
 ghost use Rattle.mtrace_replay.specs.Totals.{first_moments, AreTotals, IsMost};
 ghost use Rattle.mtrace_replay.specs.declared.no_heap.replay.LedgerTotals.{LedgerTotals};
 ghost use Rattle.mtrace_replay.specs.Served.{served_history, served_diagnostics, without_places};
 ghost use Rattle.mtrace_replay.specs.RunServed.{AreServedTotals};
 ghost use Rattle.mtrace_replay.specs.declared.no_heap.point.LedgerPoint.{LedgerPoint};
 ghost use Rattle.mtrace_replay.specs.ServedTimeline.{IsLedgerPoint, IsPointOfLines};
-ghost use Rattle.mtrace_replay.specs.declared.point.Point.{Point};
+ghost use Rattle.mtrace_replay.specs.declared.heap.point.Point.{Point};
 ghost use Rattle.mtrace_replay.specs.Timeline.{AreTold, IsPoint};
 
 use tlsf_heap::{Heap, Heaped};

@@ -17,11 +17,11 @@ use Rattle.clap.specs.declared.error.kind.ErrorKind.{ErrorKind}
 use Rattle.clap.specs.declared.error.kind.ErrorKind.TheVariants as kind
 use Rattle.clap.proofs.OnLiterals.{clap_on_literals}
 use Rattle.clap.proofs.WalkLemmas.{one_text-rows}
-use Rattle.mtrace_replay.specs.declared.settings.Settings.{Settings}
+use Rattle.mtrace_replay.specs.declared.heap.settings.Settings.{Settings}
 use Rattle.mtrace_replay.specs.declared.no_heap.report.LedgerReport.TheVariants.{Held, Sums, Callers, Nothing}
-use Rattle.mtrace_replay.specs.declared.size.Bounds.{Bounds}
-use Rattle.mtrace_replay.specs.declared.size_parts.PartBounds.{PartBounds}
-use Rattle.mtrace_replay.specs.declared.status.RunFault.TheVariants.{OutOfMemory}
+use Rattle.mtrace_replay.specs.declared.runs.size.Bounds.{Bounds}
+use Rattle.mtrace_replay.specs.declared.runs.size_parts.PartBounds.{PartBounds}
+use Rattle.mtrace_replay.specs.declared.runs.status.RunFault.TheVariants.{OutOfMemory}
 use Rattle.tlsf_tool.specs.declared.asked.Command.{Command}
 use Rattle.mtrace_replay.specs.declared.no_heap.report.LedgerReport.TheVariants as ledger
 use Rattle.tlsf_tool.specs.declared.asked.Command.TheVariants.{Report, Follow, Parts, Reread, Size, SizeParts, Save, Check}

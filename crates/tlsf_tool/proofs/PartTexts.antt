@@ -2,8 +2,8 @@
 use Rattle.std.proofs.Common.{◌≡◌, ℕ, zero, suc, ◌<◌, List, [], ◌∷◌, ◌++◌, length, map, take, get_or, Some, None, sym, ap, ◌∙◌, subst, codes, arith, Bor}
 use Rattle.std.proofs.lemmas.List.{length-map}
 use Rattle.clap.specs.Words.{Row, Text, all_of}
-use Rattle.mtrace_replay.specs.declared.size.Bounds.{Bounds}
-use Rattle.mtrace_replay.specs.declared.size_parts.PartBounds.{PartBounds}
+use Rattle.mtrace_replay.specs.declared.runs.size.Bounds.{Bounds}
+use Rattle.mtrace_replay.specs.declared.runs.size_parts.PartBounds.{PartBounds}
 use Rattle.tlsf_tool.specs.CommandLine.{IsPartText, ArePartTexts, HasBounds, HasNoBounds, HasParts}
 use Rattle.tlsf_tool.proofs.CommandLineLemmas.{HasNoSize}
 

@@ -2,7 +2,7 @@
 use Rattle.std.specs.Prelude.{◌≡◌, ◌⊎◌, List, Option, Result, String, IfOk, IfErr, IfSome, IfNone}
 use Rattle.std.specs.declared.alloc.Global.{Global}
 use Rattle.clap.specs.Words.{Row, Text}
-use Rattle.mtrace_replay.specs.declared.status.RunFault.TheVariants.{OutOfMemory}
+use Rattle.mtrace_replay.specs.declared.runs.status.RunFault.TheVariants.{OutOfMemory}
 use Rattle.tlsf_tool.specs.declared.asked.Command.{Command}
 use Rattle.tlsf_tool.specs.declared.asked.ToolFault.{ToolFault}
 use Rattle.tlsf_tool.specs.declared.asked.ToolFault.TheVariants.{Run}

@@ -5,10 +5,10 @@ use Rattle.mtrace_log.specs.Output.{Wrote, Begins}
 use Rattle.mtrace_log.specs.Trace.{pulled, HasGivenAndFailed, HasNotFailed, HasTakenAndFlushed, HasFailedToWrite}
 use Rattle.mtrace_log.specs.Shown.{Bytes, ReaderState, WriterState}
 use Rattle.mtrace_log.specs.declared.failed.Failed.{Failed}
-use Rattle.mtrace_replay.specs.declared.status.Status.{Status}
-use Rattle.mtrace_replay.specs.declared.status.Status.TheVariants.{Clean, Found}
-use Rattle.mtrace_replay.specs.declared.status.RunFault.{RunFault}
-use Rattle.mtrace_replay.specs.declared.status.RunFault.TheVariants.{Read, Write, OutOfMemory}
+use Rattle.mtrace_replay.specs.declared.runs.status.Status.{Status}
+use Rattle.mtrace_replay.specs.declared.runs.status.Status.TheVariants.{Clean, Found}
+use Rattle.mtrace_replay.specs.declared.runs.status.RunFault.{RunFault}
+use Rattle.mtrace_replay.specs.declared.runs.status.RunFault.TheVariants.{Read, Write, OutOfMemory}
 use Rattle.tlsf_store.specs.Records.{most_records}
 use Rattle.tlsf_heap.specs.declared.image.rule.Rule.{Rule}
 use Rattle.tlsf_heap.specs.declared.image.rule.Rule.TheVariants.{Magic, Length, Pools, UnusedPools, States, Links, Chains, Cover, OnChains, Merged, Lists, OnLists}

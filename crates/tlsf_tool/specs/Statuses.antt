@@ -10,14 +10,14 @@ use Rattle.tlsf_tool.specs.declared.asked.Rereading.{Rereading}
 use Rattle.tlsf_tool.specs.declared.asked.Rereading.TheVariants.{Sites, Timeline, Fit}
 use Rattle.tlsf_tool.specs.declared.asked.Name.{Name}
 use Rattle.tlsf_tool.specs.declared.asked.Name.TheVariants.{Leaks, Peak, Walk}
-use Rattle.mtrace_replay.specs.declared.report.Report.{Report}
-use Rattle.mtrace_replay.specs.declared.report.Report.TheVariants as report
+use Rattle.mtrace_replay.specs.declared.runs.report.Report.{Report}
+use Rattle.mtrace_replay.specs.declared.runs.report.Report.TheVariants as report
 use Rattle.tlsf_tool.specs.declared.asked.ToolFault.{ToolFault}
 use Rattle.tlsf_tool.specs.declared.asked.ToolFault.TheVariants.{Help, Usage, CannotOpen, InputIsOutput, ImageIsOutput, ReadsOnce, ReadsFileOnce, Run}
-use Rattle.mtrace_replay.specs.declared.status.Status.{Status}
-use Rattle.mtrace_replay.specs.declared.status.Status.TheVariants.{Clean, Found}
-use Rattle.mtrace_replay.specs.declared.status.RunFault.{RunFault}
-use Rattle.mtrace_replay.specs.declared.status.RunFault.TheVariants.{Read, Write, OutOfMemory, BadSettings, Image}
+use Rattle.mtrace_replay.specs.declared.runs.status.Status.{Status}
+use Rattle.mtrace_replay.specs.declared.runs.status.Status.TheVariants.{Clean, Found}
+use Rattle.mtrace_replay.specs.declared.runs.status.RunFault.{RunFault}
+use Rattle.mtrace_replay.specs.declared.runs.status.RunFault.TheVariants.{Read, Write, OutOfMemory, BadSettings, Image}
 
 -- the report of a name
 abbrev pub report_of : Name → Report

@@ -1,7 +1,7 @@
 //! The words of the command line.
 
 ghost use Rattle.std.specs.Prelude.{◌≡◌, ◌⊎◌, List, map, MatchBool, codes, string_bytes, Some, None};
-ghost use Rattle.mtrace_replay.specs.declared.size_parts.PartBounds.{PartBounds};
+ghost use Rattle.mtrace_replay.specs.declared.runs.size_parts.PartBounds.{PartBounds};
 ghost use Rattle.clap.specs.Words.{all_of, first_of, found_of, kind_of, rows_of, subcommand_rows_of};
 ghost use Rattle.tlsf_tool.specs.CommandLine.{HasNumber, HasOr, HasNoSetting, HasHeap, HasSettings, HasBounds, HasNoBounds, IsNumberText, IsPartText, ArePartTexts, HasFlag, HasNoHeap, HasNoLog, default_settings, IsOfReport, name_text};
 ghost use Rattle.tlsf_tool.specs.Faults.{ExplainsKind, IsUsage};

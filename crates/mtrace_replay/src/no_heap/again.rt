@@ -4,8 +4,8 @@ ghost use Rattle.std.specs.Prelude.{◌≡◌, ◌+◌, ◌≤◌, [], OnOk};
 ghost use Rattle.mtrace_replay.specs.ServedTimeline.{FollowsUpTo};
 
 use super::replay::LedgerReplay;
-use crate::findings::Findings;
-use crate::status::RunFault;
+use crate::held::findings::Findings;
+use crate::runs::status::RunFault;
 use mtrace_log::{Lines, Source};
 
 /// Reads and follows the next line. What is wrong with it isn't told.

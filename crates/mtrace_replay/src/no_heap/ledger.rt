@@ -17,10 +17,10 @@ ghost use Rattle.mtrace_replay.specs.Ledger.{held_at, slot_of, IsCounted, Forget
 use super::count::Count;
 use super::locations::Locations;
 use super::shares::{Shares, When};
-use crate::amount::Amount;
-use crate::caller::{Caller, sort_callers};
-use crate::grouping::sort_sites;
-use crate::site::Site;
+use crate::held::amount::Amount;
+use crate::held::caller::{Caller, sort_callers};
+use crate::held::grouping::sort_sites;
+use crate::held::site::Site;
 use mtrace_log::Addr;
 use std::alloc::{AllocError, Global};
 use std::collections::HashMap;

@@ -7,10 +7,10 @@ ghost use Rattle.mtrace_replay.specs.Ledger.{held_at, KeepsPeak};
 ghost use Rattle.mtrace_replay.specs.Served.{Serves, found_in};
 
 use super::ledger::Ledger;
-use crate::diagnostic::{Diagnostic, Kind};
-use crate::entry::Entry;
-use crate::findings::Findings;
-use crate::step::entry_of;
+use crate::heap::step::entry_of;
+use crate::held::diagnostic::{Diagnostic, Kind};
+use crate::held::entry::Entry;
+use crate::held::findings::Findings;
 use mtrace_log::{Addr, Event, LentLocation, LineFault};
 use std::alloc::AllocError;
 

@@ -6,8 +6,8 @@ ghost use Rattle.mtrace_replay.specs.Prepared.{IsOf, HasNamed};
 use super::replay::LedgerReplay;
 use super::report::LedgerReport;
 use super::shares::When;
-use crate::caller::Caller;
-use crate::site::Site;
+use crate::held::caller::Caller;
+use crate::held::site::Site;
 use std::alloc::{AllocError, Global};
 
 /// A report for which all memory was taken, with what it names.

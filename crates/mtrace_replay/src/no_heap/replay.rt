@@ -7,11 +7,11 @@ ghost use Rattle.mtrace_replay.specs.Served.{IsServed, FeedsLedger, RaisesPeak, 
 
 use super::ledger::Ledger;
 use super::line::outcome;
-use crate::amount::Amount;
-use crate::diagnostic::Note;
-use crate::findings::Findings;
-use crate::line_replay::LineReplay;
-use crate::replay::{half_before, half_diagnostic, old_address, put_half};
+use crate::heap::replay::{half_before, half_diagnostic, old_address, put_half};
+use crate::held::amount::Amount;
+use crate::held::diagnostic::Note;
+use crate::held::findings::Findings;
+use crate::runs::line_replay::LineReplay;
 use mtrace_log::{Addr, Event, LentLocation, LineFault};
 use std::alloc::{AllocError, Global};
 use std::marker::Model;

@@ -12,14 +12,14 @@ ghost use Rattle.mtrace_replay.specs.Prepared.{HasNamed, held_text, prepared_tex
 use super::ledger::{Ledger, Seen};
 use super::prepared::Prepared;
 use super::replay::{LedgerReplay, LedgerTotals};
-use crate::caller::Caller;
-use crate::line_text::{
+use crate::held::caller::Caller;
+use crate::held::line_text::{
     LineText, push_address, push_bytes, push_number, push_number_line, push_wide_pair_line,
     wide_total_text,
 };
-use crate::location_text::put_location;
-use crate::sections::{put_both, put_callers};
-use crate::site::Site;
+use crate::held::location_text::put_location;
+use crate::held::sections::{put_both, put_callers};
+use crate::held::site::Site;
 use arrayvec::ArrayVec;
 use mtrace_log::{Addr, Failed, LONGEST_ADDRESS, Sink, put_all};
 

@@ -10,10 +10,10 @@ ghost use Rattle.mtrace_replay.specs.declared.no_heap.report.LedgerReport.TheVar
 use super::prepared::{Prepared, prepare};
 use super::replay::LedgerReplay;
 use super::report::{LedgerReport, put_ledger_report};
-use crate::diagnostic::Note;
-use crate::following::{Stop, follow_lines};
-use crate::run::put_diagnostics;
-use crate::status::{RunFault, Status};
+use crate::held::diagnostic::Note;
+use crate::runs::following::{Stop, follow_lines};
+use crate::runs::run::put_diagnostics;
+use crate::runs::status::{RunFault, Status};
 use mtrace_log::{Failed, Sink, Source};
 use std::alloc::Global;
 

@@ -5,7 +5,7 @@ ghost use Rattle.mtrace_replay.specs.Calls.{count_more, count_temporary, no_call
 ghost use Rattle.mtrace_replay.specs.Shares.{Changes, Counts, KeepsAmounts, KeepsCounts, KeepsShares, Marks, IsOfWords, amount_at, amount_more, amount_less, count_at, now_at, marked_at, marked_in, no_share, nothing};
 
 use super::count::Count;
-use crate::amount::Amount;
+use crate::held::amount::Amount;
 use std::alloc::{AllocError, Global};
 use std::marker::Model;
 

@@ -5,7 +5,7 @@ ghost use Rattle.mtrace_replay.specs.Asked.{class_asked};
 ghost use Rattle.mtrace_replay.specs.Spans.{released_by, address_asked, block_asked};
 
 use super::spans::Block;
-use crate::asked::Asked;
+use crate::heap::asked::Asked;
 use mtrace_log::{Addr, Event, LentLocation, LineFault};
 
 /// What a line releases where it is served, and where it isn't. The address that it asks for, and the class size.

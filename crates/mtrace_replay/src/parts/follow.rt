@@ -7,10 +7,10 @@ ghost use Rattle.mtrace_replay.specs.RunParts.{IsStart, EndsCounted};
 ghost use Rattle.mtrace_replay.specs.declared.no_heap.report.LedgerReport.TheVariants.{Nothing};
 
 use super::replay::CountedReplay;
-use crate::following::{Stop, follow_lines};
 use crate::no_heap::prepared::Prepared;
 use crate::no_heap::run::finish;
-use crate::status::{RunFault, Status};
+use crate::runs::following::{Stop, follow_lines};
+use crate::runs::status::{RunFault, Status};
 use mtrace_log::{Sink, Source};
 
 /// Reads a log and follows it, and writes what is wrong with its lines. Answers its status.

@@ -9,9 +9,9 @@ ghost use Rattle.mtrace_replay.specs.CountedReplay.{IsChangeOf, FeedsCounted};
 
 use super::change::Change;
 use super::spans::Spans;
-use crate::findings::Findings;
-use crate::line_replay::LineReplay;
+use crate::held::findings::Findings;
 use crate::no_heap::replay::LedgerReplay;
+use crate::runs::line_replay::LineReplay;
 use mtrace_log::{Event, LentLocation, LineFault};
 use std::alloc::{AllocError, Global};
 

@@ -9,8 +9,10 @@ ghost use Rattle.mtrace_replay.specs.Texts.{number_line, size_line};
 ghost use Rattle.mtrace_replay.specs.Parts.{Part, pool_bytes, records_bytes, sum_over, part_line, parts_text, no_parts_text, peak_line_text};
 ghost use Rattle.mtrace_replay.specs.PartsText.{part_in};
 
-use crate::fit_text::push_size_line;
-use crate::line_text::{LineText, push_bytes, push_number, push_number_line, push_wide_pair_line};
+use crate::held::line_text::{
+    LineText, push_bytes, push_number, push_number_line, push_wide_pair_line,
+};
+use crate::runs::fit_text::push_size_line;
 use arrayvec::ArrayVec;
 use mtrace_log::{Failed, Sink, put_all};
 use tlsf_class::GREATEST_SIZE;

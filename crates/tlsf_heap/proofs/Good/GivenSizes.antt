@@ -5,6 +5,7 @@ use Rattle.std.specs.Int.{next_multiple_of}
 use Rattle.std.specs.List.{Contains}
 use Rattle.std.proofs.lemmas.Bool.{cases_Bool, cases_eq, cases_lt, eq-eqb, ne_eqb, eqb-true, lt-ltb, and_parts, and_left}
 use Rattle.tlsf_class.specs.Rounding.{round}
+use Rattle.tlsf_class.proofs.RoundingLaws.{round-Some}
 use Rattle.tlsf_heap.specs.declared.refusal.Refusal.{Refusal}
 use Rattle.tlsf_heap.specs.declared.refusal.Refusal.TheVariants.{BadPointer}
 use Rattle.tlsf_heap.specs.Content.{Block, Pool, Content, blocks_of, is_free, is_at, size_at, used_records}
@@ -16,7 +17,7 @@ use Rattle.tlsf_heap.specs.Good.{IsGood}
 use Rattle.tlsf_heap.proofs.Counts.{one_if, count-cons, count-append}
 use Rattle.tlsf_heap.proofs.Content.Given.{malloc_gave}
 use Rattle.tlsf_heap.proofs.Content.MemalignCases.{IsPicked, split_aligned_of, memalign_given}
-use Rattle.tlsf_heap.proofs.Content.ReallocCases.{sized_same, sized_in_place, sized_moved, realloc_freed, realloc_resized}
+use Rattle.tlsf_heap.proofs.Content.ReallocCases.{sized_same, sized_in_place, sized_kept, sized_moved, realloc_freed, realloc_resized}
 use Rattle.tlsf_heap.proofs.Content.Replacing.{blocks_of-replaced}
 use Rattle.tlsf_heap.proofs.Good.LiveBlocks.{stands_first, stands_later, stands_first_or_later, gap_is_free, size_here, live_from_after_free, elsewhere_or_other}
 use Rattle.tlsf_heap.proofs.Good.StaysLive.{is_free_at, picked_stands, given_replaced}
@@ -100,62 +101,82 @@ module _ {A : Type 0} where
       (p.asked, p.rounds, omega (arith, own, one, eqb-true found.0.size p.asked parts.1))))
       (memalign_is_good owner align n content given good served)
 
-  -- what realloc gives
-  module _ (same : A → A → Bool) (owner known : A) (place n : ℕ) (content : Content A) (good : IsGood content) (room : used_records content < content.records) where
+  -- what realloc gives: what holds of a block of the bytes asked for, and of one that stays though it could get smaller
+  module _ (P : Block A → Type 0) (same : A → A → Bool) (owner known : A) (place n : ℕ) (content : Content A) (good : IsGood content) where
     abbrev pub IsMoved : Option (ℕ × A) × Content A → Type 0
-    IsMoved given = (q : ℕ) (o : A) → given.0 ≡ Some (q, o) → AreRounded n q given.1
+    IsMoved given = (q : ℕ) (o : A) → given.0 ≡ Some (q, o) → (b : Block A) → Contains (blocks_of given.1.pools) b → is_free b ≡ false → b.place ≡ q → P b
 
-    moved_to : (q : ℕ) (o : A) (now : Content A) → AreRounded n q now → IsMoved (Some (q, o), now)
-    moved_to q o now sized p other is = let at : q ≡ p = (let pair : (q, o) ≡ (p, other) = cc in ap (λ (pointer : ℕ × A). pointer.0) pair) in subst (λ r. AreRounded n r now) at sized
+    module _ (of_rounded : (b : Block A) → IsRounded n b → P b)
+        (stays : (m : ℕ) → round n ≡ Some m → m < size_at place (blocks_of content.pools) → fits_in_place place m content ≡ false → (b : Block A) → Contains (blocks_of content.pools) b → b.place ≡ place → P b) where
+      moved_to : (q : ℕ) (o : A) (now : Content A) → ((b : Block A) → Contains (blocks_of now.pools) b → is_free b ≡ false → b.place ≡ q → P b) → IsMoved (Some (q, o), now)
+      moved_to q o now sized p other is =
+          let at : q ≡ p = (let pair : (q, o) ≡ (p, other) = cc in ap (λ (pointer : ℕ × A). pointer.0) pair) in
+          subst (λ r. (b : Block A) → Contains (blocks_of now.pools) b → is_free b ≡ false → b.place ≡ r → P b) at sized
 
-    smaller_fits : (m : ℕ) → m < size_at place (blocks_of content.pools) → fits_in_place place m content ≡ true
-    smaller_fits m less = elim (cases_Bool (is_some (free_next place content))) [
-      | inl some ↦ rw (lt-ltb m (size_at place (blocks_of content.pools)) less, some) refl
-      | inr none ↦ rw (lt-ltb m (size_at place (blocks_of content.pools)) less, none, lt-ltb (used_records content) content.records room) refl
-    ]
+      anew : (given : Option (ℕ × A) × Content A) (served : Result (ℕ × Content A) Refusal) → malloc owner n content ≡ served → moved owner place served ≡ Ok given → IsMoved given
+      anew given (Err why) is e = absurd (cc)
+      anew given (Ok new) is e =
+          let there : (Some (new.0, owner), after_free place new.1) ≡ given = cc in
+          subst IsMoved there (moved_to new.0 owner (after_free place new.1) (λ b has live at. of_rounded b (malloc_sized owner n content new is b (live_from_after_free place new.1 b has live) live at)))
 
-    anew : (given : Option (ℕ × A) × Content A) (served : Result (ℕ × Content A) Refusal) → malloc owner n content ≡ served → moved owner place served ≡ Ok given → IsMoved given
-    anew given (Err why) is e = absurd (cc)
-    anew given (Ok new) is e =
-        let there : (Some (new.0, owner), after_free place new.1) ≡ given = cc in
-        subst IsMoved there (moved_to new.0 owner (after_free place new.1) (λ b has live at. malloc_sized owner n content new is b (live_from_after_free place new.1 b has live) live at))
-
-    rounded_moved : (m : ℕ) (given : Option (ℕ × A) × Content A) → n ≢ 0 → round n ≡ Some m → realloc_sized owner place known m content ≡ Ok given → IsMoved given
-    rounded_moved m given some rounds e = elim (cases_eq m (size_at place (blocks_of content.pools))) [
-      | inl kept ↦
-          let way = sized_same owner known place m content kept in
-          let there : (Some (place, known), content) ≡ given = cc in
-          subst IsMoved there (moved_to place known content (λ b has live at. (m, rounds, size_here place content b good has at ∙ sym kept)))
-      | inr other ↦ elim (cases_Bool (fits_in_place place m content)) [
-        | inl fits ↦
-            let way = sized_in_place owner known place m content other fits in
-            let there : (Some (place, known), resized known place m content) ≡ given = cc in
-            subst IsMoved there (moved_to place known (resized known place m content) (λ b has live at. replaced_sized known place m (size_with_next place content) n (without_block (free_next place content) content.pools) b rounds has live at))
-        | inr beyond ↦ elim (cases_lt m (size_at place (blocks_of content.pools))) [
-          | inl less ↦ absurd (let f : true ≡ false = sym (smaller_fits m less) ∙ beyond in cc)
-          | inr most ↦
-              let more : size_at place (blocks_of content.pools) < m = grind (arith, most, other) in
-              let asked : malloc owner n content ≡ malloc_rounded owner (round n) content = rw (ne_eqb n 0 some) refl in
-              anew given (malloc_rounded owner (Some m) content) (asked ∙ ap (λ r. malloc_rounded owner r content) rounds) (sym (sized_moved owner known place m content more beyond) ∙ e)
+      rounded_moved : (m : ℕ) (given : Option (ℕ × A) × Content A) → n ≢ 0 → round n ≡ Some m → realloc_sized owner place known m content ≡ Ok given → IsMoved given
+      rounded_moved m given some rounds e = elim (cases_eq m (size_at place (blocks_of content.pools))) [
+        | inl kept ↦
+            let way = sized_same owner known place m content kept in
+            let there : (Some (place, known), content) ≡ given = cc in
+            subst IsMoved there (moved_to place known content (λ b has live at. of_rounded b (m, rounds, size_here place content b good has at ∙ sym kept)))
+        | inr other ↦ elim (cases_Bool (fits_in_place place m content)) [
+          | inl fits ↦
+              let way = sized_in_place owner known place m content other fits in
+              let there : (Some (place, known), resized known place m content) ≡ given = cc in
+              subst IsMoved there
+              (moved_to place known (resized known place m content) (λ b has live at. of_rounded b (replaced_sized known place m (size_with_next place content) n (without_block (free_next place content) content.pools) b rounds has live at)))
+          | inr beyond ↦ elim (cases_lt m (size_at place (blocks_of content.pools))) [
+            | inl less ↦
+                let way = sized_kept owner known place m content less beyond in
+                let there : (Some (place, known), content) ≡ given = cc in
+                subst IsMoved there (moved_to place known content (λ b has live at. stays m rounds less beyond b has at))
+            | inr most ↦
+                let more : size_at place (blocks_of content.pools) < m = grind (arith, most, other) in
+                let asked : malloc owner n content ≡ malloc_rounded owner (round n) content = rw (ne_eqb n 0 some) refl in
+                anew given (malloc_rounded owner (Some m) content) (asked ∙ ap (λ r. malloc_rounded owner r content) rounds) (sym (sized_moved owner known place m content more beyond) ∙ e)
+          ]
         ]
       ]
-    ]
 
-    pub moved_sized : (given : Option (ℕ × A) × Content A) → realloc same owner (Some (place, known)) n content ≡ Ok given → IsMoved given
-    moved_sized given e = elim (cases_Bool (is_live (λ other. same other known) place (blocks_of content.pools))) [
-      | inr stale ↦ let refused : realloc same owner (Some (place, known)) n content ≡ Err BadPointer = rw stale refl in absurd (cc)
-      | inl live ↦ elim (cases_eq n 0) [
-        | inl nothing ↦
-            let freed = realloc_freed same owner known place n content live nothing in
-            let there : (None, after_free place content) ≡ given = cc in
-            subst IsMoved there (λ q o is. absurd (cc))
-        | inr some ↦ of (round n) refl live some
+      pub moved_by : (given : Option (ℕ × A) × Content A) → realloc same owner (Some (place, known)) n content ≡ Ok given → IsMoved given
+      moved_by given e = elim (cases_Bool (is_live (λ other. same other known) place (blocks_of content.pools))) [
+        | inr stale ↦ let refused : realloc same owner (Some (place, known)) n content ≡ Err BadPointer = rw stale refl in absurd (cc)
+        | inl live ↦ elim (cases_eq n 0) [
+          | inl nothing ↦
+              let freed = realloc_freed same owner known place n content live nothing in
+              let there : (None, after_free place content) ≡ given = cc in
+              subst IsMoved there (λ q o is. absurd (cc))
+          | inr some ↦ of (round n) refl live some
+        ]
       ]
-    ]
+        where
+          of : (m : Option ℕ) → round n ≡ m → is_live (λ other. same other known) place (blocks_of content.pools) ≡ true → n ≢ 0 → IsMoved given
+          of None rounds live some =
+              let refused : realloc same owner (Some (place, known)) n content ≡ realloc_rounded owner place known (round n) content = rw (live, ne_eqb n 0 some) refl in
+              let none = ap (λ r. realloc_rounded owner place known r content) rounds in
+              absurd (cc)
+          of (Some m) rounds live some = rounded_moved m given some rounds (sym (realloc_resized same owner known place n m content live some rounds) ∙ e)
+
+  module _ (same : A → A → Bool) (owner known : A) (place n : ℕ) (content : Content A) (good : IsGood content) where
+    -- the block has the bytes asked for, rounded up, where a record is left for the rest of one that gets smaller
+    pub moved_sized : used_records content < content.records → (given : Option (ℕ × A) × Content A) → realloc same owner (Some (place, known)) n content ≡ Ok given → IsMoved (IsRounded n) same owner known place n content good given
+    moved_sized room = moved_by (IsRounded n) same owner known place n content good (λ b is. is)
+        (λ m rounds less beyond. absurd (let f : true ≡ false = sym (smaller_fits m less) ∙ beyond in cc))
       where
-        of : (m : Option ℕ) → round n ≡ m → is_live (λ other. same other known) place (blocks_of content.pools) ≡ true → n ≢ 0 → IsMoved given
-        of None rounds live some =
-            let refused : realloc same owner (Some (place, known)) n content ≡ realloc_rounded owner place known (round n) content = rw (live, ne_eqb n 0 some) refl in
-            let none = ap (λ r. realloc_rounded owner place known r content) rounds in
-            absurd (cc)
-        of (Some m) rounds live some = rounded_moved m given some rounds (sym (realloc_resized same owner known place n m content live some rounds) ∙ e)
+        smaller_fits : (m : ℕ) → m < size_at place (blocks_of content.pools) → fits_in_place place m content ≡ true
+        smaller_fits m less = elim (cases_Bool (is_some (free_next place content))) [
+          | inl some ↦ rw (lt-ltb m (size_at place (blocks_of content.pools)) less, some) refl
+          | inr none ↦ rw (lt-ltb m (size_at place (blocks_of content.pools)) less, none, lt-ltb (used_records content) content.records room) refl
+        ]
+
+    -- in any case it has at least these
+    pub moved_holds : (given : Option (ℕ × A) × Content A) → realloc same owner (Some (place, known)) n content ≡ Ok given → IsMoved (λ b. n ≤ b.size) same owner known place n content good given
+    moved_holds = moved_by (λ b. n ≤ b.size) same owner known place n content good
+        (λ b is. omega (arith, (round-Some n is.0 is.1).least, is.2))
+        (λ m rounds less beyond b has at. omega (arith, (round-Some n m rounds).least, less, size_here place content b good has at))

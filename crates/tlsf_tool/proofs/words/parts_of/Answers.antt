@@ -1,5 +1,5 @@
 use Rattle.std.proofs.Common.{◌≡◌, suc, ◌+◌, ◌++◌, ◌∷◌, [], List, arith, take, subst, sym}
-use Rattle.mtrace_replay.specs.declared.size_parts.PartBounds.{PartBounds}
+use Rattle.mtrace_replay.specs.declared.runs.size_parts.PartBounds.{PartBounds}
 use Rattle.tlsf_tool.specs.CommandLine.{ArePartTexts}
 use Rattle.tlsf_tool.proofs.CommandLineLemmas.{refuses}
 use Rattle.tlsf_tool.proofs.PartTexts.{said, one_more, no_parts}

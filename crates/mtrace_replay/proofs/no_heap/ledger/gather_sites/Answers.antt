@@ -1,7 +1,7 @@
 -- The site of one location more.
 use Rattle.std.proofs.Common.{◌-◌, reverse, ap, ◌∙◌, arith}
 use Rattle.std.specs.Option.{option_copied}
-use Rattle.mtrace_replay.specs.declared.amount.Amount.{Amount}
+use Rattle.mtrace_replay.specs.declared.held.amount.Amount.{Amount}
 use Rattle.mtrace_replay.specs.Shares.{amount_at, has_no_block, site_at, with_site}
 use Rattle.mtrace_replay.proofs.RowsBySlot.{one_before}
 use Rattle.mtrace_replay.proofs.no_heap.ledger.gather_sites.Goals as goal

@@ -3,7 +3,7 @@ use Rattle.std.proofs.lemmas.Result.{err_from_is_err_and}
 use Rattle.std.proofs.lemmas.Grind.{common_steps}
 use Rattle.mtrace_log.specs.Output.{Begins}
 use Rattle.mtrace_log.proofs.Writing.{Begins-all}
-use Rattle.mtrace_replay.specs.declared.diagnostic.Diagnostic.{Diagnostic}
+use Rattle.mtrace_replay.specs.declared.held.diagnostic.Diagnostic.{Diagnostic}
 use Rattle.mtrace_replay.specs.Texts.{diagnostics_text}
 use Rattle.mtrace_replay.specs.Prepared.{prepared_text}
 use Rattle.mtrace_replay.proofs.no_heap.run.finish.Goals as goal

@@ -2,7 +2,7 @@
 use Rattle.std.proofs.Common.{◌≡◌, ℕ, ◌+◌, ◌++◌, ◌∷◌, List, [], sym, ap, ◌∙◌, subst, refl, arith}
 use mir.Val.{bool_byte}
 use Rattle.std.specs.Prelude.{Bool, true, false, is_some, count_by, if◌then◌else◌}
-use Rattle.mtrace_replay.specs.declared.diagnostic.Diagnostic.{Diagnostic}
+use Rattle.mtrace_replay.specs.declared.held.diagnostic.Diagnostic.{Diagnostic}
 use Rattle.mtrace_replay.specs.History.{held_after}
 use Rattle.mtrace_replay.specs.Totals.{is_served}
 use Rattle.mtrace_replay.specs.Moment.{plan, half, is_new}

@@ -1,9 +1,0 @@
-use Rattle.std.proofs.Common.{◌≡◌}
-use Rattle.mtrace_replay.proofs.ArrangeLemmas.{HeldStandFirst}
-use Rattle.mtrace_replay.proofs.arrange.leave_held.Given as goal
-
-abbrev pub invariant-loop-at : goal.invariant-loop-at
-invariant-loop-at l = record {
-  leaves : HeldStandFirst l.initial.keys.keys l.keys.keys l.at l.held;
-  rows : l.keys.rows ≡ l.initial.keys.rows;
-}

@@ -1,0 +1,122 @@
+use Rattle.std.proofs.Common.{rules, ◌≡◌, ℕ, Bool, not, true, Option, None, Some, is_some, length, arith, refl, sym, ap, ◌∙◌, cond}
+use Rattle.std.specs.Prelude.{◌==◌, option_to_list}
+use mir.Val.{bool_byte}
+use Rattle.std.proofs.lemmas.List.{length-set}
+use Rattle.mtrace_replay.specs.Holding.{Holding}
+use Rattle.mtrace_replay.specs.declared.heap.key.Key.{Key}
+use Rattle.mtrace_replay.specs.Keys.{Rows}
+use Rattle.mtrace_replay.specs.Key.{holding_of}
+use Rattle.mtrace_replay.specs.Moment.{rounded_bytes}
+use Rattle.mtrace_replay.specs.Index.{Indexed, held_at, held_bytes}
+use Rattle.mtrace_replay.proofs.IndexLemmas.{row_there, held_there, held_fewer, held_less, vacates, puts_keeps, puts_held, puts_count, puts_sum, none_there, none_removed, found_key, found_fits}
+use Rattle.mtrace_replay.proofs.heap.index.Index.remove.Goals as goal
+
+-- one block is held under the key, or none
+blocks_under : (rows : Rows) (key : Key) (vacant : Bool) → vacant ≡ not (is_some key.block) → (count : ℕ) → count ≡ bool_byte (not vacant) → count ≡ length (option_to_list (holding_of rows key))
+blocks_under rows key vacant is count by = search rules
+
+pub overflow_sub-self : goal.overflow_sub-self
+overflow_sub-self c =
+    let kept = c.self.inside.keys in
+    let address = c.args.found.now.address in
+    let is_at = found_key kept c.args.self.now (ap (λ (index : Indexed). index.keys) c.self.view_is) _ _ _ c.self.invariant c.args.found.now c.requires.found c.in-Ok.at c.in-Ok.is c.key-key.result (c.key-key.ensures c.key-key.result) in
+    let fewer = held_fewer kept address c.in-Ok.at c.key-key.result is_at in
+    omega (arith, fewer, blocks_under kept.rows c.key-key.result c.is_vacant.result c.is_vacant.ensures c.from.result c.from.ensures, c.self.invariant.blocks_are)
+
+pub size_of-requires : goal.size_of-requires
+size_of-requires c =
+    let kept = c.self.inside.keys in
+    let address = c.args.found.now.address in
+    let is_at = found_key kept c.args.self.now (ap (λ (index : Indexed). index.keys) c.self.view_is) _ _ _ c.self.invariant c.args.found.now c.requires.found c.in-Ok.at c.in-Ok.is c.key-key.result (c.key-key.ensures c.key-key.result) in
+    row_there kept address c.in-Ok.at c.key-key.result is_at
+
+pub rounded_size_of-requires : goal.rounded_size_of-requires
+rounded_size_of-requires c =
+    let kept = c.self.inside.keys in
+    let address = c.args.found.now.address in
+    let is_at = found_key kept c.args.self.now (ap (λ (index : Indexed). index.keys) c.self.view_is) _ _ _ c.self.invariant c.args.found.now c.requires.found c.in-Ok.at c.in-Ok.is c.key-key.result (c.key-key.ensures c.key-key.result) in
+    row_there kept address c.in-Ok.at c.key-key.result is_at
+
+pub overflow_sub-self-in-Ok : goal.overflow_sub-self-in-Ok
+overflow_sub-self-in-Ok c =
+    let kept = c.self.inside.keys in
+    let address = c.args.found.now.address in
+    let is_at = found_key kept c.args.self.now (ap (λ (index : Indexed). index.keys) c.self.view_is) _ _ _ c.self.invariant c.args.found.now c.requires.found c.in-Ok.at c.in-Ok.is c.key-key.result (c.key-key.ensures c.key-key.result) in
+    let less = held_less kept address c.in-Ok.at c.key-key.result is_at in
+    omega (arith, less (λ (held : Holding). held.entry.size), c.size_of.ensures, c.self.invariant.bytes_are)
+
+pub overflow_sub-self-in-Ok-2 : goal.overflow_sub-self-in-Ok-2
+overflow_sub-self-in-Ok-2 c =
+    let kept = c.self.inside.keys in
+    let address = c.args.found.now.address in
+    let is_at = found_key kept c.args.self.now (ap (λ (index : Indexed). index.keys) c.self.view_is) _ _ _ c.self.invariant c.args.found.now c.requires.found c.in-Ok.at c.in-Ok.is c.key-key.result (c.key-key.ensures c.key-key.result) in
+    let less = held_less kept address c.in-Ok.at c.key-key.result is_at in
+    omega (arith, less (λ (held : Holding). rounded_bytes held.entry.size), c.rounded_size_of.ensures, c.self.invariant.rounded_are)
+
+pub invariant_of-self : goal.invariant_of-self
+invariant_of-self c =
+    let kept = c.self.inside.keys in
+    let address = c.args.found.now.address in
+    let is_at = found_key kept c.args.self.now (ap (λ (index : Indexed). index.keys) c.self.view_is) _ _ _ c.self.invariant c.args.found.now c.requires.found c.in-Ok.at c.in-Ok.is c.key-key.result (c.key-key.ensures c.key-key.result) in
+    let gone = ap (λ (k : Key). k.address) c.vacated.ensures ∙ ap (λ (k : Key). k.address) is_at.there ∙ is_at.stands.1 c.key-key.result in
+    let put = vacates kept address c.in-Ok.at c.key-key.result is_at c.set_key.new.self c.vacated.result gone (ap (λ (k : Key). k.block) c.vacated.ensures) c.set_key.ensures.keys c.set_key.ensures.rows in
+    let fewer = held_fewer kept address c.in-Ok.at c.key-key.result is_at in
+    let less = held_less kept address c.in-Ok.at c.key-key.result is_at in
+    let as_many = ap (length {A = Key}) c.set_key.ensures.keys ∙ length-set kept.keys c.in-Ok.at c.vacated.result in
+    puts_keeps kept c.set_key.new.self address (holding_of kept.rows c.key-key.result) None put c.self.inside.blocks c.self.inside.bytes c.self.inside.rounded _ _ _ c.self.invariant
+    (omega (arith, as_many, ap (λ (rows : Rows). rows.room) c.set_key.ensures.rows, c.self.invariant.within)) (ap (λ (rows : Rows). rows.room) c.set_key.ensures.rows)
+    (omega (arith, fewer, blocks_under kept.rows c.key-key.result c.is_vacant.result c.is_vacant.ensures c.from.result c.from.ensures, c.self.invariant.blocks_are)) (omega (arith, less (λ (held : Holding). held.entry.size), c.size_of.ensures, c.self.invariant.bytes_are))
+    (omega (arith, less (λ (held : Holding). rounded_bytes held.entry.size), c.rounded_size_of.ensures, c.self.invariant.rounded_are))
+
+pub returns-in-Ok-clause-held : goal.returns-in-Ok-clause-held
+returns-in-Ok-clause-held c other =
+    let kept = c.self.inside.keys in
+    let address = c.args.found.now.address in
+    let is_at = found_key kept c.args.self.now (ap (λ (index : Indexed). index.keys) c.self.view_is) _ _ _ c.self.invariant c.args.found.now c.requires.found c.in-Ok.at c.in-Ok.is c.key-key.result (c.key-key.ensures c.key-key.result) in
+    let gone = ap (λ (k : Key). k.address) c.vacated.ensures ∙ ap (λ (k : Key). k.address) is_at.there ∙ is_at.stands.1 c.key-key.result in
+    let put = vacates kept address c.in-Ok.at c.key-key.result is_at c.set_key.new.self c.vacated.result gone (ap (λ (k : Key). k.block) c.vacated.ensures) c.set_key.ensures.keys c.set_key.ensures.rows in
+    puts_held kept c.set_key.new.self address (holding_of kept.rows c.key-key.result) None put other
+    ∙ ap (λ (index : Indexed). cond (address == other) None (held_at index.all other)) c.self.view_is
+
+one_there : (held : Option Holding) → is_some held ≡ true → length (option_to_list held) ≡ 1
+one_there (Some holding) some = refl
+one_there None some = absurd cc
+
+pub returns-in-Ok-clause-fewer : goal.returns-in-Ok-clause-fewer
+returns-in-Ok-clause-fewer c some =
+    let kept = c.self.inside.keys in
+    let address = c.args.found.now.address in
+    let is_at = found_key kept c.args.self.now (ap (λ (index : Indexed). index.keys) c.self.view_is) _ _ _ c.self.invariant c.args.found.now c.requires.found c.in-Ok.at c.in-Ok.is c.key-key.result (c.key-key.ensures c.key-key.result) in
+    let gone = ap (λ (k : Key). k.address) c.vacated.ensures ∙ ap (λ (k : Key). k.address) is_at.there ∙ is_at.stands.1 c.key-key.result in
+    let put = vacates kept address c.in-Ok.at c.key-key.result is_at c.set_key.new.self c.vacated.result gone (ap (λ (k : Key). k.block) c.vacated.ensures) c.set_key.ensures.keys c.set_key.ensures.rows in
+    let count = puts_count kept c.set_key.new.self address (holding_of kept.rows c.key-key.result) None put in
+    let at = held_there kept address c.in-Ok.at c.key-key.result is_at in
+    let one = one_there (holding_of kept.rows c.key-key.result) (ap is_some (sym at) ∙ ap (λ (index : Indexed). is_some (held_at index.all address)) c.self.view_is ∙ some) in
+    omega (arith, count, one, ap (λ (index : Indexed). length index.all) c.self.view_is)
+
+pub returns-in-Ok-clause-bytes : goal.returns-in-Ok-clause-bytes
+returns-in-Ok-clause-bytes c =
+    let kept = c.self.inside.keys in
+    let address = c.args.found.now.address in
+    let is_at = found_key kept c.args.self.now (ap (λ (index : Indexed). index.keys) c.self.view_is) _ _ _ c.self.invariant c.args.found.now c.requires.found c.in-Ok.at c.in-Ok.is c.key-key.result (c.key-key.ensures c.key-key.result) in
+    let gone = ap (λ (k : Key). k.address) c.vacated.ensures ∙ ap (λ (k : Key). k.address) is_at.there ∙ is_at.stands.1 c.key-key.result in
+    let put = vacates kept address c.in-Ok.at c.key-key.result is_at c.set_key.new.self c.vacated.result gone (ap (λ (k : Key). k.block) c.vacated.ensures) c.set_key.ensures.keys c.set_key.ensures.rows in
+    let bytes = puts_sum kept c.set_key.new.self address (holding_of kept.rows c.key-key.result) None put (λ (held : Holding). held.entry.size) in
+    omega (arith, bytes, ap (λ (index : Indexed). held_bytes index.all) c.self.view_is)
+
+pub returns-in_default-clause-held : goal.returns-in_default-clause-held
+returns-in_default-clause-held c other =
+    let kept = c.self.inside.keys in
+    let address = c.args.found.now.address in
+    let fits = found_fits kept.keys c.args.self.now (ap (λ (index : Indexed). index.keys) c.self.view_is) c.args.found.now c.requires.found c.in_default.field-0 c.in_default.is in
+    ap (λ (index : Indexed). held_at index.all other) (sym c.self.view_is)
+    ∙ none_removed kept address c.in_default.field-0 fits other
+    ∙ ap (λ (index : Indexed). cond (address == other) None (held_at index.all other)) c.self.view_is
+
+pub returns-in_default-clause-fewer : goal.returns-in_default-clause-fewer
+returns-in_default-clause-fewer c some =
+    let kept = c.self.inside.keys in
+    let address = c.args.found.now.address in
+    let fits = found_fits kept.keys c.args.self.now (ap (λ (index : Indexed). index.keys) c.self.view_is) c.args.found.now c.requires.found c.in_default.field-0 c.in_default.is in
+    let never = ap is_some (sym (none_there kept address c.in_default.field-0 fits)) ∙ ap (λ (index : Indexed). is_some (held_at index.all address)) c.self.view_is ∙ some in
+    cc

@@ -1,0 +1,12 @@
+use Rattle.std.proofs.Common.{rules}
+use Rattle.mtrace_replay.specs.Sites.{Site}
+use Rattle.mtrace_replay.proofs.SiteLemmas.Exact.{site_total}
+use Rattle.mtrace_replay.proofs.SiteLemmas.Sorting.{sorted-from_sort_by}
+use Rattle.mtrace_replay.proofs.held.grouping.sort_sites.Goals as goal
+
+pub returns : goal.returns
+returns c = record {
+  moved = search rules;
+  sorted = sorted-from_sort_by site_total (λ (s : Site). s) _ c.sort_unstable_by.ensures.sorted (λ a r f k. search rules);
+  capacity = search rules;
+}

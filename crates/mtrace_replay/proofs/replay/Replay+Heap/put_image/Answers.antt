@@ -1,6 +1,0 @@
-use Rattle.std.proofs.Common.{ap}
-use Rattle.mtrace_replay.specs.Replay.{Replayed}
-use Rattle.mtrace_replay.proofs.replay.Replay+Heap.put_image.Goals as goal
-
-pub returns : goal.returns
-returns g c = record { whole = c.self.inside.heap.content; content_is = ap (λ (r : Replayed). r.content) c.self.view_is; saves = c.save_image.ensures.saved }

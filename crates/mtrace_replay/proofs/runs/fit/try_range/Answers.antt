@@ -1,0 +1,43 @@
+use Rattle.std.proofs.Common.{◌≡◌, ◌+◌, ◌-◌, ◌*◌, ◌<◌, ℕ, [], ◌∷◌, ◌++◌, map, refl, sym, ap, ◌∙◌, subst, arith, append_assoc}
+use Rattle.std.specs.List.{range_with_len}
+use Rattle.mtrace_replay.specs.Fit.{one_pool, fitted, Verdict}
+use Rattle.mtrace_replay.specs.RunFit.{AreVerdicts, IsTried}
+use Rattle.mtrace_log.specs.Shown.{Bytes}
+use Rattle.mtrace_replay.proofs.FitLemmas.{one_tried, one_pool-good, units_times, within_greatest, some_units}
+use Rattle.mtrace_replay.proofs.TriedLemmas.{begun-then}
+use Rattle.mtrace_replay.proofs.runs.fit.try_range.Goals as goal
+
+pub try_size-requires-clause-good : goal.try_size-requires-clause-good
+try_size-requires-clause-good g c =
+    let number = c.loop-number.number in
+    let below : number < c.args.last + 1 = c.loop-number-test.true in
+    let some : 0 < number = omega (arith, c.requires.some_number, c.loop-number.auto.number) in
+    one_pool-good (number * c.args.step) c.args.trial.records (units_times number c.args.step c.requires.in_units) (some_units number c.args.step some c.requires.some)
+    (within_greatest number c.args.step (omega (arith, below, c.requires.last_within))) c.requires.some_records c.requires.few
+
+pub loop-number-preserved : goal.loop-number-preserved
+loop-number-preserved g c =
+    let reads = g.R.Source.shown in
+    let number = c.loop-number.number in
+    let first = c.args.first in
+    let step = c.args.step in
+    let whole = (g.R.Source.shown c.args.reader.now).whole in
+    let so_far = c.loop-number.invariant.so_far in
+    let verdict : Verdict = record { size = number * step; serves = c.in_ok-serves.serves } in
+    let more : number + 1 - first ≡ number - first + 1 = omega (arith, c.loop-number.auto.number) in
+    let V : ℕ → Type 0 = λ count. AreVerdicts c.args.trial.records c.args.trial.many whole (map (λ i. i * step) (range_with_len first count)) (so_far.0 ++ verdict ∷ []) in
+    let T : Bytes → Type 0 = λ text. IsTried (one_pool (number * step) c.args.trial.records) c.args.trial.many c.in_ok-serves.serves text (g.R.Source.shown c.try_size.new.reader).left in
+    let are = one_tried c.args.trial.records c.args.trial.many whole step first number (number - first) so_far.0 verdict (omega (arith, c.loop-number.auto.number)) so_far.1 refl
+    ((g.R.Source.shown c.try_size.new.reader).left, subst T c.loop-number.invariant.whole c.in_ok-serves.ensures.tried) in
+    let below : number < c.args.last + 1 = c.loop-number-test.true in
+    record {
+      so_far = (so_far.0 ++ verdict ∷ [], subst V (sym more) are, λ before is. c.with-fitted.ensures.fitted (before ++ so_far.0) (so_far.2 before is) ∙ ap fitted (append_assoc before so_far.0 (verdict ∷ [])));
+      tried = omega (arith, c.with-fitted.ensures.tried, c.loop-number.invariant.tried, c.loop-number.auto.number);
+      refused = omega (arith, c.with-fitted.ensures.tried, c.with-fitted.ensures.refused, c.loop-number.invariant.refused);
+      whole = c.try_size.ensures.whole ∙ c.loop-number.invariant.whole;
+      begun =
+          let begun = c.loop-number.invariant.begun in
+          (begun.0 + 1, omega (arith, begun.1, c.with-fitted.ensures.tried), begun-then begun.0 1 (reads c.args.reader.now).calls (reads c.loop-number.reader).calls (reads c.try_size.new.reader).calls begun.2 c.in_ok-serves.ensures.begun);
+      records = omega (arith, c.try_size.ensures.records);
+      within = omega (arith, below);
+    }

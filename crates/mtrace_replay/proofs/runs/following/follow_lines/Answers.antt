@@ -1,0 +1,161 @@
+use Rattle.std.proofs.Common.{List, false, refl, sym, subst, ap, ◌∙◌, reverse, inr}
+use Rattle.mtrace_log.specs.Progress.{Progress, CallsFor}
+use Rattle.mtrace_log.specs.Output.{Wrote, Begins}
+use Rattle.mtrace_replay.specs.declared.held.diagnostic.Diagnostic.{Diagnostic}
+use Rattle.mtrace_replay.specs.Texts.{diagnostics_text}
+use Rattle.mtrace_replay.specs.Run.{has_some}
+use Rattle.mtrace_log.specs.declared.call.Call.TheVariants.{Gave, Took, Failed}
+use Rattle.mtrace_log.proofs.TraceLemmas.{moved_none, moved_append, moved_then_append}
+use Rattle.mtrace_log.proofs.CallLemmas.{calls_more, calls_of_line, calls_to_end, calls_to_fault}
+use Rattle.mtrace_replay.proofs.FollowingLemmas.{IsFollowing, following_start, following_line, following_end, following_fault, following_write, following_memory}
+use Rattle.mtrace_replay.proofs.runs.following.follow_lines.Goals as goal
+
+pub loop-number-init : goal.loop-number-init
+loop-number-init g c =
+    let reader = g.R.Source.shown c.args.reader.now in
+    let writer = g.W.Sink.shown c.args.writer.now in
+    let rules = g.P.LineReplay.rules in
+    record {
+      under_way = (λ start stands.
+          subst (λ (lines : Progress). IsFollowing (rules.Stands start c.args.replay.now) (rules.added start) lines false reader reader writer writer) (sym c.new-lines.ensures)
+          (following_start (rules.added start) (rules.Stands start c.args.replay.now) reader writer stands));
+      counted = c.requires.start ∙ sym (ap (λ (lines : Progress). lines.count) c.new-lines.ensures);
+      ready = c.requires.ready;
+      none = c.none-findings.ensures;
+      whole = refl;
+      gave = subst (λ (lines : Progress). CallsFor lines.stage reader.calls reader.calls) (sym c.new-lines.ensures) (moved_none Gave reader.calls);
+      took = moved_none Took writer.calls;
+    }
+
+pub returns-in-Ok-None : goal.returns-in-Ok-None
+returns-in-Ok-None g c =
+    let reads = g.R.Source.shown in
+    let rules = g.P.LineReplay.rules in
+    let kept = c.loop-number.invariant in
+    let found = rw c.in-Ok-None.field-0-is at c.in-Ok-None.ensures.end in
+    let ended = calls_to_end reads (reads c.args.reader.now).calls c.loop-number.lines c.advance.new.self c.loop-number.reader c.advance.new.reader _ _ kept.gave c.in-Ok-None.ensures.calls found.0 found.1 in
+    record {
+      done = λ start stands.
+          following_end (rules.added start) reads (rules.Stands start c.loop-number.replay) c.loop-number.lines c.advance.new.self c.loop-number.has_diagnostics (reads c.args.reader.now) c.loop-number.reader c.advance.new.reader
+          (g.W.Sink.shown c.args.writer.now) (g.W.Sink.shown c.loop-number.writer) (kept.under_way start stands) found.1;
+      whole = c.advance.ensures.whole ∙ kept.whole;
+      reader_ended = ended;
+      reader_not_failed = λ other. inr ended;
+      writer_took = λ other. kept.took;
+      writer_failed = λ is. absurd (cc);
+      read = λ is. absurd (cc);
+      write = λ is. absurd (cc);
+      lacks = λ is. absurd (cc);
+      memory = λ is. absurd (cc);
+    }
+
+pub returns-in-Err : goal.returns-in-Err
+returns-in-Err g c =
+    let reads = g.R.Source.shown in
+    let rules = g.P.LineReplay.rules in
+    let kept = c.loop-number.invariant in
+    let came = calls_to_fault reads (reads c.args.reader.now).calls c.loop-number.lines c.advance.new.self c.loop-number.reader c.advance.new.reader _ _ c.in-Err.field-0 kept.gave c.in-Err.ensures.calls c.in-Err.ensures.fault in
+    record {
+      done = tt;
+      whole = c.advance.ensures.whole ∙ kept.whole;
+      reader_ended = tt;
+      reader_not_failed = λ other. absurd (other refl);
+      writer_took = λ other. kept.took;
+      writer_failed = λ is. absurd (cc);
+      read = λ is start stands.
+          following_fault (rules.added start) reads (rules.Stands start c.loop-number.replay) c.loop-number.lines c.advance.new.self c.loop-number.has_diagnostics (reads c.args.reader.now) c.loop-number.reader c.advance.new.reader
+          (g.W.Sink.shown c.args.writer.now) (g.W.Sink.shown c.loop-number.writer) (kept.under_way start stands) c.in-Err.field-0 c.in-Err.ensures.fault c.in-Err.ensures.nothing_held came;
+      write = λ is. absurd (cc);
+      lacks = λ is. absurd (cc);
+      memory = λ is. absurd (cc);
+    }
+
+pub loop-number-preserved : goal.loop-number-preserved
+loop-number-preserved g c =
+    let reads = g.R.Source.shown in
+    let writes = g.W.Sink.shown in
+    let rules = g.P.LineReplay.rules in
+    let kept = c.loop-number.invariant in
+    let passed = rw c.in-Ok-Some.field-0-is at c.in-Ok-Some.ensures.line in
+    let given = passed c.event.result c.event.ensures in
+    let taken = c.in-Ok.ensures in
+    let put = c.in-Ok-put_found.ensures in
+    record {
+      under_way = (λ start stands.
+          let under = kept.under_way start stands in
+          let stood = under.so_far.stands in
+          let told = taken.told start (reverse under.so_far.lines) stood in
+          following_line (rules.added start) (rules.Stands start c.loop-number.replay) (rules.Stands start c.take_line.new.self) c.loop-number.lines c.advance.new.self c.loop-number.has_diagnostics
+          (reads c.args.reader.now) (reads c.loop-number.reader) (reads c.advance.new.reader) (writes c.args.writer.now) (writes c.loop-number.writer) (writes c.put_found.new.writer)
+          (record { number = c.in-Ok-Some.number; event = c.event.result }) under given c.in-Ok-put_found.more (record {
+            stands = taken.stands start (reverse under.so_far.lines) stood;
+            wrote = subst (λ (all : List Diagnostic). Wrote (writes c.loop-number.writer) (writes c.put_found.new.writer) (diagnostics_text all)) told put.put.wrote;
+            has_diagnostics_is = put.found ∙ ap has_some told;
+          }));
+      counted = taken.counted ∙ sym given.count;
+      ready = taken.ready;
+      none = put.cleared;
+      whole = c.in-Ok-Some.ensures.whole ∙ kept.whole;
+      gave = calls_more c.loop-number.lines.stage c.advance.new.self.stage _ _ _ given.was_reading kept.gave c.in-Ok-Some.ensures.calls;
+      took = moved_append Took _ _ _ kept.took put.put.took;
+    }
+
+-- memory was refused
+pub returns-in-Err-take_line : goal.returns-in-Err-take_line
+returns-in-Err-take_line g c =
+    let reads = g.R.Source.shown in
+    let writes = g.W.Sink.shown in
+    let rules = g.P.LineReplay.rules in
+    let kept = c.loop-number.invariant in
+    let passed = rw c.in-Ok-Some.field-0-is at c.in-Ok-Some.ensures.line in
+    let given = passed c.event.result c.event.ensures in
+    record {
+      done = tt;
+      whole = c.advance.ensures.whole ∙ kept.whole;
+      reader_ended = tt;
+      reader_not_failed = λ other. calls_of_line c.advance.new.self.stage _ _ _ _ _ given.taken
+          (calls_more c.loop-number.lines.stage c.advance.new.self.stage _ _ _ given.was_reading kept.gave c.in-Ok-Some.ensures.calls);
+      writer_took = λ other. kept.took;
+      writer_failed = λ is. absurd (cc);
+      read = λ is. absurd (cc);
+      write = λ is. absurd (cc);
+      lacks = λ is. c.in-Err-take_line.ensures.memory;
+      memory = λ is start stands.
+          let under = kept.under_way start stands in
+          following_memory (rules.added start) (rules.Stands start c.loop-number.replay) (rules.Stands start c.take_line.new.self) c.loop-number.lines c.advance.new.self c.loop-number.has_diagnostics
+          (reads c.args.reader.now) (reads c.loop-number.reader) (reads c.advance.new.reader) (writes c.args.writer.now) (writes c.loop-number.writer) (writes c.loop-number.writer)
+          (record { number = c.in-Ok-Some.number; event = c.event.result }) under given refl;
+    }
+
+-- the writer failed
+pub returns-in-Err-put_found : goal.returns-in-Err-put_found
+returns-in-Err-put_found g c =
+    let reads = g.R.Source.shown in
+    let writes = g.W.Sink.shown in
+    let rules = g.P.LineReplay.rules in
+    let kept = c.loop-number.invariant in
+    let passed = rw c.in-Ok-Some.field-0-is at c.in-Ok-Some.ensures.line in
+    let given = passed c.event.result c.event.ensures in
+    let taken = c.in-Ok.ensures in
+    let put = c.in-Err-put_found.ensures.put in
+    record {
+      done = tt;
+      whole = c.advance.ensures.whole ∙ kept.whole;
+      reader_ended = tt;
+      reader_not_failed = λ other. calls_of_line c.advance.new.self.stage _ _ _ _ _ given.taken
+          (calls_more c.loop-number.lines.stage c.advance.new.self.stage _ _ _ given.was_reading kept.gave c.in-Ok-Some.ensures.calls);
+      writer_took = λ other. absurd (other refl);
+      writer_failed = λ is. moved_then_append Took Failed _ _ _ kept.took put.failed;
+      read = λ is. absurd (cc);
+      write = λ is start stands.
+          let under = kept.under_way start stands in
+          let stood = under.so_far.stands in
+          following_write (rules.added start) (rules.Stands start c.loop-number.replay) (rules.Stands start c.take_line.new.self) c.loop-number.lines c.advance.new.self c.loop-number.has_diagnostics
+          (reads c.args.reader.now) (reads c.loop-number.reader) (reads c.advance.new.reader) (writes c.args.writer.now) (writes c.loop-number.writer) (writes c.put_found.new.writer)
+          (record { number = c.in-Ok-Some.number; event = c.event.result }) under given (record {
+            stands = taken.stands start (reverse under.so_far.lines) stood;
+            begun = subst (λ (all : List Diagnostic). Begins (writes c.loop-number.writer) (writes c.put_found.new.writer) (diagnostics_text all)) (taken.told start (reverse under.so_far.lines) stood) put.begun;
+          });
+      lacks = λ is. absurd (cc);
+      memory = λ is. absurd (cc);
+    }

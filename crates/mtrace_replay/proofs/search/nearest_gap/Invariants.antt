@@ -1,5 +1,0 @@
-use Rattle.mtrace_replay.proofs.SearchLemmas.{HeldAround}
-use Rattle.mtrace_replay.proofs.search.nearest_gap.Given as goal
-
-abbrev pub invariant-loop-distance : goal.invariant-loop-distance
-invariant-loop-distance l = HeldAround l.keys.keys l.keys.rows.room l.at l.distance

@@ -1,0 +1,57 @@
+//! What a line asks the lists of the heap for.
+
+ghost use Rattle.std.specs.Prelude.{◌≡◌, if◌then◌else◌};
+ghost use Rattle.mtrace_replay.specs.Asked.{class_asked, greater_class};
+ghost use Rattle.mtrace_replay.specs.Moment.{asked_size};
+
+use crate::heap::step::asked_size;
+use mtrace_log::{Event, LentLocation, LineFault};
+use tlsf_heap::class_size;
+
+/// The alignment and the bytes that a line asks for: those of no block where it asks for none.
+#[derive(Clone, Copy)]
+pub(crate) struct Asked {
+    align: u64,
+    size: u64,
+}
+
+impl Asked {
+    ghost use Rattle.tlsf_heap.specs.Sizing.{class_size};
+
+    /// What the line asks for.
+    #[inline(always)]
+    pub(crate) fn of(event: &Result<Event<LentLocation<'_>>, LineFault>) -> Asked
+        ensures { class_size result.align (asked_size result.size) ≡ class_asked event.now }
+    {
+        match event {
+            Ok(Event::Alloc { size, .. } | Event::New { size, .. }) => Asked {
+                align: 1,
+                size: *size,
+            },
+            Ok(Event::Aligned { align, size, .. }) => Asked {
+                align: align.value(),
+                size: *size,
+            },
+            _ => Asked { align: 0, size: 0 },
+        }
+    }
+
+    /// The class size of what is asked for, in bytes. `None` where there is no such class.
+    pub(crate) fn class(self) -> Option<u32>
+        ensures { result ≡ class_size self.align (asked_size self.size) }
+    {
+        class_size(self.align, asked_size(self.size))
+    }
+
+    /// The greater of a class size and of that which is asked for, in bytes, where the line is served; else the size.
+    /// `None` where one of them is missing.
+    pub(crate) fn greatest(self, size: Option<u32>, is_served: bool) -> Option<u32>
+        ensures { result ≡ (if is_served then greater_class size (class_size self.align (asked_size self.size)) else size) }
+    {
+        if !is_served {
+            return size;
+        }
+        let asked = self.class()?;
+        Some(size?.max(asked))
+    }
+}

@@ -1,0 +1,43 @@
+//! A log that is read until a line is refused.
+
+ghost use Rattle.std.specs.Prelude.{◌≡◌, []};
+ghost use Rattle.mtrace_replay.specs.Replay.{StandsFor};
+ghost use Rattle.mtrace_replay.specs.Again.{StopsEarly};
+ghost use Rattle.mtrace_replay.specs.RunFit.{IsTried, TriesLog};
+ghost use Rattle.mtrace_replay.specs.declared.heap.settings.Settings.{Settings};
+
+use crate::heap::again::replay_next;
+use crate::heap::replay::Replay;
+use crate::held::findings::Findings;
+use mtrace_log::{Failed, Lines, Source};
+use tlsf_heap::Heap;
+
+/// Reads and replays the first lines of the log, this many, until one is refused: whether none is. What is wrong with them
+/// isn't told.
+///
+/// # Errors
+///
+/// `Failed` where the reader fails, or has fewer lines.
+pub(crate) fn is_served<R: Source>(
+    reader: &mut R,
+    replay: &mut Replay<Heap>,
+    many: u64,
+) -> Result<bool, Failed>
+    requires start { replay.old.totals.lines ≡ 0 }
+    requires none { replay.old.totals.refused ≡ 0 }
+    ensures { TriesLog (λ serves. (settings : Settings) → StandsFor replay.old settings [] → IsTried settings many serves (R.shown reader.old).left (R.shown reader.new).left)
+        ((settings : Settings) → StandsFor replay.old settings [] → StopsEarly many (R.shown reader.old) (R.shown reader.new))
+        0 replay.old.content.records result (R.shown reader.old) (R.shown reader.new) replay.new }
+{
+    let mut lines = Lines::new();
+    let mut findings = Findings::none();
+    for _ in 0..many {
+        replay_next(&mut lines, reader, replay, &mut findings)?;
+        if replay.totals().refused > 0 {
+            lines.holds_few();
+            return Ok(false);
+        }
+    }
+    lines.holds_few();
+    Ok(true)
+}

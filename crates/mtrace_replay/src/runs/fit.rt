@@ -1,0 +1,270 @@
+//! The run that tells how large a pool a log needs.
+
+ghost use Rattle.std.specs.Prelude.{◌≡◌, ◌+◌, ◌-◌, ◌*◌, ◌/◌, ◌%◌, ◌^◌, ◌<◌, ◌≤◌, ◌++◌, nat_lt, false, List, reverse, IfOk, OnOk};
+ghost use Rattle.tlsf_class.specs.Classes.{greatest_size};
+ghost use Rattle.mtrace_replay.specs.Again.{FailsAgain};
+ghost use Rattle.tlsf_heap.specs.Pools.{most_records};
+ghost use Rattle.mtrace_replay.specs.Moment.{ReadLine};
+ghost use Rattle.mtrace_replay.specs.Replay.{StandsFor};
+ghost use Rattle.mtrace_replay.specs.Settings.{are_bad};
+ghost use Rattle.mtrace_replay.specs.Fit.{one_pool, greatest_settings, enough_records, is_bad_step, step_of, first_number, last_number, multiples, Verdict, fitted as fitted_by};
+ghost use Rattle.mtrace_replay.specs.RunFit.{IsTried, TriesLog, AreVerdicts, TriesRanges, TellsFit, ReadsAgain, FitFollows, RunsFit};
+
+use crate::heap::replay::Replay;
+use crate::heap::settings::{GREATEST_POOL, Settings, UNIT};
+use crate::heap::tried::is_served;
+use crate::held::line_text::LineText;
+use crate::runs::fit_text::{fitted_text, untried_text};
+use crate::runs::fitted::Fitted;
+use crate::runs::flush::flush_behind;
+use crate::runs::report::Report;
+use crate::runs::run::replay_log;
+use crate::runs::status::{RunFault, Status};
+use crate::runs::watch::Watch;
+use mtrace_log::{Again, Failed, Sink, put_all};
+use std::alloc::Global;
+use tlsf_heap::{Heap, MOST_RECORDS, sure_pool};
+
+/// The settings of the first replay: the greatest pool, and the most records.
+fn greatest() -> Settings
+    ensures { result ≡ greatest_settings }
+{
+    Settings {
+        pool: GREATEST_POOL,
+        pools: 1,
+        records: MOST_RECORDS,
+    }
+}
+
+/// Whether a step isn't a whole number of units from one to the greatest size.
+fn is_bad_step(step: Option<u64>) -> bool
+    ensures { result ≡ is_bad_step step }
+{
+    match step {
+        Some(step) => step % UNIT != 0 || step < UNIT || step > GREATEST_POOL,
+        None => false,
+    }
+}
+
+/// The step: where none is given, the least multiple of the unit from a 64th of the peak on, and at least the unit.
+fn step_of(step: Option<u64>, peak: u64) -> u64
+    requires { is_bad_step step ≡ false }
+    ensures value { result ≡ step_of step peak }
+    ensures some { UNIT ≤ result }
+    ensures in_units { result % UNIT ≡ 0 }
+{
+    match step {
+        Some(step) => step,
+        None => UNIT * peak.div_ceil(64 * UNIT).max(1),
+    }
+}
+
+/// The records that are enough where at most this many addresses are held.
+fn enough_records(most: u64) -> u32
+    ensures value { result ≡ enough_records most }
+    ensures some { 0 < result }
+    ensures few { result ≤ MOST_RECORDS }
+{
+    let records = most.saturating_mul(2).saturating_add(3);
+    records.min(u64::from(MOST_RECORDS)) as u32
+}
+
+/// Begins the log again, and tries its first lines, this many, on one pool of this many bytes, with this many records: whether
+/// no line is refused.
+///
+/// # Errors
+///
+/// `Failed` where the reader doesn't begin again, fails, or has fewer lines then.
+fn try_size<R: Again>(
+    reader: &mut R,
+    replay: &mut Replay<Heap>,
+    size: u64,
+    records: u32,
+    many: u64,
+) -> Result<bool, Failed>
+    requires good { are_bad (one_pool size records) ≡ false }
+    requires few { records ≤ replay.old.content.records }
+    ensures { TriesLog (λ serves. IsTried (one_pool size records) many serves (R.shown reader.old).whole (R.shown reader.new).left)
+        (FailsAgain many (R.shown reader.old) (R.shown reader.new))
+        1 records result (R.shown reader.old) (R.shown reader.new) replay.new }
+{
+    replay.restart(Settings {
+        pool: size,
+        pools: 1,
+        records,
+    });
+    reader.begin()?;
+    is_served(reader, replay, many)
+}
+
+/// What all sizes are tried with: the records, and how many lines.
+#[derive(Clone, Copy)]
+struct Trial {
+    records: u32,
+    many: u64,
+}
+
+/// Tries the multiples of the step from one number to another, in rising order, and adds what they tell.
+fn try_range<R: Again>(
+    reader: &mut R,
+    replay: &mut Replay<Heap>,
+    trial: Trial,
+    step: u64,
+    first: u64,
+    last: u64,
+    mut fitted: Fitted,
+) -> Result<Fitted, Failed>
+    requires some { UNIT ≤ step }
+    requires in_units { step % UNIT ≡ 0 }
+    requires some_number { 0 < first }
+    requires last_within { last ≤ greatest_size / step }
+    requires some_records { 0 < trial.records }
+    requires few { trial.records ≤ MOST_RECORDS }
+    requires within { trial.records ≤ replay.old.content.records }
+    requires tried { fitted.tried ≤ 2 ^ 61 }
+    requires refused { fitted.refused ≤ fitted.tried }
+    ensures tried { ReadsAgain trial.many (λ new times. (new.tried ≡ fitted.tried + times) × ((verdicts : List Verdict) × AreVerdicts trial.records trial.many (R.shown reader.old).whole (multiples step first last) verdicts
+        × ((before : List Verdict) → fitted ≡ fitted_by before → new ≡ fitted_by (before ++ verdicts)))) result (R.shown reader.old) (R.shown reader.new) }
+    ensures whole { (R.shown reader.new).whole ≡ (R.shown reader.old).whole }
+    ensures within { OnOk result (trial.records ≤ replay.new.content.records) }
+    ensures few { IfOk result (λ new. new.tried ≤ fitted.tried + (last + 1 - first)) }
+    ensures refused { IfOk result (λ new. new.refused ≤ new.tried) }
+{
+    for number in first..last + 1 {
+        let size = number * step;
+        let serves = try_size(reader, replay, size, trial.records, trial.many)?;
+        fitted = fitted.with(size, serves);
+    }
+    Ok(fitted)
+}
+
+/// The last number of a range that begins with the first: twice as many steps, or as many as the greatest size has.
+fn last_number(step: u64, first: u64) -> u64
+    requires { 0 < step }
+    ensures value { result ≡ last_number step first }
+    ensures within { result ≤ greatest_size / step }
+{
+    first.saturating_mul(2).min(GREATEST_POOL / step)
+}
+
+/// Whether there is a range by a step twice as large, behind twice the first number of steps.
+fn is_range_behind(step: u64, first: u64) -> bool
+    requires { 0 < step }
+    ensures { result ≡ nat_lt first (greatest_size / (2 * step)) }
+{
+    step <= GREATEST_POOL && GREATEST_POOL / (2 * step) > first
+}
+
+/// Tries the sizes for this step and this peak, in rising order. Where none of a range serves, the sizes behind it are tried by
+/// a step twice as large, up to the greatest pool. How many a range has is told before.
+fn try_sizes<R: Again, T: Watch>(
+    reader: &mut R,
+    replay: &mut Replay<Heap>,
+    trial: Trial,
+    mut step: u64,
+    peak: u64,
+    watch: &T,
+) -> Result<Fitted, Failed>
+    requires some { UNIT ≤ step }
+    requires in_units { step % UNIT ≡ 0 }
+    requires some_records { 0 < trial.records }
+    requires few { trial.records ≤ MOST_RECORDS }
+    requires within { trial.records ≤ replay.old.content.records }
+    ensures { ReadsAgain trial.many (λ fitted times. (times ≡ fitted.tried) × ((verdicts : List Verdict) × TriesRanges trial.records trial.many step (first_number step peak) (R.shown reader.old).whole verdicts
+        × (fitted ≡ fitted_by verdicts))) result (R.shown reader.old) (R.shown reader.new) }
+{
+    let first = peak.div_ceil(step).max(1);
+    let last = last_number(step, first);
+    watch.expect((last + 1).saturating_sub(first));
+    let mut fitted = try_range(reader, replay, trial, step, first, last, Fitted::default())?;
+    while fitted.least.is_none() && is_range_behind(step, first) {
+        step *= 2;
+        let last = last_number(step, first);
+        watch.expect(last.saturating_sub(first));
+        fitted = try_range(reader, replay, trial, step, first + 1, last, fitted)?;
+    }
+    Ok(fitted)
+}
+
+/// The text of how large a pool the log of this first replay needs. The log is read again for each size, unless the
+/// greatest pool refuses a line.
+fn fit_text<R: Again, T: Watch>(
+    reader: &mut R,
+    replay: &mut Replay<Heap>,
+    step: Option<u64>,
+    watch: &T,
+) -> Result<LineText, Failed>
+    requires good { is_bad_step step ≡ false }
+    requires records { replay.old.content.records ≡ most_records }
+    ensures { ReadsAgain replay.old.totals.lines (λ text times. (lines : List ReadLine) → StandsFor replay.old greatest_settings (reverse lines)
+        → TellsFit step lines (R.shown reader.old).whole times text.items) result (R.shown reader.old) (R.shown reader.new) }
+{
+    let totals = replay.totals();
+    let most = replay.most();
+    if totals.refused > 0 {
+        return Ok(untried_text(totals, most));
+    }
+    let sure = sure_pool(most, replay.most_rounded(), replay.class_size());
+    let peak = totals.peak_bytes;
+    let trial = Trial {
+        records: enough_records(most),
+        many: totals.lines,
+    };
+    let fitted = try_sizes(reader, replay, trial, step_of(step, peak), peak, watch)?;
+    Ok(fitted_text(totals, most, trial.records, fitted, sure))
+}
+
+/// Tells how large a pool the log needs that was replayed on the greatest one. Answers this status.
+fn tell_fit<R: Again, W: Sink, T: Watch>(
+    reader: &mut R,
+    writer: &mut W,
+    replay: &mut Replay<Heap>,
+    step: Option<u64>,
+    status: Status,
+    watch: &T,
+) -> Result<Status, RunFault>
+    requires good { is_bad_step step ≡ false }
+    requires records { replay.old.content.records ≡ most_records }
+    ensures answer { IfOk result (λ answered. answered ≡ status) }
+    ensures told { (lines : List ReadLine) → StandsFor replay.old greatest_settings (reverse lines)
+        → FitFollows step lines R.shown W.shown result reader.old reader.new writer.old writer.new }
+{
+    let Ok(text) = fit_text(reader, replay, step, watch) else {
+        return Err(RunFault::Read);
+    };
+    let put = put_all(writer, text.as_slice());
+    flush_behind(writer, put, status)
+}
+
+/// Reads a log of mtrace(3), and replays it on the greatest pool with the most records. Writes what is wrong with its
+/// lines, each as it comes, and flushes the writer. Then writes how large a pool the log needs: the peak, the most
+/// addresses held, and the records that are always enough, with the bytes of their table. With these come the least and the
+/// safe size among the multiples of the step from the peak to twice the peak. Where none of them serves, it goes on behind, by
+/// steps twice as large. For that the log is read again, once for each size, until a line is refused. Each reading reads as many
+/// lines as the first. Last comes the size of the pool that is always enough within the log's most blocks, bytes and class. The
+/// writer is flushed once more. What watches the run learns how many sizes are going to be tried.
+///
+/// Without a step, that is the least multiple of the unit from a 64th of the peak on. Memory is taken at the start alone, for one
+/// replay, which is made anew for each size.
+///
+/// # Errors
+///
+/// `BadSettings` exactly where the step isn't a whole number of units from one to the greatest size: then nothing is read or
+/// written. `Read`, `Write` and `OutOfMemory` come as in the runs that write a report. `Read` where the reader doesn't begin
+/// again, fails then, or has fewer lines then, too: what is wrong with the lines is written, and nothing of the sizes. `Write` where the writer fails at
+/// that, too: a beginning of it is written.
+pub fn run_fit<R: Again, W: Sink, T: Watch>(
+    alloc: Global,
+    reader: &mut R,
+    writer: &mut W,
+    step: Option<u64>,
+    watch: &T,
+) -> Result<Status, RunFault>
+    ensures { RunsFit step R.shown W.shown result reader.old reader.new writer.old writer.new }
+{
+    if is_bad_step(step) {
+        return Err(RunFault::BadSettings);
+    }
+    let mut ended = replay_log(alloc, reader, writer, greatest(), Report::Nothing)?;
+    tell_fit(reader, writer, &mut ended.replay, step, ended.status, watch)
+}

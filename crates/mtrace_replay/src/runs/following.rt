@@ -1,0 +1,68 @@
+//! The lines of a log, read and replayed, with what is wrong with each put at once.
+
+ghost use Rattle.std.specs.Prelude.{◌≡◌, [], IfOk, OnOk};
+ghost use Rattle.mtrace_log.specs.Output.{Puts};
+ghost use Rattle.mtrace_replay.specs.Texts.{diagnostics_text};
+ghost use Rattle.mtrace_replay.specs.Run.{has_some};
+ghost use Rattle.mtrace_replay.specs.Following.{FollowsLines};
+
+use crate::held::findings::Findings;
+use crate::runs::line_replay::LineReplay;
+use crate::runs::run::put_findings;
+use mtrace_log::{Failed, Lines, Sink, Source};
+
+/// Why no more lines are followed.
+#[derive(Clone, Copy)]
+pub(crate) enum Stop {
+    // The reader failed, or a line past the last number would come.
+    Reader,
+    // The writer failed.
+    Writer,
+    // Memory was refused.
+    Memory,
+}
+
+/// Puts what is wrong with a line, and then nothing is. Answers whether anything was.
+#[inline(always)]
+fn put_found<W: Sink>(writer: &mut W, findings: &mut Findings) -> Result<bool, Failed>
+    ensures put { Puts result (diagnostics_text findings.old) (W.shown writer.old) (W.shown writer.new) }
+    ensures found { IfOk result (λ more. more ≡ has_some findings.old) }
+    ensures cleared { OnOk result (findings.new ≡ []) }
+{
+    if findings.is_empty() {
+        return Ok(false);
+    }
+    put_findings(writer, findings)?;
+    Ok(true)
+}
+
+/// Reads and follows all lines of the log; what is wrong with a line is put at once. Answers whether anything is. The findings are
+/// empty before each line, so one serves all.
+pub(crate) fn follow_lines<P: LineReplay, R: Source, W: Sink>(
+    reader: &mut R,
+    writer: &mut W,
+    replay: &mut P,
+) -> Result<bool, Stop>
+    requires start { P.rules.lines replay.old ≡ 0 }
+    requires ready { P.rules.IsReady replay.old }
+    ensures { FollowsLines P.rules result replay.old replay.new (R.shown reader.old) (R.shown reader.new) (W.shown writer.old) (W.shown writer.new) }
+{
+    let mut lines = Lines::new();
+    let mut has_diagnostics = false;
+    let mut findings = Findings::none();
+    loop {
+        let number = match lines.advance(reader) {
+            Ok(Some(number)) => number,
+            Ok(None) => return Ok(has_diagnostics),
+            Err(_) => return Err(Stop::Reader),
+        };
+        match replay.take_line(number, lines.event(), &mut findings) {
+            Ok(()) => {}
+            Err(_) => return Err(Stop::Memory),
+        }
+        match put_found(writer, &mut findings) {
+            Ok(more) => has_diagnostics |= more,
+            Err(_) => return Err(Stop::Writer),
+        }
+    }
+}
