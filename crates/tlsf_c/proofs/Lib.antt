@@ -11,6 +11,7 @@ mod PlacedVectors
 mod RangesMoved
 mod RoomLemmas
 mod ReallocGives
+mod ResizedBlock
 mod SavedLemmas
 mod Stands
 mod Values

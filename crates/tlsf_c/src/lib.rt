@@ -16,6 +16,7 @@ mod placed_heap;
 mod placed_lookup;
 mod placed_pool;
 mod placed_pools;
+mod placed_sizes;
 mod pools;
 mod room;
 mod row;

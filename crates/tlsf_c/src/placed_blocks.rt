@@ -21,10 +21,10 @@ use crate::status::{SERVED, number};
 use tlsf_heap::{Heap, Ptr, Refusal};
 
 /// The bytes in front of a block's address.
-const FRONT: u64 = 8;
+pub(crate) const FRONT: u64 = 8;
 
 /// The most bytes that a block has behind its front.
-const MOST: u64 = 1_073_741_808 - FRONT;
+pub(crate) const MOST: u64 = 1_073_741_808 - FRONT;
 
 /// `Heap::malloc`, and what is known of the block: it lies in a pool, at a multiple of the unit, and has the bytes rounded up.
 #[inline(always)]
@@ -79,7 +79,7 @@ fn place_in(pool: &PlacedPool, ptr: Ptr, size: u64, word: &mut u64) -> u64
 
 /// The same of the pool that has the block's place.
 #[inline(always)]
-fn place_block(pools: &[PlacedPool; 8], ptr: Ptr, size: u64, word: &mut u64) -> u64
+pub(crate) fn place_block(pools: &[PlacedPool; 8], ptr: Ptr, size: u64, word: &mut u64) -> u64
     requires placed { All IsPlaced pools.now }
     requires in_units { ptr.place % 16 ≡ 0 }
     requires somewhere { All (λ pool. HasPlace pool ptr.place → ⊥) pools.now → ⊥ }
@@ -133,7 +133,7 @@ pub extern "C" fn tlsf_placed_malloc(heap: &mut PlacedHeap, bytes: u64, word: &m
 
 /// The live block that an address and the word in front of it mean. At most one touch.
 #[inline(always)]
-fn find(heap: &mut PlacedHeap, address: u64, word: u64) -> Option<Ptr>
+pub(crate) fn find(heap: &mut PlacedHeap, address: u64, word: u64) -> Option<Ptr>
     ensures some { IfSome result (λ ptr. (ptr ≡ told_block ptr.place address word) × ((pool : PlacedPool) × Contains heap.old.pools pool × IsAt pool ptr.place address) × (block_size_ptr ptr heap.old.handle.value.content ≡ Ok (told_size word address))) }
     ensures none { IfNone result (IsLiveAt address word heap.old.pools heap.old.handle.value.content → ⊥) }
     ensures pools { heap.new.pools ≡ heap.old.pools }

@@ -1,0 +1,84 @@
+use Rattle.std.specs.Prelude.{List, Contains}
+use Rattle.std.proofs.Common.{◌≡◌, ℕ, rules, ◌+◌, map, Some, Ok, Err, inl, inr, refl, sym, ap, ◌∙◌, subst, arith}
+use Rattle.tlsf_heap.specs.declared.refusal.Refusal.TheVariants.{BadPointer, NoFit}
+use Rattle.tlsf_heap.specs.Content.{Content}
+use Rattle.tlsf_heap.specs.Counted.{Counted, range_of}
+use Rattle.tlsf_heap.specs.Pointer.{Pointer, realloc_ptr, block_size_ptr}
+use Rattle.tlsf_heap.specs.Served.{IsMoved}
+use Rattle.tlsf_c.specs.Fronts.{told_size}
+use Rattle.tlsf_c.specs.Lying.{LiesIn}
+use Rattle.tlsf_c.specs.declared.placed_pool.PlacedPool.{PlacedPool}
+use Rattle.tlsf_c.specs.PlacedHeaps.{IsLiveAt, told_block}
+use Rattle.tlsf_c.proofs.PlacedLemmas.{lies_somewhere, ends_in_entry}
+use Rattle.tlsf_c.proofs.ResizedBlock.{found_live, grows_above}
+use Rattle.tlsf_c.proofs.placed_sizes.tlsf_placed_realloc.Goals as goal
+
+pub returns-in_default-clause-refused : goal.returns-in_default-clause-refused
+returns-in_default-clause-refused c = λ none. record {
+  refusal = BadPointer;
+  refused = inl (c.in_default.ensures.none, refl);
+  number_is = search rules;
+  unchanged = search rules;
+}
+
+pub returns-then-bytes-gt-MOST-clause-refused : goal.returns-then-bytes-gt-MOST-clause-refused
+returns-then-bytes-gt-MOST-clause-refused c = λ none.
+    let heap = c.args.heap.now in
+    let some = c.in-Some.ensures.some in
+    let live = found_live c.args.address c.args.word.now c.in-Some.ptr heap.pools heap.handle.value.content some.0 some.1 some.2 in
+    record {
+      refusal = NoFit;
+      refused = inr (live, λ slot. grows_above slot (told_block live.place c.args.address c.args.word.now) c.args.bytes (told_size c.args.word.now c.args.address) heap.handle.value.content live.live (omega (arith, c.if-bytes-gt-MOST.true)));
+      number_is = search rules;
+      unchanged = search rules;
+    }
+
+pub place_block-requires-clause-somewhere : goal.place_block-requires-clause-somewhere
+place_block-requires-clause-somewhere c =
+    let heap = c.find.new.heap in
+    let ptr = c.in-Ok.new.ptr in
+    let lies = subst (λ (h : Counted). LiesIn ptr.place c.in-Ok.new.size (map range_of h.content.pools)) c.heap.ensures.value c.in-Ok.ensures.lies in
+    lies_somewhere ptr.place c.in-Ok.new.size (map range_of heap.handle.value.content.pools) heap.pools heap.entries lies (omega (arith, c.in-Ok.ensures.holds, c.in-Ok.ensures.units))
+
+pub returns-in-Ok-clause-given : goal.returns-in-Ok-clause-given
+returns-in-Ok-clause-given c = λ some.
+    let heap = c.args.heap.now in
+    let content = heap.handle.value.content in
+    let new = c.in-Ok.new in
+    let found = c.in-Some.ensures.some in
+    let live = found_live c.args.address c.args.word.now c.in-Some.ptr heap.pools content found.0 found.1 found.2 in
+    let same : (c.heap.result.now).content ≡ content = ap (λ (h : Counted). h.content) c.heap.ensures.value ∙ c.find.ensures.read.unchanged.content in
+    let there = c.place_block.ensures.at in
+    let of_pools = subst (λ (pools : List PlacedPool). Contains pools there.0) c.find.ensures.pools there.1 in
+    let lies = subst (λ (k : Content ℕ). LiesIn new.ptr.place new.size (map range_of k.pools)) same c.in-Ok.ensures.lies in
+    let ends = ends_in_entry new.ptr.place new.size (map range_of content.pools) heap.pools there.0 heap.entries lies of_pools there.2.has in
+    record {
+      was = live;
+      pointer = new.ptr;
+      pool = there.0;
+      moved = subst (λ (p : Pointer). IsMoved (realloc_ptr (Some p) (c.args.bytes + 8)) (Some p) (Some new.ptr) content c.resize.new.heap.content) found.0
+          (subst (λ (k : Content ℕ). IsMoved (realloc_ptr (Some c.in-Some.ptr) (c.args.bytes + 8)) (Some c.in-Some.ptr) (Some new.ptr) k c.resize.new.heap.content) same c.in-Ok.ensures.ok);
+      of_pools = of_pools;
+      at = there.2;
+      ends = omega (arith, there.2.address_is, there.2.has.0, ends, c.in-Ok.ensures.holds);
+    }
+
+pub returns-in-Err-clause-refused : goal.returns-in-Err-clause-refused
+returns-in-Err-clause-refused c = λ none.
+    let heap = c.args.heap.now in
+    let content = heap.handle.value.content in
+    let why = c.in-Err.refusal in
+    let found = c.in-Some.ensures.some in
+    let live = found_live c.args.address c.args.word.now c.in-Some.ptr heap.pools content found.0 found.1 found.2 in
+    let same : (c.heap.result.now).content ≡ content = ap (λ (h : Counted). h.content) c.heap.ensures.value ∙ c.find.ensures.read.unchanged.content in
+    let rows = ap (λ (h : Counted). h.rows) c.heap.ensures.value ∙ c.find.ensures.read.unchanged.rows in
+    record {
+      refusal = why;
+      refused = inr (
+        live,
+        λ slot. subst (λ (p : Pointer). realloc_ptr (Some p) (c.args.bytes + 8) slot content ≡ Err why) found.0
+            (subst (λ (k : Content ℕ). realloc_ptr (Some c.in-Some.ptr) (c.args.bytes + 8) slot k ≡ Err why) same (c.in-Err.ensures.refused slot)),
+      );
+      number_is = c.from-in-Err.ensures ∙ c.number-in-Err.ensures.value;
+      unchanged = record { content = c.in-Err.ensures.unchanged.content ∙ same; rows = c.in-Err.ensures.unchanged.rows ∙ rows };
+    }

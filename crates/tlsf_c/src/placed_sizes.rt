@@ -1,0 +1,110 @@
+//! Blocks of a heap with addresses tell their sizes, and get others.
+
+ghost use Rattle.std.specs.Prelude.{◌≡◌, ◌≢◌, ℕ, ◌+◌, ◌-◌, ◌*◌, ◌/◌, ◌%◌, ◌^◌, ◌<◌, ◌≤◌, All, Contains, map, Ok, Err, Some, IfOk, IfErr, OnOk, OnErr, true, false};
+ghost use Rattle.tlsf_heap.specs.declared.refusal.Refusal.TheVariants.{BadPointer};
+ghost use Rattle.tlsf_heap.specs.Content.{blocks_of};
+ghost use Rattle.tlsf_heap.specs.Free.{is_live};
+ghost use Rattle.tlsf_heap.specs.Counted.{IsUnchanged, Reads, range_of};
+ghost use Rattle.tlsf_heap.specs.Pointer.{realloc_ptr, block_size_ptr};
+ghost use Rattle.tlsf_heap.specs.Served.{IsMoved};
+ghost use Rattle.tlsf_heap.specs.Touches.{AtMost, realloc_touches, block_size_touches};
+ghost use Rattle.tlsf_c.specs.Fronts.{front, told_size};
+ghost use Rattle.tlsf_c.specs.Lying.{LiesIn};
+ghost use Rattle.tlsf_c.specs.PlacedHeaps.{IsLiveAt, IsResizedAt, IsNotResized};
+ghost use Rattle.tlsf_c.specs.Status.{number};
+
+use crate::front::mark_of;
+use crate::placed_blocks::{FRONT, MOST, find, place_block};
+use crate::placed_heap::PlacedHeap;
+use crate::status::number;
+use tlsf_heap::{Heap, Ptr, Refusal};
+
+/// The bytes that the block at an address has, without the eight in front of it, where the word there is the block's. At most one
+/// touch. The answer is 0 unless the block is live.
+#[unsafe(no_mangle)]
+pub extern "C" fn tlsf_placed_block_size(heap: &mut PlacedHeap, address: u64, word: u64) -> u64
+    ensures size { IsLiveAt address word heap.old.pools heap.old.handle.value.content → result ≡ told_size word address - front }
+    ensures live { 0 < result → IsLiveAt address word heap.old.pools heap.old.handle.value.content }
+    ensures pools { heap.new.pools ≡ heap.old.pools }
+    ensures read { Reads block_size_touches heap.old.handle.value heap.new.handle.value }
+{
+    match find(heap, address, word) {
+        Some(_) => mark_of(word, address).size.saturating_sub(FRONT),
+        None => 0,
+    }
+}
+
+/// A live block, and its size in bytes.
+#[derive(Clone, Copy)]
+struct Resized {
+    ptr: Ptr,
+    size: u64,
+}
+
+/// `Heap::realloc` to some bytes, and what is known of the block then: it lies in a pool, at a multiple of the unit, and has these
+/// bytes or more, a multiple of the unit.
+#[inline(always)]
+fn resize(heap: &mut Heap, ptr: Ptr, bytes: u64) -> Result<Resized, Refusal>
+    requires some { 0 < bytes }
+    ensures ok { IfOk result (λ r. IsMoved (realloc_ptr (Some ptr) bytes) (Some ptr) (Some r.ptr) heap.old.content heap.new.content) }
+    ensures in_units { IfOk result (λ r. r.ptr.place % 16 ≡ 0) }
+    ensures units { IfOk result (λ r. r.size % 16 ≡ 0) }
+    ensures most { IfOk result (λ r. r.size < 2 ^ 30) }
+    ensures holds { IfOk result (λ r. bytes ≤ r.size) }
+    ensures lies { IfOk result (λ r. LiesIn r.ptr.place r.size (map range_of heap.old.content.pools)) }
+    ensures size { IfOk result (λ r. block_size_ptr r.ptr heap.new.content ≡ Ok r.size) }
+    ensures ranges { OnOk result (map range_of heap.new.content.pools ≡ map range_of heap.old.content.pools) }
+    ensures refused { IfErr result (λ refusal. (slot : ℕ) → realloc_ptr (Some ptr) bytes slot heap.old.content ≡ Err refusal) }
+    ensures unchanged { OnErr result (IsUnchanged heap.old heap.new) }
+    ensures bound { AtMost (realloc_touches + block_size_touches) heap.old.touches heap.new.touches }
+{
+    heap.keeps_good();
+    let Some(new) = heap.realloc(Some(ptr), bytes)? else {
+        unreachable!();
+    };
+    heap.keeps_good();
+    let Ok(size) = heap.block_size(new) else {
+        unreachable!();
+    };
+    Ok(Resized {
+        ptr: new,
+        size: u64::from(size),
+    })
+}
+
+/// The live block at an address gets room for `bytes` bytes, where `word` is the word in front of it. The answer is its address
+/// then, which may be another one: its bytes are the caller's to copy. `word` gets what stands in front of that. At most 60
+/// touches.
+///
+/// Where that is refused the answer is 0, and all is as it was. Then `word` gets the number of `BadPointer` unless the block is
+/// live, and else that of `NoFit` or `TableFull`.
+#[unsafe(no_mangle)]
+pub extern "C" fn tlsf_placed_realloc(
+    heap: &mut PlacedHeap,
+    address: u64,
+    bytes: u64,
+    word: &mut u64,
+) -> u64
+    ensures given { 0 < result → IsResizedAt address word.old bytes result heap.old.pools heap.old.handle.value.content heap.new.handle.value.content }
+    ensures live { 0 < result → IsLiveAt result word.new heap.old.pools heap.new.handle.value.content }
+    ensures multiple { result % 16 ≡ 0 }
+    ensures refused { result ≡ 0 → IsNotResized address word.old bytes word.new heap.old.pools heap.old.handle.value heap.new.handle.value }
+    ensures pools { heap.new.pools ≡ heap.old.pools }
+    ensures bound { AtMost (realloc_touches + 2) heap.old.handle.value.touches heap.new.handle.value.touches }
+{
+    let Some(ptr) = find(heap, address, *word) else {
+        *word = u64::from(number(Refusal::BadPointer));
+        return 0;
+    };
+    if bytes > MOST {
+        *word = u64::from(number(Refusal::NoFit));
+        return 0;
+    }
+    match resize(heap.handle.heap(), ptr, bytes + FRONT) {
+        Ok(new) => place_block(&heap.pools, new.ptr, new.size, word),
+        Err(refusal) => {
+            *word = u64::from(number(refusal));
+            0
+        }
+    }
+}
