@@ -2,8 +2,9 @@
  *
  * The heap hands out places, from 0 to 2^32 - 1. It chooses each block, and knows whether a live
  * block has a place and a slot. That is proved, and so are the calls of tlsf_front.h: they answer
- * addresses to malloc, find the block that free means, and add and remove pools. Of the other calls
- * this file turns places into addresses and back. It also moves fronts, and keeps the figures:
+ * addresses to malloc and realloc, find the block that a pointer means, and add and remove pools. Of
+ * the other calls this file turns places into addresses and back. It also moves fronts and bytes, and
+ * keeps the figures:
  *
  * - The control part, at the start of the memory handed in, keeps each pool's address and places. It
  *   ends with its mark, a sum over it. So tlsf_check tells a byte that is changed there, and reads
@@ -215,15 +216,11 @@ void tlsf_destroy(tlsf_t tlsf)
     }
 }
 
-static size_t live_size(const struct control *control, const void *ptr)
+static size_t live_size(struct control *control, const void *ptr)
 {
-    tlsf_heap_block block;
-    size_t told = 0;
-    uint32_t size = FRONT;
-    if (control != NULL && find(control, ptr, &block, &told)) {
-        (void)tlsf_heap_block_size(&control->at.heap, block, &size);
-    }
-    return size - FRONT;
+    uint64_t word = 0;
+    bool has = control != NULL && read_front(control, ptr, &word);
+    return has ? (size_t)tlsf_placed_block_size(&control->at, (uintptr_t)ptr, word) : 0u;
 }
 size_t tlsf_live_size(tlsf_t tlsf, const void *ptr)
 {
@@ -293,7 +290,7 @@ static inline void count_bytes(struct control *control, size_t had, size_t has)
     }
 }
 
-/* The pointer to a live block that memalign or realloc gave, whose front is written. Only where the
+/* The pointer to a live block that the heap's own calls gave, whose front is written. Only where the
  * control part or the table is spoiled does the block lie in no pool: then the pointer is null. */
 static inline void *hand_out(const struct control *control, tlsf_heap_block block, size_t size)
 {
@@ -385,12 +382,8 @@ void tlsf_free(tlsf_t tlsf, void *ptr)
     if (control == NULL) {
         return;
     }
-    bool has = has_pointer(&control->at.pools[0], ptr)
-               || tlsf_placed_has(&control->at, (uintptr_t)ptr);
-    if (has) {
-        (void)__builtin_memcpy(&word, (const unsigned char *)ptr - FRONT, FRONT);
-    }
-    if (has && tlsf_placed_free(&control->at, (uintptr_t)ptr, word) == TLSF_OK) {
+    if (read_front(control, ptr, &word)
+        && tlsf_placed_free(&control->at, (uintptr_t)ptr, word) == TLSF_OK) {
         write_front(ptr, 0, 0);
         control->figures.blocks_live--;
         control->figures.bytes_live -= size_in(word, ptr) - FRONT;
@@ -403,27 +396,23 @@ void tlsf_free(tlsf_t tlsf, void *ptr)
  * old one's bytes before the next call. Only a block that grows gets another place. */
 static void *resize(struct control *control, void *ptr, size_t size)
 {
-    tlsf_heap_block block = {0, 0};
-    tlsf_heap_block given = {0, 0};
-    enum tlsf_status status = TLSF_NO_FIT;
-    size_t told = 0;
-    uint32_t had = 0;
-    uint32_t has = 0;
-    if (!find(control, ptr, &block, &told)
-        || tlsf_heap_block_size(&control->at.heap, block, &had) != TLSF_OK) {
+    uint64_t front = 0;
+    if (!read_front(control, ptr, &front)) {
         return refuse_pointer(control, ptr, size);
     }
-    if (size < TOO_GREAT) {
-        status = tlsf_heap_realloc(&control->at.heap, block, in_units(size), &given);
+    uint64_t word = front;
+    uintptr_t address = (uintptr_t)tlsf_placed_realloc(&control->at, (uintptr_t)ptr, size, &word);
+    if (address == 0u) {
+        enum tlsf_status status = (enum tlsf_status)word;
+        return status == TLSF_BAD_POINTER ? refuse_pointer(control, ptr, size)
+                                          : refuse_bytes(control, status, ptr, size);
     }
-    if (status != TLSF_OK) {
-        return refuse_bytes(control, status, ptr, size);
-    }
-    (void)tlsf_heap_block_size(&control->at.heap, given, &has);
-    count_bytes(control, told, has);
+    void *other = (void *)address;
+    size_t had = size_in(front, ptr);
+    count_bytes(control, had, size_in(word, other));
     write_front(ptr, 0, 0);
-    void *other = hand_out(control, given, has);
-    return other == ptr || other == NULL ? other : memcpy(other, ptr, had - FRONT);
+    (void)__builtin_memcpy((unsigned char *)other - FRONT, &word, FRONT);
+    return other == ptr ? other : memcpy(other, ptr, had - FRONT);
 }
 
 void *tlsf_realloc(tlsf_t tlsf, void *ptr, size_t size)
@@ -537,7 +526,7 @@ void tlsf_walk_pool(pool_t pool, tlsf_walker walker, void *user)
 
 /* What a check counts: the live blocks, their bytes, those of all blocks, and the faults. */
 struct counts {
-    const struct control *control;
+    struct control *control;
     size_t blocks_live;
     size_t bytes_live;
     size_t bytes;

@@ -44,11 +44,16 @@ struct placed {
  * tlsf_placed_malloc answers the address of a live block, a multiple of 16, and gives *word its word.
  * Where the heap refuses it answers 0, and *word is the status. tlsf_placed_free answers 0 exactly
  * where the block at the address is live and has this word, and TLSF_BAD_POINTER else.
+ * tlsf_placed_block_size answers the bytes behind the front of that block, and 0 where there is none.
+ * tlsf_placed_realloc gives it room for `bytes` bytes, and answers its address then, with the word in
+ * *word. It copies no byte. Where it is refused it answers 0, and *word is the status.
  * tlsf_placed_has answers whether the address lies in a pool with the eight bytes in front of it.
  * tlsf_placed_add_pool adds a pool of `bytes` bytes, of which the eight in front of `first` are the
  * first, and gives *entry the number of its entry. It refuses one that overlaps another. */
 uint64_t tlsf_placed_malloc(struct placed *heap, uint64_t bytes, uint64_t *word);
 enum tlsf_status tlsf_placed_free(struct placed *heap, uint64_t address, uint64_t word);
+uint64_t tlsf_placed_block_size(struct placed *heap, uint64_t address, uint64_t word);
+uint64_t tlsf_placed_realloc(struct placed *heap, uint64_t address, uint64_t bytes, uint64_t *word);
 bool tlsf_placed_has(const struct placed *heap, uint64_t address);
 enum tlsf_status tlsf_placed_add_pool(struct placed *heap, uint64_t first, uint64_t bytes,
                                       uint64_t place, uint32_t *entry);
@@ -128,20 +133,16 @@ RARE static const struct pool *pool_of(const struct control *control, const uint
     return pool;
 }
 
-/* Whether a pointer lies in a pool of the heap, with a whole front: then its block and size. Whether
- * the block is live is the heap's to say. */
-static inline bool find(const struct control *control, const void *ptr, tlsf_heap_block *block,
-                        size_t *size)
+/* Whether a pointer lies in a pool of the heap: then the word in front of it. Whether that is the word
+ * of a live block is the proved calls' to say. */
+static inline bool read_front(const struct control *control, const void *ptr, uint64_t *word)
 {
-    const struct pool *pool = pool_of(control, NULL, ptr);
-    if (pool == NULL) {
-        return false;
+    bool has = has_pointer(&control->at.pools[0], ptr)
+               || tlsf_placed_has(&control->at, (uintptr_t)ptr);
+    if (has) {
+        (void)__builtin_memcpy(word, (const unsigned char *)ptr - FRONT, FRONT);
     }
-    uint64_t kept = unscrambled(ptr);
-    block->place = pool->place + (uint32_t)((uintptr_t)ptr - pool->first);
-    block->slot = (uint16_t)kept;
-    *size = (size_t)(kept >> SLOT_BITS) * UNIT;
-    return kept >> FRONT_BITS == 0u;
+    return has;
 }
 
 #endif
