@@ -30,9 +30,9 @@ def is_in(address, ranges):
     return any(start <= address < end for start, end in ranges)
 
 
-def frames():
-    """The frames of the selected thread, as far as gdb finds them."""
-    frame = gdb.newest_frame()
+def callers():
+    """The frames of the selected thread but for the nearest, as far as gdb finds them."""
+    frame = gdb.newest_frame().older()
     for _ in range(MOST_FRAMES):
         if frame is None:
             return
@@ -45,7 +45,7 @@ def frames():
 
 def has_free_hands():
     """Whether no call of the selected thread is one of the dynamic linker or the tracer, and none was interrupted by a signal."""
-    return not any(frame.type() == gdb.SIGTRAMP_FRAME or is_in(frame.pc(), ORDERS["busy"]) for frame in frames())
+    return not any(frame.type() == gdb.SIGTRAMP_FRAME or is_in(frame.pc(), ORDERS["busy"]) for frame in callers())
 
 
 def waits(thread):
