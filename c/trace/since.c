@@ -1,11 +1,8 @@
 /* since.c: the blocks that are held since a running program is traced: a set of addresses. What isn't in
  * it is from before: to free it is counted, and is no line of the log. All calls have the lock of the log
- * held. Memory is the system's.
+ * held. Memory is taken as for the search of held.c, which passes over it.
  */
-#define _GNU_SOURCE
 #include "trace.h"
-
-#include <sys/mman.h>
 
 enum { FIRST_PLACES = 1 << 14 };
 
@@ -17,13 +14,6 @@ static bool is_on;
 bool since_is_on(void) { return is_on; }
 
 size_t since_before(void) { return before; }
-
-static uintptr_t *take_table(size_t wanted)
-{
-    int access = PROT_READ | PROT_WRITE, kind = MAP_PRIVATE | MAP_ANONYMOUS;
-    void *memory = mmap(NULL, wanted * sizeof *table, access, kind, -1, 0);
-    return memory == MAP_FAILED ? NULL : memory;
-}
 
 static size_t place_of(uintptr_t address) { return (size_t)mix(address) & (places - 1); }
 
@@ -39,7 +29,7 @@ static size_t find_place(uintptr_t address)
 
 static bool grow(void)
 {
-    uintptr_t *old = table, *fresh = take_table(2 * places);
+    uintptr_t *old = table, *fresh = take_pages(2 * places * sizeof *table);
     size_t had = places;
     if (fresh == NULL) {
         return false;
@@ -51,7 +41,7 @@ static bool grow(void)
             table[find_place(old[k])] = old[k];
         }
     }
-    munmap(old, had * sizeof *old);
+    give_pages(old);
     return true;
 }
 
@@ -72,7 +62,7 @@ static void empty(size_t hole)
 bool since_begin(void)
 {
     since_end();
-    table = take_table(FIRST_PLACES);
+    table = take_pages(FIRST_PLACES * sizeof *table);
     places = table == NULL ? 0 : FIRST_PLACES;
     before = 0;
     is_on = table != NULL;
@@ -81,9 +71,7 @@ bool since_begin(void)
 
 void since_end(void)
 {
-    if (table != NULL) {
-        munmap(table, places * sizeof *table);
-    }
+    give_pages(table);
     table = NULL;
     places = count = 0;
     is_on = false;

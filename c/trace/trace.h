@@ -176,7 +176,7 @@ bool held_read(struct held *held, const char *log);
 /* The block that has an address, or null. */
 struct block *held_find(const struct held *held, uintptr_t address);
 
-/* Memory of the system for the search, as zeros, or null; whether an address is in it; and its end. */
+/* Memory of the system for the search and since.c, as zeros, or null; whether an address is in it; and its end. */
 void *take_pages(size_t bytes);
 bool is_taken(uintptr_t address);
 void give_pages(void *memory);

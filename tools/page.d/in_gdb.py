@@ -82,7 +82,7 @@ def caller():
 def stop_at_call():
     """Runs the process until a thread calls malloc from where it may, or until it was enough."""
     points = [gdb.Breakpoint(f"*{address:#x}") for address in ORDERS["calls"]]
-    gdb.execute(f"handle {ENOUGH} stop noprint nopass", to_string=True)
+    gdb.execute(f"handle {ENOUGH} stop print nopass", to_string=True)
     answer("waits", "")
     found = False
     for _ in range(MOST_STOPS):

@@ -11,7 +11,7 @@ from pathlib import Path
 
 HERE = Path(__file__).resolve().parent
 # Seconds until a thread is to be where malloc can be called.
-PATIENCE = 10
+PATIENCE = 5
 NOW, NOT_AGAIN, NO_LOAD = 2, 0x1000, 4
 CALLS = ("malloc", "calloc", "realloc", "free")
 FUNCTIONS = ("dlopen", "dlsym", "dlerror", "mmap", "munmap")
@@ -78,7 +78,7 @@ def check(process):
         if os.stat(f"/proc/{process}/ns/mnt").st_ino != os.stat("/proc/self/ns/mnt").st_ino:
             raise Refused(f"process {process} has other files than this one, as in a container: run this there")
     except PermissionError:
-        raise Refused(f"process {process} may not be read: it gave up rights") from None
+        raise Refused(f"process {process} may not be looked into: ptrace isn't permitted, for it has more rights or gave up some") from None
     if not shutil.which("gdb"):
         raise Refused("gdb isn't found: install it (Debian's gdb)")
     if not shutil.which("nm"):
