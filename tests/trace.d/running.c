@@ -4,6 +4,7 @@
  *     running           waits for lines
  *     running pthreads  the same, while the main thread waits for another thread, which reads the lines
  */
+#define _GNU_SOURCE
 #include <dlfcn.h>
 #include <pthread.h>
 #include <stdio.h>
@@ -59,6 +60,14 @@ static void load(const char *name)
     printf("%s\n", plug == NULL ? dlerror() : plug() == NULL ? "no block" : "loaded");
 }
 
+/* Whether calls of malloc lead to the C library. */
+static void tell_slots(void)
+{
+    void *(*volatile called)(size_t) = malloc;
+    void *found = dlsym(RTLD_DEFAULT, "malloc");
+    printf("%s\n", (void *)called == found ? "calls are the C library's" : "calls are traced");
+}
+
 static void *read_lines(void *unused)
 {
     char line[100];
@@ -66,6 +75,8 @@ static void *read_lines(void *unused)
         line[strcspn(line, "\n")] = 0;
         if (strcmp(line, "plant") == 0) {
             plant();
+        } else if (strcmp(line, "slots") == 0) {
+            tell_slots();
         } else if (strcmp(line, "fork") == 0) {
             fork_child();
         } else if (strncmp(line, "load ", 5) == 0) {
