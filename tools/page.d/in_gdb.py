@@ -140,6 +140,8 @@ def order(room):
 
 
 def run():
+    # What is read of files is read while the process still runs.
+    gdb.execute(f"file {ORDERS['program']}", to_string=True)
     gdb.execute(f"attach {PROCESS}", to_string=True)
     if not find_waiting() and not stop_at_call():
         return "no", "no thread came to where malloc can be called: all of them compute, or wait for a lock"

@@ -122,7 +122,7 @@ def orders(process, tracer, order):
     machine = os.uname().machine
     futex, waits = WAITS[machine]
     return {
-        "process": process, "machine": machine, "futex": futex, "waits": waits, "functions": functions, "calls": [calls[name] for name in CALLS],
+        "process": process, "program": f"/proc/{process}/exe", "machine": machine, "futex": futex, "waits": waits, "functions": functions, "calls": [calls[name] for name in CALLS],
         "library": library.code, "busy": linker.code + (loaded.code if loaded else []), "order": order,
         "tracer": loaded.path if loaded else tracer, "mode": NOW | (NO_LOAD if loaded else NOT_AGAIN),
     }
