@@ -62,8 +62,8 @@ def waits(thread):
 
 
 def find_waiting():
-    """Selects a thread that waits, where there is one."""
-    for thread in gdb.selected_inferior().threads():
+    """Selects a thread that waits, where there is one: the first, which has the largest stack, before others."""
+    for thread in sorted(gdb.selected_inferior().threads(), key=lambda thread: thread.ptid[1] != PROCESS):
         if waits(thread):
             thread.switch()
             if has_free_hands():
