@@ -16,6 +16,9 @@
  * The environment has TLSF_TRACE_LOG, the log's name; TLSF_TRACE_FRAMES, the most frames of a
  * location; TLSF_TRACE_INDEX, a file to which each process adds its log's name; and
  * TLSF_TRACE_REACHABLE, with which each process tells what is still reachable at its end.
+ *
+ * A program that runs already is told by gdb to call tlsf_trace_begin and tlsf_trace_end (process.c).
+ * tools/page.d/in_gdb.py tells where that is safe.
  */
 #ifndef TLSF_TRACE_H
 #define TLSF_TRACE_H
