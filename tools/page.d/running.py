@@ -13,6 +13,7 @@ HERE = Path(__file__).resolve().parent
 # Seconds until a thread is to be where malloc can be called.
 PATIENCE = 5
 NOW, NOT_AGAIN, NO_LOAD = 2, 0x1000, 4
+OF_GDB = "gdb: "
 CALLS = ("malloc", "calloc", "realloc", "free")
 FUNCTIONS = ("dlopen", "dlsym", "dlerror", "mmap", "munmap")
 # System calls that wait: read, write, poll, select, epoll, sleep, pause, wait, accept, receive, send, sigsuspend, and restarts of these.
@@ -147,7 +148,7 @@ def why_not(process, said):
     if not is_there(process):
         return f"process {process} has ended"
     if "peration not permitted" not in said:
-        return "gdb: " + (said.strip().splitlines() or ["it ended without a word"])[-1]
+        return OF_GDB + (said.strip().splitlines() or ["it ended without a word"])[-1]
     try:
         scope = Path("/proc/sys/kernel/yama/ptrace_scope").read_text().strip()
     except OSError:
@@ -168,7 +169,9 @@ def give(process, tracer, order, log="", frames=0, reachable=False):
         gdb = subprocess.Popen(words, env={**os.environ, "TLSF_IN_GDB": json.dumps(told)}, stdin=subprocess.DEVNULL, stdout=subprocess.DEVNULL,
                                stderr=subprocess.PIPE, text=True, errors="replace", start_new_session=True)
         said = wait_for(gdb, process, told["answer"])
-        kind, _, text = (lines_of(told["answer"]) or ["no gdb: " + why_not(process, said)])[-1].partition(" ")
+        kind, _, text = (lines_of(told["answer"]) or [""])[-1].partition(" ")
     if kind == "yes":
         return text
-    raise Refused(why_not(process, text) if text.startswith("gdb: ") or kind != "no" else f"process {process}: {text}")
+    if kind == "no" and not text.startswith(OF_GDB):
+        raise Refused(f"process {process}: {text}")
+    raise Refused(why_not(process, text.removeprefix(OF_GDB) if kind == "no" else said))
