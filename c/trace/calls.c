@@ -101,6 +101,43 @@ static void write_line(const char *line, const char *end)
     log_unlock();
 }
 
+/* Holds a block of a running program. The program frees blocks by ways that aren't seen, too, as amid a
+ * library that is still loaded: that is told where the same address is given again. With the lock held. */
+static void hold(const void *address)
+{
+    enum since was = since_add((uintptr_t)address);
+    if (was == HELD) {
+        char line[LINE_MOST], *end = put_address(line, '-', address);
+        *end++ = '\n';
+        log_write(line, (size_t)(end - line));
+    } else if (was == NO_MEMORY) {
+        log_drop("has no memory for what is held, so the log is cut");
+    }
+}
+
+/* Whether the log is one of a running program. With the lock held. */
+static bool is_since(void) { return since_is_on() && log_is_on(); }
+
+/* Writes the line of a block that was given. */
+static void write_given(const char *line, const char *end, const void *address)
+{
+    log_lock();
+    if (is_since() && address != NULL) {
+        hold(address);
+    }
+    log_write(line, (size_t)(end - line));
+    log_unlock();
+}
+
+/* Whether a block is one of the log, which it then leaves. Each is where the whole program is traced. */
+static bool take_block(const void *address)
+{
+    log_lock();
+    bool is_held = !is_since() || since_take((uintptr_t)address);
+    log_unlock();
+    return is_held;
+}
+
 /* The power of two that the C library takes for an alignment. */
 static size_t power_of(size_t align)
 {
@@ -123,13 +160,16 @@ static void tell_given(void *caller, const void *address, size_t align, size_t b
         *end++ = ' ';
         end = put_hex(end, power_of(align));
     }
-    write_line(line, put_size(end, bytes));
+    write_given(line, put_size(end, bytes), address);
     errno = code;
 }
 
 static void tell_freed(void *caller, const void *address)
 {
     int code = errno;
+    if (!take_block(address)) {
+        return;
+    }
     char line[LINE_MOST];
     char *end = put_address(put_place(line, caller), '-', address);
     *end++ = '\n';
@@ -189,7 +229,7 @@ EXPORT void *calloc(size_t count, size_t size)
 }
 
 /* The lines of a realloc: two, or one where it failed or gave the block back. */
-static char *put_moved(char *place, size_t length, const void *old, const void *given, size_t bytes)
+static const char *put_moved(char *place, size_t length, const void *old, const void *given, size_t bytes)
 {
     char *end = place + length;
     if (given == NULL && bytes != 0) {
@@ -202,6 +242,21 @@ static char *put_moved(char *place, size_t length, const void *old, const void *
         end = put_size(put_address(end + length, '>', given), bytes);
     }
     return end;
+}
+
+/* The lines of a realloc amid a running program, of which the block can be from before: then what is given
+ * is a new block. */
+static const char *put_moved_since(char *place, size_t length, const void *old, const void *given, size_t bytes)
+{
+    bool is_gone = given != NULL || bytes == 0;
+    bool is_held = is_gone ? since_take((uintptr_t)old) : since_has((uintptr_t)old);
+    if (given != NULL) {
+        hold(given);
+    }
+    if (is_held) {
+        return put_moved(place, length, old, given, bytes);
+    }
+    return given == NULL ? place : put_size(put_address(place + length, '+', given), bytes);
 }
 
 /* A call of realloc with an address from this caller. */
@@ -219,7 +274,7 @@ static void *move(void *caller, void *old, size_t bytes)
     log_lock();
     void *given = real.realloc(old, bytes);
     int code = errno;
-    const char *end = put_moved(lines, length, (const void *)address, given, bytes);
+    const char *end = (is_since() ? put_moved_since : put_moved)(lines, length, (const void *)address, given, bytes);
     log_write(lines, (size_t)(end - lines));
     log_unlock();
     leave();

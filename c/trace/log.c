@@ -155,20 +155,25 @@ static uint64_t milliseconds(void)
     return (uint64_t)now.tv_sec * 1000 + (uint64_t)now.tv_nsec / 1000000;
 }
 
+/* A line without effect that tells a number: `@ t1234 ! (nil) 0`. */
+static void tell_number(char what, uint64_t number)
+{
+    static const char no_effect[] = " ! (nil) 0\n";
+    char line[64] = {'@', ' ', what};
+    char *end = put_decimal(line + 3, number);
+    memcpy(end, no_effect, sizeof no_effect - 1);
+    append(line, (size_t)(end - line) + sizeof no_effect - 1);
+}
+
 /* Tells how old the log is, by a line without effect: `@ t1234 ! (nil) 0`. The clock is looked at each
  * LOOK_EACH writes, and told where a second is over or there were TELL_EACH. */
 static void tell_time(void)
 {
-    static const char no_effect[] = " ! (nil) 0\n";
     uint64_t now = milliseconds();
-    if (now - last_told < 1000 && writes % TELL_EACH != 0) {
-        return;
+    if (now - last_told >= 1000 || writes % TELL_EACH == 0) {
+        tell_number('t', now - begun);
+        last_told = now;
     }
-    char line[64] = "@ t";
-    char *end = put_decimal(line + 3, now - begun);
-    memcpy(end, no_effect, sizeof no_effect - 1);
-    append(line, (size_t)(end - line) + sizeof no_effect - 1);
-    last_told = now;
 }
 
 void log_write(const char *lines, size_t length)
@@ -182,8 +187,19 @@ void log_write(const char *lines, size_t length)
     append(lines, length);
 }
 
+/* Tells how many blocks from before the log were freed, where a running program is traced: `@ b7 ! (nil) 0`. */
+static void tell_before(void)
+{
+    if (since_is_on()) {
+        tell_number('b', since_before());
+    }
+}
+
 void log_end(void)
 {
+    if (log_is_on() && piece != NULL) {
+        tell_before();
+    }
     if (log_is_on() && piece != NULL) {
         memcpy(piece + (written - piece_from), end_line, END_BYTES);
         munmap(piece, PIECE);
@@ -191,6 +207,14 @@ void log_end(void)
         (void)!truncate(path, (off_t)(written + END_BYTES));
     }
 }
+
+void log_close(void)
+{
+    log_end();
+    *alive = 0;
+}
+
+void log_drop(const char *why) { fail(why); }
 
 void log_resume(void)
 {
@@ -308,6 +332,7 @@ bool log_begin(const char *name)
     }
     *alive = 1;
     log_write(start_line, sizeof start_line - 1);
+    tell_before();
     add_to_index();
     return true;
 }

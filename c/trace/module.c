@@ -120,30 +120,36 @@ struct names {
 };
 
 /* What an entry of a dynamic section points to. In some modules it isn't relocated. */
-static uintptr_t entry_of(const struct dl_phdr_info *info, const ElfW(Dyn) *entry)
+static uintptr_t address_of(const struct dl_phdr_info *info, const ElfW(Dyn) *entry)
 {
     uintptr_t address = entry->d_un.d_ptr;
     return address < info->dlpi_addr ? info->dlpi_addr + address : address;
 }
 
-static struct names names_of(const struct dl_phdr_info *info)
+uintptr_t dynamic_entry(const struct dl_phdr_info *info, long tag, bool is_address)
 {
-    struct names names = {NULL, NULL, NULL};
     const ElfW(Dyn) *entry = NULL;
     for (int k = 0; k < info->dlpi_phnum; k++) {
         if (info->dlpi_phdr[k].p_type == PT_DYNAMIC) {
             entry = (const ElfW(Dyn) *)(info->dlpi_addr + info->dlpi_phdr[k].p_vaddr);
         }
     }
-    for (; entry != NULL && entry->d_tag != DT_NULL; entry++) {
-        if (entry->d_tag == DT_SYMTAB) {
-            names.symbols = (const ElfW(Sym) *)entry_of(info, entry);
-        } else if (entry->d_tag == DT_STRTAB) {
-            names.strings = (const char *)entry_of(info, entry);
-        } else if (entry->d_tag == DT_GNU_HASH) {
-            names.hash = (const uint32_t *)entry_of(info, entry);
-        }
+    while (entry != NULL && entry->d_tag != DT_NULL && entry->d_tag != tag) {
+        entry++;
     }
+    if (entry == NULL || entry->d_tag != tag) {
+        return 0;
+    }
+    return is_address ? address_of(info, entry) : entry->d_un.d_val;
+}
+
+static struct names names_of(const struct dl_phdr_info *info)
+{
+    struct names names = {
+        (const ElfW(Sym) *)dynamic_entry(info, DT_SYMTAB, true),
+        (const char *)dynamic_entry(info, DT_STRTAB, true),
+        (const uint32_t *)dynamic_entry(info, DT_GNU_HASH, true),
+    };
     return names;
 }
 
@@ -184,6 +190,34 @@ static void find_known(struct module *module, const struct dl_phdr_info *info)
             module->range[module->ranges++] = code;
         }
     }
+}
+
+/* What is asked for the first object that defines a name, and its address there. */
+struct definition {
+    const char *name;
+    uintptr_t address;
+};
+
+static int look_for_definition(struct dl_phdr_info *info, size_t size, void *data)
+{
+    struct definition *wanted = data;
+    struct names names = names_of(info);
+    (void)size;
+    if (names.hash == NULL || names.symbols == NULL || names.strings == NULL) {
+        return 0;
+    }
+    const ElfW(Sym) *symbol = find_symbol(&names, wanted->name);
+    if (symbol != NULL && symbol->st_shndx != SHN_UNDEF) {
+        wanted->address = info->dlpi_addr + symbol->st_value;
+    }
+    return wanted->address != 0;
+}
+
+uintptr_t first_definition(const char *name)
+{
+    struct definition wanted = {name, 0};
+    dl_iterate_phdr(look_for_definition, &wanted);
+    return wanted.address;
 }
 
 /* The path of a module: the whole one, where it was loaded by a part of it. With the lock held. */

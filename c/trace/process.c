@@ -21,6 +21,8 @@ static char name[PATH_MOST];
 /* Whether settings were read, and whether nothing is to be traced. */
 static bool is_set;
 static bool is_off;
+/* Whether tracing began while the program ran, and whether handlers were tied then. */
+static bool is_late, is_tied;
 /* Whether what is still reachable is told at the end, and whether the last handler of exit runs. */
 static bool tells_reachable, is_last_handler;
 
@@ -57,6 +59,7 @@ void find_real(void)
     find("valloc", &real.valloc);
     find("pvalloc", &real.pvalloc);
     find("dlclose", &real.dlclose);
+    find("dlopen", &real.dlopen);
     find("execve", &real.execve);
     find("execv", &real.execv);
     find("execvp", &real.execvp);
@@ -72,14 +75,14 @@ void find_real(void)
 /* Ends the log where it is this process's: a child of vfork shares the memory of its parent. A
  * signal's handler that came while its thread was in the tracer may not wait for the lock. Registers
  * are put onto the stack, where reach_tell looks for pointers. */
-__attribute__((noinline)) static bool end(void)
+__attribute__((noinline)) static bool end_by(void (*end_log)(void))
 {
     if (inside || !log_is_on() || getpid() != log_process()) {
         return false;
     }
     inside = true;
     log_lock();
-    log_end();
+    end_log();
     if (tells_reachable) {
         __builtin_unwind_init();
         reach_tell(is_last_handler);
@@ -88,6 +91,8 @@ __attribute__((noinline)) static bool end(void)
     inside = false;
     return true;
 }
+
+static bool end(void) { return end_by(log_end); }
 
 /* Whether this thread is the only one, by the links of the folder that has one for each. */
 static bool is_alone(void)
@@ -125,6 +130,14 @@ static void at_exit(void *unused)
 
 static void at_quick(void) { end(); }
 
+/* Where tracing began late a handler would run before those of the program: this runs behind them. */
+__attribute__((destructor)) static void at_last(void)
+{
+    if (is_late) {
+        end();
+    }
+}
+
 EXPORT void _exit(int status)
 {
     end();
@@ -142,6 +155,7 @@ static void forget_parent(void)
     log_forget();
     stack_in_child();
     reach_in_child();
+    slots_in_child();
 }
 
 /* In the child of a fork. */
@@ -151,8 +165,20 @@ static void in_child(void)
         log_detach();
         stack_in_child();
         reach_in_child();
+        slots_in_child();
     } else {
         forget_parent();
+    }
+}
+
+/* Takes the log's name, the most frames, and whether what is reachable is told. */
+static void take(const char *log, int frames, bool reachable)
+{
+    strcpy(name, log);
+    stack_begin(frames < 1 ? 1 : frames > FRAMES_MOST ? FRAMES_MOST : (unsigned)frames);
+    tells_reachable = reachable;
+    if (reachable) {
+        reach_begin();
     }
 }
 
@@ -162,16 +188,10 @@ static void set(void)
     const char *given = getenv("TLSF_TRACE_LOG");
     const char *frames = getenv("TLSF_TRACE_FRAMES");
     const char *reachable = getenv("TLSF_TRACE_REACHABLE");
-    int most = frames == NULL ? FRAMES_USUAL : atoi(frames);
     is_set = true;
     is_off = given == NULL || given[0] == 0 || strlen(given) >= sizeof name;
     if (!is_off) {
-        strcpy(name, given);
-        stack_begin(most < 1 ? 1 : most > FRAMES_MOST ? FRAMES_MOST : (unsigned)most);
-        tells_reachable = reachable != NULL && reachable[0] != 0;
-        if (tells_reachable) {
-            reach_begin();
-        }
+        take(given, frames == NULL ? FRAMES_USUAL : atoi(frames), reachable != NULL && reachable[0] != 0);
         pthread_atfork(stack_before_fork, stack_in_parent, in_child);
         /* Tied to no library, so that it runs behind the destructors of all. */
         __cxa_atexit(at_exit, NULL, NULL);
@@ -216,6 +236,9 @@ bool enter(void)
         inside = false;
         return false;
     }
+    if (is_late) {
+        slots_pass();
+    }
     return true;
 }
 
@@ -226,6 +249,70 @@ __attribute__((constructor)) static void start(void)
     if (enter()) {
         leave();
     }
+}
+
+/* ---- a running program, whose debugger calls these */
+
+static void tie(void)
+{
+    if (!is_tied) {
+        pthread_atfork(stack_before_fork, stack_in_parent, in_child);
+        at_quick_exit(at_quick);
+        is_tied = true;
+    }
+}
+
+/* Begins a log whose name is taken. Slots are changed first: so no block of the log is freed unseen. */
+static bool begin_late(void)
+{
+    is_late = true;
+    is_off = true;
+    stack_forget();
+    slots_turn(true);
+    log_lock();
+    bool made = since_begin() && log_begin(name);
+    log_unlock();
+    if (!made) {
+        slots_turn(false);
+    }
+    return made;
+}
+
+/* Begins to trace this process. Returns the log's name, which begins with a slash, or why it can't be. */
+EXPORT const char *tlsf_trace_begin(const char *log, int frames, int reachable)
+{
+    uintptr_t theirs;
+    find_real();
+    memcpy(&theirs, &real.malloc, sizeof theirs);
+    if (log_is_on()) {
+        return "it is traced already";
+    }
+    if (first_definition("malloc") != theirs) {
+        return "its malloc isn't that of the C library";
+    }
+    if (strlen(log) >= sizeof name) {
+        return "the log's name is too long";
+    }
+    inside = true;
+    take(log, frames, reachable != 0);
+    tie();
+    if (reachable != 0) {
+        /* Blocks from before are no blocks of the log, as those of a parent. */
+        reach_in_child();
+    }
+    bool begun = begin_late();
+    inside = false;
+    return begun ? log_path() : "the log can't be made";
+}
+
+/* Ends the log of this process, which goes on without being traced. Returns as above. */
+EXPORT const char *tlsf_trace_end(void)
+{
+    if (!is_late || !end_by(log_close)) {
+        return "it isn't traced since it runs";
+    }
+    slots_turn(false);
+    return log_path();
 }
 
 /* ---- exec: the log ends, and goes on where the call returns */

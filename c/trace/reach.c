@@ -25,6 +25,9 @@
 /* Bytes that are read at once, the most threads whose stacks are told apart, the bytes below a stack's
  * pointer that are in use, and what the arenas of glibc's threads are a multiple of. */
 enum { PIECE = 1 << 16, WORD = sizeof(uintptr_t), THREADS_MOST = 1024, RED_ZONE = 128, ARENA = 1 << 26 };
+/* The most parts of files, and the words of a table of functions that are looked at, of which so many are to
+ * lead to code. */
+enum { FILES_MOST = 8192, TABLE_WORDS = 20, TABLE_CODE = 2 };
 /* Words of a piece, bytes of a name, arguments of a system call, the pages that are asked for at once, the
  * most bytes of exit's code, the words that are looked at for its frame, and the registers that it keeps. */
 enum { WORDS = PIECE / WORD, NAME_MOST = PATH_MOST + 16, ARGUMENTS = 6, PAGES = 64, EXIT_CODE = 64, EXIT_WORDS = 128, EXIT_KEPT = 6 };
@@ -32,8 +35,14 @@ enum { WORDS = PIECE / WORD, NAME_MOST = PATH_MOST + 16, ARGUMENTS = 6, PAGES = 
 /* A part of the memory: a line of the kernel's list. */
 struct mapping {
     uintptr_t from, to;
-    bool is_written, is_private, is_guard;
+    bool is_written, is_private, is_guard, is_read, is_code;
     const char *path;
+};
+
+/* A part of a file that is mapped and can be read. */
+struct part {
+    uintptr_t from, to;
+    bool is_code;
 };
 
 /* A search. The queue has blocks whose words are still to be looked at. Each block gets into it twice at
@@ -46,6 +55,9 @@ struct search {
     uintptr_t stacks[THREADS_MOST];
     size_t threads;
     bool is_unknown;
+    /* Parts of files, in order. */
+    struct part files[FILES_MOST];
+    size_t file_count;
     /* The kernel's list of pages, or below 0; the file that is written, how many bytes wait for it, and whether
      * all others could be written. */
     int pages, file;
@@ -90,13 +102,60 @@ static size_t read_memory(void *to, uintptr_t from, size_t bytes)
     return got < 0 ? 0 : (size_t)got;
 }
 
+/* The part of a file that an address is in, or null. */
+static const struct part *file_at(const struct search *search, uintptr_t address)
+{
+    size_t low = 0, high = search->file_count;
+    while (low < high) {
+        size_t middle = low + (high - low) / 2;
+        if (search->files[middle].from <= address) {
+            low = middle + 1;
+        } else {
+            high = middle;
+        }
+    }
+    const struct part *part = low == 0 ? NULL : &search->files[low - 1];
+    return part != NULL && address < part->to ? part : NULL;
+}
+
+/* Whether a word leads to a table of functions: a part of a file whose first words that aren't 0 lead to code. */
+static bool is_table(const struct search *search, uintptr_t word)
+{
+    uintptr_t table[TABLE_WORDS];
+    size_t found = 0;
+    if (word % WORD != 0 || file_at(search, word) == NULL) {
+        return false;
+    }
+    size_t count = read_memory(table, word, sizeof table) / WORD;
+    for (size_t k = 0; k < count && found < TABLE_CODE; k++) {
+        const struct part *part = file_at(search, table[k]);
+        if (table[k] != 0 && (part == NULL || !part->is_code)) {
+            return false;
+        }
+        found += table[k] != 0;
+    }
+    return found == TABLE_CODE;
+}
+
+/* Whether an address in a block is that of an object's second base class: there and at the block's start are
+ * tables of functions. */
+static bool is_base(const struct search *search, const struct block *block, uintptr_t address)
+{
+    uintptr_t first, second;
+    if (address % WORD != 0 || address - block->start + WORD > block->size ||
+        read_memory(&second, address, WORD) < WORD || !is_table(search, second)) {
+        return false;
+    }
+    return read_memory(&first, block->start, WORD) == WORD && is_table(search, first);
+}
+
 /* Whether an address in a block is what a program knows it by: its start; behind its length, as
- * sqlite has it; behind the number of its elements, as of `new[]`; or the text of an old std::string.
- * These are rules of valgrind's, which also knows a second base class by its table of functions. */
-static bool is_start(const struct block *block, uintptr_t address)
+ * sqlite has it; behind the number of its elements, as of `new[]`; the text of an old std::string; or a
+ * second base class. These are rules of valgrind's. */
+static bool is_start(const struct search *search, const struct block *block, uintptr_t address)
 {
     uintptr_t head[2], at = address - block->start;
-    if (at == 0) {
+    if (at == 0 || is_base(search, block, address)) {
         return true;
     }
     if ((at != WORD && at != 3 * WORD) || block->size <= at || read_memory(head, block->start, sizeof head) < sizeof head) {
@@ -115,7 +174,7 @@ static void look_at(struct search *search, uintptr_t word, enum reach most)
     if (block == NULL || block->reach >= most) {
         return;
     }
-    enum reach reach = most == REACHABLE && is_start(block, word) ? REACHABLE : POSSIBLY_LOST;
+    enum reach reach = most == REACHABLE && is_start(search, block, word) ? REACHABLE : POSSIBLY_LOST;
     if (block->reach < reach) {
         block->reach = reach;
         search->queue[search->queued++] = (uint32_t)(block - search->held.blocks);
@@ -275,6 +334,8 @@ static struct mapping mapping_of(const char *line)
     mapping.is_written = strncmp(at, " rw", 3) == 0;
     mapping.is_private = mapping.is_written && at[4] == 'p';
     mapping.is_guard = strncmp(at, " ---p", 5) == 0;
+    mapping.is_read = strncmp(at, " r", 2) == 0;
+    mapping.is_code = mapping.is_read && at[3] == 'x';
     mapping.path = mapping.path == NULL ? "" : mapping.path;
     return mapping;
 }
@@ -342,10 +403,27 @@ static void look_at_mapping(struct search *search, const struct mapping *mapping
     look_at_roots(search, mapping, from, has_lists && !is_child);
 }
 
+/* Notes which parts of files are mapped. */
+static void read_files(struct search *search)
+{
+    struct reader *reader = &search->reader;
+    reader->at = reader->end = 0;
+    reader->file = open_told("/proc/self/maps");
+    while (reader->file >= 0 && search->file_count < FILES_MOST && next_line(reader)) {
+        struct mapping mapping = mapping_of(reader->line);
+        if (mapping.is_read && mapping.path[0] == '/') {
+            struct part part = {mapping.from, mapping.to, mapping.is_code};
+            search->files[search->file_count++] = part;
+        }
+    }
+    syscall(SYS_close, reader->file);
+}
+
 static bool look_at_mappings(struct search *search)
 {
     struct mapping before = {0};
     struct reader *reader = &search->reader;
+    reader->at = reader->end = 0;
     reader->file = open_told("/proc/self/maps");
     while (reader->file >= 0 && next_line(reader)) {
         struct mapping mapping = mapping_of(reader->line);
@@ -464,6 +542,7 @@ static bool look(struct search *search)
         return false;
     }
     search->pages = open_told("/proc/self/pagemap");
+    read_files(search);
     read_threads(search);
     bool looked = look_at_mappings(search);
     follow(search);

@@ -7,13 +7,18 @@
  *     told.c     the modules and stacks that the log has told
  *     text.c     numbers as text
  *     log.c      the log: a file that is mapped piece by piece
+ *     slots.c    the slots by which a running program calls malloc
+ *     since.c    the blocks that are held since a running program is traced
  *     held.c     the blocks that are held at the end, by the log
  *     reach.c    which of them the process's memory still points to
- *     process.c  where a log begins and ends: start, fork, exec, exit
+ *     process.c  where a log begins and ends: start, fork, exec, exit, and a running program's orders
  *
  * The environment has TLSF_TRACE_LOG, the log's name; TLSF_TRACE_FRAMES, the most frames of a
  * location; TLSF_TRACE_INDEX, a file to which each process adds its log's name; and
  * TLSF_TRACE_REACHABLE, with which each process tells what is still reachable at its end.
+ *
+ * A program that runs already is told by gdb to call tlsf_trace_begin and tlsf_trace_end (process.c).
+ * tools/page.d/in_gdb.py tells where that is safe.
  */
 #ifndef TLSF_TRACE_H
 #define TLSF_TRACE_H
@@ -52,6 +57,7 @@ struct real {
     void *(*valloc)(size_t);
     void *(*pvalloc)(size_t);
     int (*dlclose)(void *);
+    void *(*dlopen)(const char *, int);
     int (*execve)(const char *, char *const[], char *const[]);
     int (*execv)(const char *, char *const[]);
     int (*execvp)(const char *, char *const[]);
@@ -87,6 +93,12 @@ void log_write(const char *lines, size_t length);
 /* Writes `= End` and cuts the file to its length. Later lines stand in front of it. */
 void log_end(void);
 
+/* Ends the log: nothing is traced from then on. */
+void log_close(void);
+
+/* The log stays as it is, without an end, for a reason that is said. */
+void log_drop(const char *why);
+
 /* Takes back the end: the program goes on. */
 void log_resume(void);
 
@@ -105,6 +117,39 @@ void log_detach(void);
 
 /* The name of the log's file, as long as this process has one. */
 const char *log_path(void);
+
+/* since.c: with the lock held. */
+
+/* What adding an address found: it is new; it was held already; or there is no memory for it. */
+enum since { ADDED, HELD, NO_MEMORY };
+
+/* From now on blocks are from before, or added. Returns whether there is memory. */
+bool since_begin(void);
+void since_end(void);
+bool since_is_on(void);
+
+/* Adds a block that was given. */
+enum since since_add(uintptr_t address);
+
+/* Whether a block is held; and the same, after which it isn't: one from before is counted. */
+bool since_has(uintptr_t address);
+bool since_take(uintptr_t address);
+
+/* How many blocks from before were freed. */
+size_t since_before(void);
+
+/* slots.c */
+
+/* Writes the tracer's calls into the slots of all objects, or takes them out. */
+void slots_turn(bool on);
+
+/* A call of malloc: now and then, and behind a dlopen, objects that came are looked for. */
+void slots_pass(void);
+
+/* Looks at the objects that came. */
+void slots_renew(void);
+
+void slots_in_child(void);
 
 /* held.c: with the lock held. */
 
@@ -134,7 +179,7 @@ bool held_read(struct held *held, const char *log);
 /* The block that has an address, or null. */
 struct block *held_find(const struct held *held, uintptr_t address);
 
-/* Memory of the system for the search, as zeros, or null; whether an address is in it; and its end. */
+/* Memory of the system for the search and since.c, as zeros, or null; whether an address is in it; and its end. */
 void *take_pages(size_t bytes);
 bool is_taken(uintptr_t address);
 void give_pages(void *memory);
@@ -196,6 +241,14 @@ unsigned find_module(uintptr_t address);
 
 /* The module of a number. */
 const struct module *module_at(unsigned number);
+
+struct dl_phdr_info;
+
+/* An entry of an object's dynamic section, or 0. One that is an address is relocated. */
+uintptr_t dynamic_entry(const struct dl_phdr_info *info, long tag, bool is_address);
+
+/* The address of a name in the first object that defines it, or 0. */
+uintptr_t first_definition(const char *name);
 
 /* The kind of the code that an address returns to, in its module. */
 enum kind kind_of(const struct module *module, uintptr_t address);

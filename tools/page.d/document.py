@@ -112,13 +112,18 @@ def sizes_data(log):
 
 
 def leaks_data(log, row_of):
-    """For each row what isn't freed: bytes, blocks, first and last line, least and greatest size."""
+    """For each row what isn't freed: bytes, blocks, first and last line, least and greatest size; and where that is known the bytes that
+    are lost, possibly lost and still reachable."""
     index = {location: site for site, location in enumerate(log.locations)}
     rows = {}
     for size, line, location in log.leaks:
         row = rows.setdefault(row_of[index[location]], [0, 0, line, line, size, size])
         row[:] = [row[0] + size, row[1] + 1, min(row[2], line), max(row[3], line), min(row[4], size), max(row[5], size)]
-    return [[row, *numbers] for row, numbers in rows.items()]
+    lost = {row: [0] * len(log.lost) for row in rows} if log.lost else {}
+    for place, part in enumerate(log.lost or ()):
+        for location, (held, _) in part.items():
+            lost[row_of[index[location]]][place] += held
+    return [[row, *numbers, *lost.get(row, ())] for row, numbers in rows.items()]
 
 
 def heap_words(name, row, pools):
@@ -163,7 +168,7 @@ def page_data(log):
             "ages": log.times, "functions": functions_data(log), "names": names, "briefs": briefs, "sites": sites, "raw": raw,
             "totals": totals, "rests": rests, "changes": changes, "changeRests": change_rests, "followed": log.followed,
             "named": bool(log.functions.names), "heads": {choice: dict(head_lines(log, choice)) for choice in CHOICES},
-            "sizes": sizes_data(log), "leaks": leaks_data(log, row_of), "heaps": heaps_data(log), "fit": log.fit or log.parts,
+            "sizes": sizes_data(log), "leaks": leaks_data(log, row_of), "lost": log.lost is not None, "heaps": heaps_data(log), "fit": log.fit or log.parts,
             "step": log.step, "fits": log.fits, "diagnostics": [[line, shown(said)] for line, said in log.first_diagnostics],
             "faulty": sum(log.kinds.values())}
 

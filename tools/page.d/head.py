@@ -1,5 +1,6 @@
 """The head of a page: what was read, who holds the peak, who isn't freed, who grows, and the pools to give."""
 from grouping import groups_of, held_by, series_of
+from reachable import PARTS
 from texts import counted
 
 TENTHS = 10
@@ -75,10 +76,25 @@ def head_lines(log, choice):
         (f"{counted(sum(log.kinds.values()), 'diagnostic')} ({kinds})." if kinds else "no diagnostic.")
     yield "Peak", f"{counted(at_peak[1], 'byte')} in {counted(at_peak[2], 'block')}, after line {log.peak:,}" \
         f"{'. ' + greatest(log, groups, log.at_peak) if at_peak[1] else ''}."
-    yield "Not freed", f"{counted(end[1], 'byte')} in {counted(end[2], 'block')}. {greatest(log, groups, log.at_end) or 'All of 0 bytes'}." \
+    yield "Not freed", f"{counted(end[1], 'byte')} in {counted(end[2], 'block')}. {not_freed(log, groups)}" \
         if end[2] else "Nothing: no memory leaks."
     yield "Grows most", grown_most(log, groups)
     yield "Pools to give", pool_words(log)
+
+
+def not_freed(log, groups):
+    """Who holds what isn't freed; where it is known what of that is lost, each part for itself."""
+    if log.lost is None:
+        return f"{greatest(log, groups, log.at_end) or 'All of 0 bytes'}."
+    return " ".join(part_words(name.decode(), part, greatest(log, groups, part)) for name, part in zip(PARTS, log.lost))
+
+
+def part_words(name, part, greatest_of_part):
+    """A part of what isn't freed: `Lost: 300 bytes in 3 blocks, keep shop.c: 300 (100 %).`"""
+    held, blocks = (sum(column) for column in zip((0, 0), *part.values()))
+    if not blocks:
+        return f"{name}: nothing."
+    return f"{name}: {counted(held, 'byte')} in {counted(blocks, 'block')}{', ' + greatest_of_part if greatest_of_part else ''}."
 
 
 def pool_words(log):

@@ -35,20 +35,24 @@ function peakTable() {
   };
 }
 
-// Of each group what isn't freed: sums of bytes and blocks, the first and last line, the least and the greatest size.
+// Of each group what isn't freed: sums of bytes and blocks, the first and last line, the least and the greatest size. In front of these
+// stands what is lost, possibly lost and still reachable, where that is known.
 function leakTable() {
-  const columns = [SITE, ...["Bytes", "Blocks", "First line", "Last line", "Least size", "Greatest size"].map(number)];
+  const parts = data.lost ? ["Lost", "Possibly lost", "Still reachable"] : [];
+  const columns = [SITE, ...[...parts, "Bytes", "Blocks", "First line", "Last line", "Least size", "Greatest size"].map(number)];
   const table = new Table(find("table-leaks"), "Not freed", columns, 1);
   return () => {
     const groups = new Map();
-    for (const [at, bytes, blocks, first, last, least, most] of data.leaks) {
+    for (const [at, bytes, blocks, first, last, least, most, ...lost] of data.leaks) {
       const row = totalRows[at], key = keyOf(row);
-      const [group, ...sums] = groups.get(key) || [{ key, told: nameOf(row), rows: [] }, 0, 0, first, last, least, most];
+      const [group, sums, apart] = groups.get(key) || [{ key, told: nameOf(row), rows: [] }, [0, 0, first, last, least, most], lost.map(() => 0)];
       group.rows.push(row);
-      groups.set(key, [group, sums[0] + bytes, sums[1] + blocks, Math.min(sums[2], first), Math.max(sums[3], last),
-        Math.min(sums[4], least), Math.max(sums[5], most)]);
+      groups.set(key, [group, [sums[0] + bytes, sums[1] + blocks, Math.min(sums[2], first), Math.max(sums[3], last),
+        Math.min(sums[4], least), Math.max(sums[5], most)], apart.map((sum, place) => sum + lost[place])]);
     }
-    table.set([...groups.values()]);
+    // Where nothing more is lost, those first that hold most.
+    const inOrder = [...groups.values()].sort(([, [one]], [, [other]]) => other - one);
+    table.set(inOrder.map(([group, sums, apart]) => [group, ...apart, ...sums]));
   };
 }
 

@@ -10,6 +10,7 @@ import reports
 import sizing
 from functions import Functions, plain_site
 from log import CHANGE, points_of, read_log
+from reachable import Wrong, read_reachable
 from reports import Differs, Report, give_up
 from stacks import stacks_of, times_of
 from texts import shown
@@ -38,6 +39,7 @@ class Study:
         finally:
             for report in self.running:
                 report.stop()
+        self.look_for_lost()
         self.keep_greatest()
         self.tell_newer()
 
@@ -161,6 +163,20 @@ class Study:
         """Bytes and blocks of each location that holds any."""
         return {location: (held[site], blocks[site]) for site, location in enumerate(self.locations) if blocks[site]}
 
+    def look_for_lost(self):
+        """What of the end is lost, possibly lost and still reachable, where that stands beside the log."""
+        self.lost = None
+        try:
+            self.lost = read_reachable(self.path, self.at_end)
+        except Wrong:
+            self.say(f"{self.path}.reachable isn't of this log's end, so what is lost isn't told apart")
+        except OSError as error:
+            self.say(f"{self.path}.reachable: {error.strerror}")
+
+    def say(self, text):
+        self.progress.end()
+        print(f"tlsf-page: {text}", file=sys.stderr)
+
     # ---- the sites that are told one by one
 
     def tell_by(self, general):
@@ -202,8 +218,7 @@ class Study:
     def tell_newer(self):
         """Says which programs and libraries were changed after the log was written."""
         for module in self.functions.newer_than(os.stat(self.path).st_mtime_ns):
-            self.progress.end()
-            print(f"tlsf-page: {module} is newer than {self.name}: its source lines may be others", file=sys.stderr)
+            self.say(f"{module} is newer than {self.name}: its source lines may be others")
 
 
 def measures(pools):

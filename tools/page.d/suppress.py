@@ -4,10 +4,12 @@ import re
 from dataclasses import dataclass
 from fnmatch import fnmatchcase
 
-from names import demangled, short_name
+from names import demangled, short_name, symbols_in
 
 ALLOCATORS = ("malloc", "calloc", "realloc", "memalign", "aligned_alloc", "posix_memalign", "_Znwm", "_Znam")
 ANY_FRAMES = "..."
+# A name as the linker has it, with a `*`: it is compared with the symbols of the modules.
+MANGLED = "mangled"
 
 
 class Malformed(Exception):
@@ -40,7 +42,8 @@ def matches_from(frames, calls):
     if kind == ANY_FRAMES:
         return any(matches_from(frames[1:], calls[at:]) for at in range(len(calls) + 1))
     text = calls[0].module if calls and kind == "obj" else calls[0].function if calls else ""
-    return bool(text) and fnmatchcase(text, pattern) and matches_from(frames[1:], calls[1:])
+    fits = text in pattern if kind == MANGLED else fnmatchcase(text, pattern)
+    return bool(text) and fits and matches_from(frames[1:], calls[1:])
 
 
 def any_call(text):
@@ -55,8 +58,10 @@ def frame_of(line):
     kind, _, pattern = line.partition(":")
     if line == ANY_FRAMES:
         return ANY_FRAMES, ""
+    if kind == "fun" and pattern.startswith("_Z"):
+        return (MANGLED, pattern) if "*" in pattern or "?" in pattern else (kind, short_name(demangled([pattern])[pattern]))
     if kind == "fun":
-        return kind, short_name(demangled([pattern])[pattern]) if pattern.startswith("_Z") and "*" not in pattern else pattern
+        return kind, pattern
     if kind == "obj":
         return kind, pattern
     raise Malformed(line)
@@ -95,6 +100,17 @@ def read_suppressions(text):
     if block is not None:
         raise Malformed("{ without its }")
     return [suppression for suppression in found if suppression]
+
+
+def by_symbols(suppressions, paths):
+    """Suppressions in which the functions of these files stand for each name of the linker's with a `*`."""
+    wanted = {pattern for one in suppressions if isinstance(one, FirstCalls) for kind, pattern in one.frames if kind == MANGLED}
+    symbols = {name for path in paths for _, _, name in symbols_in(path) if name.startswith("_Z")} if wanted else set()
+    fitting = {pattern: [name for name in symbols if fnmatchcase(name, pattern)] for pattern in wanted}
+    plain = demangled(sorted({name for names in fitting.values() for name in names})) if symbols else {}
+    told = {pattern: frozenset(short_name(plain[name]) for name in names) for pattern, names in fitting.items()}
+    return [FirstCalls(tuple((kind, told.get(pattern, pattern) if kind == MANGLED else pattern) for kind, pattern in one.frames))
+            if isinstance(one, FirstCalls) else one for one in suppressions]
 
 
 def is_known(suppressions, calls):

@@ -1,0 +1,177 @@
+"""A running process that is traced: whether it can be, and the orders to the tracer in it, which gdb gives by in_gdb.py. It isn't
+proved."""
+import json
+import os
+import re
+import shutil
+import signal
+import subprocess
+import tempfile
+from pathlib import Path
+
+HERE = Path(__file__).resolve().parent
+# Seconds until a thread is to be where malloc can be called.
+PATIENCE = 5
+NOW, NOT_AGAIN, NO_LOAD = 2, 0x1000, 4
+OF_GDB = "gdb: "
+CALLS = ("malloc", "calloc", "realloc", "free")
+FUNCTIONS = ("dlopen", "dlsym", "dlerror", "mmap", "munmap")
+# System calls that wait: read, write, poll, select, epoll, sleep, pause, wait, accept, receive, send, sigsuspend, and restarts of these.
+WAITS = {
+    "x86_64": (202, (0, 1, 7, 17, 19, 20, 23, 34, 35, 43, 44, 45, 46, 47, 61, 65, 72, 73, 128, 130, 202, 208, 219, 220, 230, 232, 247,
+                     270, 271, 281, 288, 299, 441)),
+    "aarch64": (98, (22, 25, 32, 63, 64, 65, 66, 67, 72, 73, 95, 98, 101, 115, 128, 133, 137, 192, 202, 206, 207, 211, 212, 242, 243,
+                     260, 441)),
+}
+MAPPED = re.compile(r"([0-9a-f]+)-([0-9a-f]+) (\S+) ([0-9a-f]+) \S+ \S+ *(.*)")
+
+
+class Refused(Exception):
+    """Why a process can't be traced, or told to stop."""
+
+
+class Mapped:
+    """A file that a process has mapped: its path, where it begins, and the ranges of its code."""
+
+    def __init__(self, path):
+        self.path, self.base, self.code = path, None, []
+
+    def add(self, start, end, rights):
+        if self.base is None:
+            self.base = start
+        if "x" in rights:
+            self.code.append((start, end))
+
+
+def mapped_files(process):
+    """The files that a process has mapped, by path."""
+    files = {}
+    for line in Path(f"/proc/{process}/maps").read_text(errors="surrogateescape").splitlines():
+        start, end, rights, _, path = MAPPED.fullmatch(line).groups()
+        if path.startswith("/"):
+            files.setdefault(path, Mapped(path)).add(int(start, 16), int(end, 16), rights)
+    return files
+
+
+def status_of(process, field):
+    found = re.search(rf"^{field}:\s*(\S+)", Path(f"/proc/{process}/status").read_text(errors="replace"), re.M)
+    return found[1] if found else ""
+
+
+def is_there(process):
+    """Whether a process is there and hasn't ended."""
+    try:
+        return status_of(process, "State") not in ("Z", "X")
+    except OSError:
+        return False
+
+
+def check(process):
+    """Raises where a process isn't there, is another's, or is debugged."""
+    if not is_there(process):
+        raise Refused(f"there is no process {process}")
+    if os.getuid() not in (0, os.stat(f"/proc/{process}").st_uid):
+        raise Refused(f"process {process} is another user's")
+    debugger = status_of(process, "TracerPid")
+    if debugger not in ("", "0"):
+        raise Refused(f"process {process} is under a debugger, process {debugger}")
+    try:
+        if os.stat(f"/proc/{process}/ns/mnt").st_ino != os.stat("/proc/self/ns/mnt").st_ino:
+            raise Refused(f"process {process} has other files than this one, as in a container: run this there")
+    except PermissionError:
+        raise Refused(f"process {process} may not be looked into: ptrace isn't permitted, for it has more rights or gave up some") from None
+    if not shutil.which("gdb"):
+        raise Refused("gdb isn't found: install it (Debian's gdb)")
+    if not shutil.which("nm"):
+        raise Refused("nm of binutils isn't found")
+
+
+def find_file(process, files, name):
+    """The mapped file of this name; where it isn't mapped, or the file is another by now, this raises."""
+    for path, file in files.items():
+        base = os.path.basename(path)
+        if re.fullmatch(name + r" \(deleted\)", base):
+            raise Refused(f"process {process} has an older {base.removesuffix(' (deleted)')} than there is: start it anew")
+        if re.fullmatch(name, base):
+            return file
+    return None
+
+
+def addresses(file, names):
+    """Where functions of a mapped file are, by its symbols."""
+    told = subprocess.run(["nm", "-D", "--defined-only", file.path], stdout=subprocess.PIPE, stderr=subprocess.DEVNULL, check=False).stdout.decode()
+    found = {}
+    for value, name in re.findall(r"^([0-9a-f]+) [TtWwi] ([^@\s]+)(?:@@?\S*)?$", told, re.M):
+        found.setdefault(name, file.base + int(value, 16))
+    return {name: found[name] for name in names if name in found}
+
+
+def orders(process, tracer, order):
+    """What gdb is told: addresses, code that isn't to be interrupted, and the call."""
+    files = mapped_files(process)
+    library = find_file(process, files, r"libc(?:-2\.\d+\.so|\.so\.6)")
+    loaded = find_file(process, files, r"libtlsf_trace\.so")
+    linker = find_file(process, files, r"ld-(?:linux|2)[-.\w]*\.so(?:\.\d+)?")
+    if library is None or linker is None:
+        raise Refused(f"process {process} has no C library of glibc: it is linked statically, or to another")
+    functions = addresses(library, (*CALLS, *FUNCTIONS))
+    if len(functions) < len(CALLS) + len(FUNCTIONS):
+        raise Refused(f"process {process} has a C library older than glibc 2.34")
+    if loaded is None and order == "tlsf_trace_end":
+        raise Refused(f"process {process} isn't traced")
+    calls = addresses(loaded, CALLS) if order == "tlsf_trace_end" else functions
+    machine = os.uname().machine
+    futex, waits = WAITS[machine]
+    return {
+        "process": process, "program": f"/proc/{process}/exe", "machine": machine, "futex": futex, "waits": waits, "functions": functions, "calls": [calls[name] for name in CALLS],
+        "library": library.code, "busy": linker.code + (loaded.code if loaded else []), "order": order,
+        "tracer": loaded.path if loaded else tracer, "mode": NOW | (NO_LOAD if loaded else NOT_AGAIN),
+    }
+
+
+def lines_of(answer):
+    return Path(answer).read_text(errors="surrogateescape").splitlines()
+
+
+def wait_for(gdb, process, answer):
+    """Waits for gdb. Where no thread comes to where it can be called, the wait is ended by a signal that gdb takes."""
+    while True:
+        try:
+            return gdb.communicate(timeout=PATIENCE)[1]
+        except subprocess.TimeoutExpired:
+            if lines_of(answer)[-1:] == ["waits "] and is_there(process):
+                os.kill(process, signal.SIGURG)
+
+
+def why_not(process, said):
+    """Why gdb could do nothing, by what it said."""
+    if not is_there(process):
+        return f"process {process} has ended"
+    if "peration not permitted" not in said:
+        return OF_GDB + (said.strip().splitlines() or ["it ended without a word"])[-1]
+    try:
+        scope = Path("/proc/sys/kernel/yama/ptrace_scope").read_text().strip()
+    except OSError:
+        scope = "0"
+    if scope == "0":
+        return f"gdb may not attach to process {process}: ptrace isn't permitted here"
+    return f"gdb may not attach to process {process}: /proc/sys/kernel/yama/ptrace_scope is {scope}, so only root may"
+
+
+def give(process, tracer, order, log="", frames=0, reachable=False):
+    """Gives the tracer in a process an order. Returns its log."""
+    check(process)
+    told = {**orders(process, tracer, order), "log": log, "frames": frames, "reachable": int(reachable)}
+    with tempfile.TemporaryDirectory(prefix="tlsf-trace-") as folder:
+        told["answer"] = os.path.join(folder, "answer")
+        Path(told["answer"]).touch()
+        words = ["gdb", "-nx", "-batch", "-iex", "set auto-load off", "-iex", "set debuginfod enabled off", "-x", str(HERE / "in_gdb.py")]
+        gdb = subprocess.Popen(words, env={**os.environ, "TLSF_IN_GDB": json.dumps(told)}, stdin=subprocess.DEVNULL, stdout=subprocess.DEVNULL,
+                               stderr=subprocess.PIPE, text=True, errors="replace", start_new_session=True)
+        said = wait_for(gdb, process, told["answer"])
+        kind, _, text = (lines_of(told["answer"]) or [""])[-1].partition(" ")
+    if kind == "yes":
+        return text
+    if kind == "no" and not text.startswith(OF_GDB):
+        raise Refused(f"process {process}: {text}")
+    raise Refused(why_not(process, text.removeprefix(OF_GDB) if kind == "no" else said))
