@@ -6,17 +6,17 @@ import re
 from collections import defaultdict
 from itertools import accumulate
 
-from drawing import STYLE, chart_svg, draw_chart, heap_svg, reach_of, whole_picture
-from grouping import CHOICES, groups_of, stacked
-from head import head_lines
+from drawing import STYLE, draw_chart, reach_of, whole_picture
+from grouping import groups_of, stacked
 from log import CHANGE
-from texts import counted, escaped, shown
+from reports import KINDS
+from texts import escaped, shown
 
 # So many changes of functions are told whose sites aren't followed. Those of the others are told by this name.
 MOST_REST_CHANGES = 25_000
 OTHERS = ["other functions", "", "other files", "other modules"]
 # The scripts of a page, in this order.
-SCRIPTS = ("page.js", "table.js", "sites.js", "tree.js", "flame.js", "chart.js", "log_page.js", "comparison.js")
+SCRIPTS = ("page.js", "table.js", "sites.js", "tree.js", "flame.js", "chart.js", "heap.js", "head.js", "log_page.js", "comparison.js")
 
 
 # ---- sites
@@ -121,27 +121,17 @@ def leaks_data(log, row_of):
     return [[row, *numbers] for row, numbers in rows.items()]
 
 
-def heap_words(name, row, pools):
-    """How far and how scattered a heap's blocks lie, in a line."""
-    reach, place, free = reach_of(pools), 0, []
-    for base, _, sizes in pools:
-        place = base
-        for size in sizes:
-            if size < 0 and place < reach:
-                free.append(-size)
-            place += abs(size)
-    return f"{name}, line {row[0]:,}: {counted(row[1], 'byte')} held in {counted(row[2], 'block')}; reach {reach:,}. " \
-        f"Below that: {counted(len(free), 'free block')}, {counted(sum(free), 'byte')}, the largest {max(free, default=0):,}. " \
-        f"Largest free block: {row[5]:,}; free in all: {row[4]:,}."
+def head_data(log):
+    """What the head tells beside the numbers: how many sites, diagnostics of each kind, lines that the heap refused, and what the sure pool
+    rests on."""
+    limits = log.limits and {"blocks": log.limits.blocks, "bytes": log.limits.whole_bytes, "line": log.limits.largest.line,
+                             "size": log.limits.largest.size, "align": log.limits.largest.align, "classSize": log.limits.largest.class_size,
+                             "at": log.short_name(log.limits.largest.location)}
+    return {"sites": len(log.locations), "kinds": [log.kinds[kind] for kind in range(len(KINDS))], "refused": log.refused,
+            "firstRefused": log.first_refused, "limits": limits}
 
 
 # ---- the page
-
-def chart_words(log):
-    """What the chart shows, for who can't see it."""
-    return f"Bytes held after each line of {log.name}, stacked by function, with the peak at line {log.peak:,}. " \
-        "The tables below have its numbers."
-
 
 def legend_entries(drawn):
     """Class and text of each series, the topmost first."""
@@ -162,7 +152,7 @@ def page_data(log):
     return {"log": log.name, "lines": log.lines, "points": log.rows, "peak": [row[0] for row in log.rows].index(log.peak),
             "ages": log.times, "functions": functions_data(log), "names": names, "briefs": briefs, "sites": sites, "raw": raw,
             "totals": totals, "rests": rests, "changes": changes, "changeRests": change_rests, "followed": log.followed,
-            "named": bool(log.functions.names), "heads": {choice: dict(head_lines(log, choice)) for choice in CHOICES},
+            "named": bool(log.functions.names), "head": head_data(log),
             "sizes": sizes_data(log), "leaks": leaks_data(log, row_of), "heaps": heaps_data(log), "fit": log.fit or log.parts,
             "step": log.step, "fits": log.fits, "diagnostics": [[line, shown(said)] for line, said in log.first_diagnostics],
             "faulty": sum(log.kinds.values())}
@@ -189,53 +179,19 @@ def write_document(folder, template, title, data, parts):
         "policy": escaped(policy), "title": escaped(title), "style": style, "script": script, "data": json_text(data), **parts})
 
 
-def head_html(lines):
-    """The head's lines."""
-    return "".join(f'<p><b>{escaped(name)}</b> <span id="{name.lower().replace(" ", "-")}"><bdi>{escaped(text)}</bdi></span></p>\n'
-                   for name, text in lines)
-
-
-def heaps_html(log):
-    """Both heaps, with the same extent; or why there are none."""
-    if not log.fits:
-        return f"<p>{escaped(no_heap_words(log))}</p>\n"
-    heaps = [("At the peak", log.walk_at_peak, log.peak), ("At the end", log.walk_at_end, log.lines)]
-    extent = max(reach_of(pools) for _, pools, _ in heaps)
-    by_line = {row[0]: row for row in log.rows}
-    parts = ['<p class="hint">Used blocks by place, over free ones. A fainter dot is used in part.</p>\n']
-    for name, pools, line in heaps:
-        told = heap_words(name, by_line[line], pools)
-        parts.append(f"<p>{escaped(told)}</p>{heap_svg(pools, extent, told)}\n")
-    return "".join(parts)
-
-
-def no_heap_words(log):
-    """Which lines the heap refused."""
-    return f"The log doesn't fit one heap: the one tried refuses {counted(log.refused, 'line')}, first line {log.first_refused:,}. " \
-        "All sums of this page are those without a heap. Heaps by size are told below."
-
-
 def drawn_chart(log, bands):
     """The chart's drawing."""
     return draw_chart(log.rows, log.peak, bands, log.times)
 
 
-def legend_html(drawn):
-    """The colours and what they stand for."""
-    return "".join(f'<li><span class="key {name}"></span> <bdi>{escaped(told)}</bdi></li>' for name, told in legend_entries(drawn))
-
-
 def page_of(folder, log):
     """The page of one log."""
-    bands = stacked(log, groups_of(log, "function"))
-    parts = {"head": head_html(head_lines(log, "function")), "chart": chart_svg(drawn_chart(log, bands), chart_words(log)),
-             "legend": legend_html(bands), "heaps": heaps_html(log)}
-    return write_document(folder, "page.html", f"{log.name}: who holds its memory", page_data(log), parts)
+    return write_document(folder, "page.html", f"{log.name}: who holds its memory", page_data(log), {})
 
 
 def picture_of(log):
     """The drawing alone."""
-    bands = stacked(log, groups_of(log, "function"))
+    bands = stacked(log, groups_of(log))
     heaps = [("The heap at the peak: used blocks by place", log.walk_at_peak), ("The heap at the end", log.walk_at_end)] if log.fits else []
     reach = "; dashed: the heap's reach" if log.fits else ""
     return whole_picture(f"{log.name}: bytes held after each line, by function{reach}", drawn_chart(log, bands), legend_entries(bands),

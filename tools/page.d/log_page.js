@@ -16,13 +16,7 @@ function bandTable() {
 
 function blockTable(home, pools, title) {
   const rows = [];
-  for (const [base, , blocks] of pools) {
-    let place = base;
-    for (const units of blocks) {
-      rows.push([place, 16 * Math.abs(units), units > 0 ? "used" : "free"]);
-      place += 16 * Math.abs(units);
-    }
-  }
+  eachBlock(pools, (place, bytes, used) => rows.push([place, bytes, used ? "used" : "free"]));
   new Table(home, title, [number("Place"), number("Bytes"), { name: "State", text: true }], 0, false).set(rows);
 }
 
@@ -76,11 +70,6 @@ function showRange(tables, from, to) {
   tables.sizes.set(sizesBetween(from, to), `Sizes, ${range}`);
 }
 
-// The head's lines, as they are by the groups that are chosen.
-function showHead() {
-  for (const [name, text] of Object.entries(data.heads[choice])) find(name.toLowerCase().replaceAll(" ", "-")).replaceChildren(isolated(text));
-}
-
 function heapTables() {
   if (data.fits) {
     blockTable(find("table-blocks-peak"), data.heaps[0], "Blocks at the peak");
@@ -93,6 +82,7 @@ function heapTables() {
 }
 
 function showLog() {
+  showHead();
   const range = tablesOfRange(), bands = bandTable(), byGroup = [peakTable(), leakTable()];
   const chart = new Chart(range);
   const show = () => {
@@ -112,6 +102,8 @@ function showLog() {
   pointTable();
   new Tree(find("tree"));
   new Flame(find("flame"));
+  showHeaps();
+  window.addEventListener("resize", showHeaps);
   heapTables();
   find("faults").hidden = !data.faulty;
   new Table(find("table-diagnostics"), `The first ${told(data.diagnostics.length)} of ${counted(data.faulty, "diagnostic")}`,
