@@ -218,7 +218,8 @@ class Study {
   // ---- the sites that are told one by one
 
   findFunctions() {
-    this.sites = this.locations.map((location) => this.names && this.names[location] || plainSite(this.stacks.whole(location)));
+    this.sites = this.locations.map((location) => this.names && Object.hasOwn(this.names, location) ? this.names[location]
+      : plainSite(this.stacks.whole(location)));
     this.functions = new Functions(this.sites);
     this.functionOf = this.functions.of;
   }

@@ -169,14 +169,31 @@ def filled(template, parts):
     return re.sub(r"\{\{(\w+)\}\}", lambda found: parts[found[1]], template)
 
 
+def script_of(folder):
+    """The script of each page."""
+    return "".join((folder / name).read_text(encoding="utf-8") for name in SCRIPTS)
+
+
+def style_of(folder):
+    """How pages look."""
+    return STYLE + (folder / "page.css").read_text(encoding="utf-8")
+
+
+def digest_of(script):
+    """A script, as a policy names it."""
+    return f"sha256-{base64.b64encode(hashlib.sha256(script.encode()).digest()).decode()}"
+
+
+def template_of(folder, template, parts):
+    """A page's text with its parts. Its policy lets no other script run than this one, and nothing be fetched."""
+    script = script_of(folder)
+    policy = f"default-src 'none'; style-src 'unsafe-inline'; script-src '{digest_of(script)}'"
+    return filled((folder / template).read_text(encoding="utf-8"), {"policy": escaped(policy), "style": style_of(folder), "script": script, **parts})
+
+
 def write_document(folder, template, title, data, parts):
-    """The file's text. Its policy lets no other script run than this one, and nothing be fetched."""
-    script = "".join((folder / name).read_text(encoding="utf-8") for name in SCRIPTS)
-    digest = base64.b64encode(hashlib.sha256(script.encode()).digest()).decode()
-    policy = f"default-src 'none'; style-src 'unsafe-inline'; script-src 'sha256-{digest}'"
-    style = STYLE + (folder / "page.css").read_text(encoding="utf-8")
-    return filled((folder / template).read_text(encoding="utf-8"), {
-        "policy": escaped(policy), "title": escaped(title), "style": style, "script": script, "data": json_text(data), **parts})
+    """The file's text."""
+    return template_of(folder, template, {"title": escaped(title), "data": json_text(data), **parts})
 
 
 def drawn_chart(log, bands):
@@ -187,6 +204,14 @@ def drawn_chart(log, bands):
 def page_of(folder, log):
     """The page of one log."""
     return write_document(folder, "page.html", f"{log.name}: who holds its memory", page_data(log), {})
+
+
+def names_of(log):
+    """What is known of each location, by its bytes, for tlsf.html: its function with file and module, the line in it, and its frames."""
+    sites = {location.decode("latin-1"): {"name": site.function.name, "short": site.function.short, "file": site.function.file,
+                                          "module": site.function.module, "line": site.line, "frames": site.frames, "briefs": site.briefs}
+             for location, site in zip(log.locations, log.sites)}
+    return json.dumps({"sites": sites}, separators=(",", ":"))
 
 
 def picture_of(log):
