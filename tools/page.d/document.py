@@ -1,22 +1,18 @@
 """Makes the page of what the reports and the reading tell."""
-import base64
-import hashlib
 import json
-import re
 from collections import defaultdict
 from itertools import accumulate
 
-from drawing import STYLE, draw_chart, reach_of, whole_picture
+from drawing import draw_chart, reach_of, whole_picture
 from grouping import groups_of, stacked
 from log import CHANGE
 from reports import KINDS
+from template import json_text, page_text
 from texts import escaped, shown
 
 # So many changes of functions are told whose sites aren't followed. Those of the others are told by this name.
 MOST_REST_CHANGES = 25_000
 OTHERS = ["other functions", "", "other files", "other modules"]
-# The scripts of a page, in this order.
-SCRIPTS = ("page.js", "table.js", "sites.js", "tree.js", "flame.js", "chart.js", "heap.js", "head.js", "log_page.js", "comparison.js")
 
 
 # ---- sites
@@ -158,42 +154,9 @@ def page_data(log):
             "faulty": sum(log.kinds.values())}
 
 
-def json_text(data):
-    """JSON that nothing in it can end."""
-    text = json.dumps(data, separators=(",", ":"), ensure_ascii=False)
-    return text.replace("<", "\\u003c").replace(">", "\\u003e").replace("&", "\\u0026").replace("\u2028", "\\u2028")
-
-
-def filled(template, parts):
-    """The template with its parts, each put once: what looks like a name within one stays."""
-    return re.sub(r"\{\{(\w+)\}\}", lambda found: parts[found[1]], template)
-
-
-def script_of(folder):
-    """The script of each page."""
-    return "".join((folder / name).read_text(encoding="utf-8") for name in SCRIPTS)
-
-
-def style_of(folder):
-    """How pages look."""
-    return STYLE + (folder / "page.css").read_text(encoding="utf-8")
-
-
-def digest_of(script):
-    """A script, as a policy names it."""
-    return f"sha256-{base64.b64encode(hashlib.sha256(script.encode()).digest()).decode()}"
-
-
-def template_of(folder, template, parts):
-    """A page's text with its parts. Its policy lets no other script run than this one, and nothing be fetched."""
-    script = script_of(folder)
-    policy = f"default-src 'none'; style-src 'unsafe-inline'; script-src '{digest_of(script)}'"
-    return filled((folder / template).read_text(encoding="utf-8"), {"policy": escaped(policy), "style": style_of(folder), "script": script, **parts})
-
-
-def write_document(folder, template, title, data, parts):
+def write_document(folder, name, title, data, parts):
     """The file's text."""
-    return template_of(folder, template, {"title": escaped(title), "data": json_text(data), **parts})
+    return page_text(folder, name, {"title": escaped(title), "data": json_text(data), **parts})
 
 
 def drawn_chart(log, bands):
