@@ -199,6 +199,8 @@ function dropOn(place) {
   });
 }
 
+// The same file may be chosen again.
+find("log").addEventListener("click", () => { find("log").value = ""; });
 find("log").addEventListener("change", () => take([...find("log").files]));
 find("form").addEventListener("submit", (event) => {
   event.preventDefault();

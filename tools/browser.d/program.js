@@ -3,8 +3,12 @@
 
 // The program's memory, in pages of 65,536 bytes: what it begins with, as it is linked, and the most that it may ask for.
 const FIRST_PAGES = 256, MOST_PAGES = 65536;
-// Numbers that C gives faults and the flag of `open` that makes a file.
-const FAULTS = { ENOENT: 2, EBADF: 9, EINVAL: 22 }, MAKES = 0o100;
+// Faults with their numbers and texts in C, and the flag of `open` that makes a file.
+const FAULTS = { ENOENT: [2, "No such file or directory"], EBADF: [9, "Bad file descriptor"], EINVAL: [22, "Invalid argument"],
+  ENOSYS: [38, "Function not implemented"] };
+const MAKES = 0o100;
+// What a page's files have no use for: these calls are refused.
+const REFUSED_CALLS = ["fchown", "unlink", "ftruncate", "fchmod", "fsync", "fdatasync", "flock", "rename"];
 const WINDOW = 4 << 20;
 
 // A file that the browser lends, read piece by piece, since it may be larger than what a page can hold.
@@ -80,8 +84,16 @@ class System {
   }
 
   refuse(name) {
-    this.fault = FAULTS[name];
+    [this.fault] = FAULTS[name];
     return -1;
+  }
+
+  // The text of a fault.
+  tellFault(number, place, room) {
+    const [, words] = Object.values(FAULTS).find(([fault]) => fault === number) || [number, `Error ${number}`];
+    const text = new TextEncoder().encode(words).subarray(0, Number(room) - 1);
+    this.bytes(place, text.length + 1).set([...text, 0]);
+    return 0;
   }
 
   word(index, place, room) {
@@ -153,6 +165,12 @@ class System {
       write: (number, place, count) => this.write(number, place, count),
       lseek: (number, offset, from) => this.seek(number, offset, from),
       clock_gettime: (clock, place) => this.time(place),
+      __xpg_strerror_r: (number, place, room) => this.tellFault(number, place, room),
+      ...Object.fromEntries(REFUSED_CALLS.map((name) => [name, () => this.refuse("ENOSYS")])),
+      realpath: () => {
+        this.refuse("ENOSYS");
+        return 0;
+      },
       fcntl: () => 0,
       isatty: () => 0,
       statx: () => this.refuse("ENOENT"),
