@@ -357,10 +357,13 @@ class PointReader {
   }
 }
 
+// Lets what waits in this worker go on.
+const others = () => new Promise((resolve) => setTimeout(resolve));
+
 // Reads a file piece by piece up to the last point.
-function readLog(file, points, faulty, told, progress) {
-  const reader = new PointReader(points, faulty, told);
-  for (let from = 0; from < file.size && reader.changes.length < points.length;) {
+async function readLog(file, reader, progress) {
+  const { points } = reader;
+  for (let from = 0; from < file.size && reader.changes.length < points.length; await others()) {
     const piece = file.piece(from, PIECE);
     const length = reader.piece(piece, from + piece.length >= file.size);
     if (!length) throw new Differs("a line is longer than a piece of the log");
@@ -368,5 +371,4 @@ function readLog(file, points, faulty, told, progress) {
     progress(from / file.size);
   }
   if (reader.changes.length < points.length) throw new Differs("the log has fewer lines than the reports say");
-  return reader;
 }

@@ -67,29 +67,33 @@ class Study {
     this.diagnostics = [];
     this.stacks = new Stacks();
     Object.assign(this, { refused: 0, firstRefused: null, step: null, limits: null, heaps: [] });
+    // At which byte the peak is, once the log is read.
+    this.reached = {};
+    this.reached.promise = new Promise((resolve) => { this.reached.resolve = resolve; });
   }
 
   get fits() {
     return this.firstRefused === null;
   }
 
+  // The reports go on side by side, those first on whose answers others wait. Meanwhile the log is read.
   async data() {
-    const sites = this.run(["sites", "--calls"]), leaks = this.run(["leaks", "--no-heap"]);
-    const timeline = this.run(["timeline", "--points", String(POINTS)]), onHeap = this.run(["peak", ...GREATEST]);
+    const [sums, onHeap, timeline, sites, leaks] = [["peak", "--no-heap"], ["peak", ...GREATEST], ["timeline", "--points", String(POINTS)],
+      ["sites", "--calls"], ["leaks", "--no-heap"]].map((words) => this.begin(words));
+    this.readPeak(await sums);
+    const points = pointsOf(this.lines, this.peak, POINTS), heap = this.lookAtHeap(onHeap, timeline, points);
     // What fails is told by the first of these that is waited for.
-    [sites, leaks, timeline, onHeap].forEach((report) => report.catch(() => {}));
-    this.readPeak(await this.run(["peak", "--no-heap"]));
-    this.rows = readTimeline(await timeline, LINES);
-    this.lookForPoints();
-    this.findRefused(await onHeap);
-    const heap = this.beginHeap();
-    this.reader = readLog(this.file, this.rows.map(([line]) => line), this.faulty, (location, line) => this.stacks.take(location, line),
-      this.progress);
+    heap.catch(() => {});
+    this.peakRow = points.indexOf(this.peak);
+    this.reader = new PointReader(points, this.faulty, (location, line) => this.stacks.take(location, line));
+    await readLog(this.file, this.reader, this.progress);
+    this.reached.resolve(this.reader.places[this.peakRow]);
     this.stacks.end();
     this.locations = this.reader.reading.locations.names;
     [this.atPeak, this.atEnd, this.byCalls] = readSites(await sites);
     this.leaks = await leaks;
-    await this.lookAtHeap(heap);
+    await heap;
+    if (this.fits) this.findLimits(Object.fromEntries(this.fit));
     this.findFunctions();
     this.agree();
     this.keepGreatest();
@@ -97,6 +101,13 @@ class Study {
   }
 
   // ---- the reports
+
+  // Begins a report. One that fails ends the study where it is waited for.
+  begin(words, first) {
+    const report = this.run(words, first);
+    report.catch(() => {});
+    return report;
+  }
 
   readPeak(text) {
     const end = readDiagnostics(text, (line, kind, said) => {
@@ -109,12 +120,6 @@ class Study {
     this.peak = numberOf(told.peak.split(" ").pop());
   }
 
-  lookForPoints() {
-    const points = pointsOf(this.lines, this.peak, POINTS);
-    expectSame("in the lines of the timeline", points, this.rows.map(([line]) => line));
-    this.peakRow = points.indexOf(this.peak);
-  }
-
   findRefused(text) {
     readDiagnostics(text, (line, kind) => {
       if (kind !== REFUSED) return;
@@ -123,26 +128,23 @@ class Study {
     });
   }
 
-  // Begins the reports of the heap, which go on while the log is read.
-  beginHeap() {
-    const [, bytes, blocks] = this.rows[this.peakRow];
-    if (!this.fits) return { fit: this.run(["fit", "--heaps", "4"]) };
-    this.step = coarseStep(this.lines, blocks, bytes);
-    const heap = { fit: this.run(["fit", ...(this.step ? ["--step", String(this.step)] : [])]),
-      timeline: this.run(["timeline", "--points", String(POINTS), ...GREATEST]), atEnd: this.run(["walk", ...GREATEST]) };
-    Object.values(heap).forEach((report) => report.catch(() => {}));
-    return heap;
-  }
-
   // What the heap holds at the peak and at the end, and the pools that the log needs; or heaps by size.
-  async lookAtHeap(heap) {
-    if (this.fits) {
-      const atPeak = await this.run(["walk", ...GREATEST], this.reader.places[this.peakRow]);
-      this.heaps = [readWalk(atPeak), readWalk(await heap.atEnd)];
-      this.heapRows = readTimeline(await heap.timeline, HEAP_LINES);
+  async lookAtHeap(onHeap, timeline, points) {
+    this.rows = readTimeline(await timeline, LINES);
+    expectSame("in the lines of the timeline", points, this.rows.map(([line]) => line));
+    this.findRefused(await onHeap);
+    if (!this.fits) {
+      this.fit = readNamed(await this.begin(["fit", "--heaps", "4"]));
+      return;
     }
-    this.fit = readNamed(await heap.fit);
-    if (this.fits) this.findLimits(Object.fromEntries(this.fit));
+    const [, bytes, blocks] = this.rows[this.peakRow];
+    this.step = coarseStep(this.lines, blocks, bytes);
+    const fit = this.begin(["fit", ...(this.step ? ["--step", String(this.step)] : [])]);
+    const onLines = this.begin(["timeline", "--points", String(POINTS), ...GREATEST]), atEnd = this.begin(["walk", ...GREATEST]);
+    const atPeak = this.begin(["walk", ...GREATEST], await this.reached.promise);
+    this.heaps = [readWalk(await atPeak), readWalk(await atEnd)];
+    this.heapRows = readTimeline(await onLines, HEAP_LINES);
+    this.fit = readNamed(await fit);
   }
 
   // The three numbers of the sure pool; without one the bytes aren't known. By another class size they would be none that this log can
