@@ -138,6 +138,8 @@ function lend(link, parts, name, type) {
 async function showPage() {
   if (!log) return say("Choose a log first.");
   const own = begin(`${log.name} is read.`), frame = find("page");
+  frame.hidden = find("save").hidden = true;
+  frame.srcdoc = find("out").textContent = "";
   try {
     const page = await own.page(names, (part) => { if (own === work) say(`${log.name} is read: ${Math.floor(100 * part)} %`); });
     if (own !== work) return undefined;
