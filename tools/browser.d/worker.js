@@ -27,7 +27,11 @@ async function studyLog({ log, name, names, template }) {
   postMessage({ page: pageText(template, await study.data()) });
 }
 
-const fail = (fault) => postMessage({ fault: fault instanceof RangeError ? `the browser gave no more memory (${fault.message})` : fault.message || String(fault) });
+// Tells what broke off. A RangeError is of memory, but for that of a stack.
+function fail(fault) {
+  const isMemory = fault instanceof RangeError && !fault.message.includes("stack");
+  postMessage({ fault: isMemory ? `the browser gave no more memory (${fault.message})` : fault.message || String(fault) });
+}
 
 onmessage = ({ data }) => {
   if (data.answer !== undefined) return answer(data);
