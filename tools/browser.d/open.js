@@ -135,12 +135,19 @@ function lend(link, parts, name, type) {
   link.hidden = false;
 }
 
+// Whether zeros stand behind a log's lines, as they do while tools/trace writes it.
+async function endsInZeros(file) {
+  const end = new Uint8Array(await file.slice(-2).arrayBuffer());
+  return end.length === 2 && !end[0] && !end[1];
+}
+
 async function showPage() {
   if (!log) return say("Choose a log first.");
   const own = begin(`${log.name} is read.`), frame = find("page");
   frame.hidden = find("save").hidden = true;
   frame.srcdoc = find("out").textContent = "";
   try {
+    if (await endsInZeros(log)) throw new Error(`${log.name} is still written: end its program, or copy its lines by tlsf-trace --copy`);
     const page = await own.page(names, (part) => { if (own === work) say(`${log.name} is read: ${Math.floor(100 * part)} %`); });
     if (own !== work) return undefined;
     frame.srcdoc = page;
@@ -182,10 +189,14 @@ async function take(files) {
   for (const file of files) {
     if (!await isNames(file)) [log, names] = [file, null];
   }
-  for (const file of files) {
-    if (await isNames(file)) names = JSON.parse(await file.text()).sites;
+  try {
+    for (const file of files) {
+      if (await isNames(file)) names = JSON.parse(await file.text()).sites;
+    }
+  } catch (fault) {
+    return say("These names can't be read.", fault.message);
   }
-  if (files.length) await showPage();
+  return files.length ? showPage() : undefined;
 }
 
 function dropOn(place) {
