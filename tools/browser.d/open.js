@@ -88,7 +88,8 @@ class Work {
   async serve(worker, { ask, words, first }, reject) {
     try {
       const { status, out, errors } = await this.report(words, first);
-      if (status > 1) throw new Error(`\`tlsf ${words[0]}\` ended with status ${status}${status === 4 ? ", since the browser gave no more memory" : ""}: ${decoder.decode(errors).trim()}`);
+      const why = status === 4 ? ", since the browser gave no more memory" : "";
+      if (status > 1) throw new Error(`\`tlsf ${words[0]}\` ended with status ${status}${why}: ${decoder.decode(errors).trim()}`);
       worker.postMessage({ answer: ask, out }, [out.buffer]);
     } catch (fault) {
       reject(fault);

@@ -151,7 +151,8 @@ class Study {
   // hold. Where the greatest pool refuses lines none of them is told.
   findLimits(fit) {
     const { largest } = this.reader.reading;
-    const [sure, blocks, peak] = ["sure pool", "held at most", "peak"].map((name) => /^\d+/.exec(fit[name]) ? numberOf(/^\d+/.exec(fit[name])[0]) : null);
+    const [sure, blocks, peak] = ["sure pool", "held at most", "peak"].map((name) => /^\d+/.exec(fit[name]))
+      .map((found) => found && numberOf(found[0]));
     if (!largest || !/^\d+$/.test(fit.records)) return;
     const { line, size, align, classSize } = largest, bytes = sure ? sure - UNIT - (blocks + 1) * (classSize - UNIT) : null;
     if (sure && !(peak <= bytes && bytes <= peak + UNIT * blocks)) {
