@@ -2,7 +2,7 @@
 "use strict";
 
 // The program's memory, in pages of 65,536 bytes: what it begins with, as it is linked, and the most that it may ask for.
-const FIRST_PAGES = 256, MOST_PAGES = 65536;
+const FIRST_PAGES = 256, MOST_PAGES = 65535;
 // Faults with their numbers and texts in C, and the flag of `open` that makes a file.
 const FAULTS = { ENOENT: [2, "No such file or directory"], EBADF: [9, "Bad file descriptor"], EINVAL: [22, "Invalid argument"],
   ENOSYS: [38, "Function not implemented"] };
@@ -32,22 +32,6 @@ class LentFile {
   // So many bytes from a place on, or all that there are.
   piece(from, room) {
     return new Uint8Array(new FileReaderSync().readAsArrayBuffer(this.blob.slice(from, from + room)));
-  }
-}
-
-// Bytes that are there already.
-class WholeFile {
-  constructor(bytes) {
-    this.bytes = bytes;
-    this.size = bytes.length;
-  }
-
-  read(from, room) {
-    return this.bytes.subarray(from, from + room);
-  }
-
-  piece(from, room) {
-    return this.read(from, room);
   }
 }
 
@@ -188,5 +172,3 @@ function runProgram(program, words, files, input = null) {
   return { status, out, errors, memory: system.memory.buffer.byteLength,
     made: Object.fromEntries(Object.entries(system.made).map(([name, parts]) => [name, joined(parts)])) };
 }
-
-if (typeof module === "object") module.exports = { runProgram, LentFile, WholeFile };

@@ -73,7 +73,6 @@ class Held {
 class Locations {
   constructor() {
     this.names = [];
-    this.found = new Map();
     this.rows = new Int32Array(1 << 12).fill(-1);
     this.hashes = [];
     this.bytes = [];

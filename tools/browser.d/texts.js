@@ -56,5 +56,3 @@ function shownAnew(bytes) {
 function siteName(location) {
   return location ? shown(location) : NO_LOCATION;
 }
-
-if (typeof module === "object") module.exports = { NO_LOCATION, byteText, shown, siteName };
