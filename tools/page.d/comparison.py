@@ -1,6 +1,5 @@
 """The page of two logs: what grew by function."""
-from document import head_html, write_document
-from drawing import draw_shares, chart_svg
+from document import write_document
 from functions import NO_NAME
 from texts import counted, escaped
 
@@ -94,14 +93,18 @@ def grown_words(row, at):
     return f"most at {name}: {numbers[at + 1]:,} bytes, now {numbers[at + 2]:,} ({numbers[at]:+,})."
 
 
+def head_html(lines):
+    """The head's lines."""
+    return "".join(f'<p><b>{escaped(name)}</b> <span id="{name.lower().replace(" ", "-")}"><bdi>{escaped(text)}</bdi></span></p>\n'
+                   for name, text in lines)
+
+
 def comparison_of(folder, old, new):
     """The page. What only asks for memory in one log does so in the other."""
     for log in (old, new):
         log.tell_by(old.functions.general | new.functions.general)
     rows = rows_of(old, new)
     data = {"rows": kept_rows(rows), "all": all_rows(old, new), "points": [[list(row[:3]) for row in log.rows] for log in (old, new)]}
-    chart = draw_shares([[(row[0], row[1]) for row in log.rows] for log in (old, new)], ("old", "new"))
     title = f"{old.name} and {new.name}: what grew"
     return write_document(folder, "comparison.html", title, data, {
-        "head": head_html(head_of(old, new, rows)), "old": escaped(f"{old.name} (old)"), "new": escaped(f"{new.name} (new)"),
-        "chart": chart_svg(chart, "Bytes held over the lines of both logs, each from its begin to its end.")})
+        "head": head_html(head_of(old, new, rows)), "old": escaped(f"{old.name} (old)"), "new": escaped(f"{new.name} (new)")})

@@ -1,22 +1,18 @@
 """Makes the page of what the reports and the reading tell."""
-import base64
-import hashlib
 import json
-import re
 from collections import defaultdict
 from itertools import accumulate
 
-from drawing import STYLE, chart_svg, draw_chart, heap_svg, reach_of, whole_picture
-from grouping import CHOICES, groups_of, stacked
-from head import head_lines
+from drawing import draw_chart, reach_of, whole_picture
+from grouping import groups_of, stacked
 from log import CHANGE
-from texts import counted, escaped, shown
+from reports import KINDS
+from template import json_text, page_text
+from texts import escaped, shown
 
 # So many changes of functions are told whose sites aren't followed. Those of the others are told by this name.
 MOST_REST_CHANGES = 25_000
 OTHERS = ["other functions", "", "other files", "other modules"]
-# The scripts of a page, in this order.
-SCRIPTS = ("page.js", "table.js", "sites.js", "tree.js", "flame.js", "chart.js", "log_page.js", "comparison.js")
 
 
 # ---- sites
@@ -126,27 +122,22 @@ def leaks_data(log, row_of):
     return [[row, *numbers, *lost.get(row, ())] for row, numbers in rows.items()]
 
 
-def heap_words(name, row, pools):
-    """How far and how scattered a heap's blocks lie, in a line."""
-    reach, place, free = reach_of(pools), 0, []
-    for base, _, sizes in pools:
-        place = base
-        for size in sizes:
-            if size < 0 and place < reach:
-                free.append(-size)
-            place += abs(size)
-    return f"{name}, line {row[0]:,}: {counted(row[1], 'byte')} held in {counted(row[2], 'block')}; reach {reach:,}. " \
-        f"Below that: {counted(len(free), 'free block')}, {counted(sum(free), 'byte')}, the largest {max(free, default=0):,}. " \
-        f"Largest free block: {row[5]:,}; free in all: {row[4]:,}."
+def lost_data(log):
+    """Bytes and blocks that are lost, possibly lost and still reachable, where that is known."""
+    return log.lost and [[sum(column) for column in zip((0, 0), *part.values())] for part in log.lost]
+
+
+def head_data(log):
+    """What the head tells beside the numbers: how many sites, diagnostics of each kind, lines that the heap refused, and what the sure pool
+    rests on."""
+    limits = log.limits and {"blocks": log.limits.blocks, "bytes": log.limits.whole_bytes, "line": log.limits.largest.line,
+                             "size": log.limits.largest.size, "align": log.limits.largest.align, "classSize": log.limits.largest.class_size,
+                             "at": log.short_name(log.limits.largest.location)}
+    return {"sites": len(log.locations), "kinds": [log.kinds[kind] for kind in range(len(KINDS))], "refused": log.refused,
+            "firstRefused": log.first_refused, "limits": limits}
 
 
 # ---- the page
-
-def chart_words(log):
-    """What the chart shows, for who can't see it."""
-    return f"Bytes held after each line of {log.name}, stacked by function, with the peak at line {log.peak:,}. " \
-        "The tables below have its numbers."
-
 
 def legend_entries(drawn):
     """Class and text of each series, the topmost first."""
@@ -167,57 +158,16 @@ def page_data(log):
     return {"log": log.name, "lines": log.lines, "points": log.rows, "peak": [row[0] for row in log.rows].index(log.peak),
             "ages": log.times, "functions": functions_data(log), "names": names, "briefs": briefs, "sites": sites, "raw": raw,
             "totals": totals, "rests": rests, "changes": changes, "changeRests": change_rests, "followed": log.followed,
-            "named": bool(log.functions.names), "heads": {choice: dict(head_lines(log, choice)) for choice in CHOICES},
-            "sizes": sizes_data(log), "leaks": leaks_data(log, row_of), "lost": log.lost is not None, "heaps": heaps_data(log), "fit": log.fit or log.parts,
+            "named": bool(log.functions.names), "head": head_data(log),
+            "sizes": sizes_data(log), "leaks": leaks_data(log, row_of), "lost": lost_data(log), "heaps": heaps_data(log),
+            "fit": log.fit or log.parts,
             "step": log.step, "fits": log.fits, "diagnostics": [[line, shown(said)] for line, said in log.first_diagnostics],
             "faulty": sum(log.kinds.values())}
 
 
-def json_text(data):
-    """JSON that nothing in it can end."""
-    text = json.dumps(data, separators=(",", ":"), ensure_ascii=False)
-    return text.replace("<", "\\u003c").replace(">", "\\u003e").replace("&", "\\u0026").replace("\u2028", "\\u2028")
-
-
-def filled(template, parts):
-    """The template with its parts, each put once: what looks like a name within one stays."""
-    return re.sub(r"\{\{(\w+)\}\}", lambda found: parts[found[1]], template)
-
-
-def write_document(folder, template, title, data, parts):
-    """The file's text. Its policy lets no other script run than this one, and nothing be fetched."""
-    script = "".join((folder / name).read_text(encoding="utf-8") for name in SCRIPTS)
-    digest = base64.b64encode(hashlib.sha256(script.encode()).digest()).decode()
-    policy = f"default-src 'none'; style-src 'unsafe-inline'; script-src 'sha256-{digest}'"
-    style = STYLE + (folder / "page.css").read_text(encoding="utf-8")
-    return filled((folder / template).read_text(encoding="utf-8"), {
-        "policy": escaped(policy), "title": escaped(title), "style": style, "script": script, "data": json_text(data), **parts})
-
-
-def head_html(lines):
-    """The head's lines."""
-    return "".join(f'<p><b>{escaped(name)}</b> <span id="{name.lower().replace(" ", "-")}"><bdi>{escaped(text)}</bdi></span></p>\n'
-                   for name, text in lines)
-
-
-def heaps_html(log):
-    """Both heaps, with the same extent; or why there are none."""
-    if not log.fits:
-        return f"<p>{escaped(no_heap_words(log))}</p>\n"
-    heaps = [("At the peak", log.walk_at_peak, log.peak), ("At the end", log.walk_at_end, log.lines)]
-    extent = max(reach_of(pools) for _, pools, _ in heaps)
-    by_line = {row[0]: row for row in log.rows}
-    parts = ['<p class="hint">Used blocks by place, over free ones. A fainter dot is used in part.</p>\n']
-    for name, pools, line in heaps:
-        told = heap_words(name, by_line[line], pools)
-        parts.append(f"<p>{escaped(told)}</p>{heap_svg(pools, extent, told)}\n")
-    return "".join(parts)
-
-
-def no_heap_words(log):
-    """Which lines the heap refused."""
-    return f"The log doesn't fit one heap: the one tried refuses {counted(log.refused, 'line')}, first line {log.first_refused:,}. " \
-        "All sums of this page are those without a heap. Heaps by size are told below."
+def write_document(folder, name, title, data, parts):
+    """The file's text."""
+    return page_text(folder, name, {"title": escaped(title), "data": json_text(data), **parts})
 
 
 def drawn_chart(log, bands):
@@ -225,22 +175,22 @@ def drawn_chart(log, bands):
     return draw_chart(log.rows, log.peak, bands, log.times)
 
 
-def legend_html(drawn):
-    """The colours and what they stand for."""
-    return "".join(f'<li><span class="key {name}"></span> <bdi>{escaped(told)}</bdi></li>' for name, told in legend_entries(drawn))
-
-
 def page_of(folder, log):
     """The page of one log."""
-    bands = stacked(log, groups_of(log, "function"))
-    parts = {"head": head_html(head_lines(log, "function")), "chart": chart_svg(drawn_chart(log, bands), chart_words(log)),
-             "legend": legend_html(bands), "heaps": heaps_html(log)}
-    return write_document(folder, "page.html", f"{log.name}: who holds its memory", page_data(log), parts)
+    return write_document(folder, "page.html", f"{log.name}: who holds its memory", page_data(log), {})
+
+
+def names_of(log):
+    """What is known of each location, by its bytes, for tlsf.html: its function with file and module, the line in it, and its frames."""
+    sites = {location.decode("latin-1"): {"name": site.function.name, "short": site.function.short, "file": site.function.file,
+                                          "module": site.function.module, "line": site.line, "frames": site.frames, "briefs": site.briefs}
+             for location, site in zip(log.locations, log.sites)}
+    return json.dumps({"sites": sites}, separators=(",", ":"))
 
 
 def picture_of(log):
     """The drawing alone."""
-    bands = stacked(log, groups_of(log, "function"))
+    bands = stacked(log, groups_of(log))
     heaps = [("The heap at the peak: used blocks by place", log.walk_at_peak), ("The heap at the end", log.walk_at_end)] if log.fits else []
     reach = "; dashed: the heap's reach" if log.fits else ""
     return whole_picture(f"{log.name}: bytes held after each line, by function{reach}", drawn_chart(log, bands), legend_entries(bands),

@@ -1,5 +1,6 @@
-"""Draws bytes held over the lines, stacked by site, and the heap's blocks by place, as SVG."""
+"""The picture that `tools/page --svg` writes: bytes held over the lines, stacked by function, and the heap's blocks by place."""
 from bisect import bisect_right
+from pathlib import Path
 
 from texts import counted, escaped, shortened
 
@@ -7,23 +8,7 @@ WIDTH, HEIGHT = 960, 340
 LEFT, RIGHT, TOP, BOTTOM = 80, 944, 16, 300
 ROW, GAP, MOST_ROWS, LEVELS = 16, 4, 8, 4
 LEGEND_ROW = 18
-STYLE = """
-:root { --ground: #fff; --ink: #1b1f24; --faint: #d8dce1; --soft: #5a636e; --free: #e6e9ed; --used: #0072b2;
-  --s0: #332288; --s1: #88ccee; --s2: #44aa99; --s3: #117733; --s4: #999933; --s5: #ddcc77; --s6: #cc6677; --s7: #882255;
-  --s8: #aa4499; --s9: #6699cc; --rest: #b4b8be; --mark: #c1440e }
-@media (prefers-color-scheme: dark) { :root { --ground: #14171b; --ink: #e8eaed; --faint: #343a42; --soft: #a4acb6; --free: #2a3038;
-  --used: #56b4e9; --s0: #8379d8; --s1: #88ccee; --s2: #44aa99; --s3: #3fa35f; --s4: #b5b54a; --s5: #ddcc77; --s6: #dd7f8d;
-  --s7: #c2528f; --s8: #c56ab5; --s9: #6699cc; --rest: #7c838c; --mark: #ff9566 } }
-.drawing text { font: 12px system-ui, sans-serif; fill: var(--ink) }
-.drawing .title { font-weight: 600 }
-.drawing .soft { fill: var(--soft) }
-.drawing .grid { stroke: var(--faint); fill: none }
-.drawing .reach { stroke: var(--ink); stroke-dasharray: 4 3; fill: none }
-.drawing .mark { stroke: var(--mark); stroke-width: 1.5; fill: none }
-.drawing .marked { fill: var(--mark); font-weight: 600 }
-.drawing .free { fill: var(--free) } .drawing .used { fill: var(--used) } .drawing .edge { stroke: var(--ground) }
-""" + "".join(f".s{k} {{ fill: var(--s{k}); background: var(--s{k}) }}\n" for k in range(10)) + \
-    ".rest { fill: var(--rest); background: var(--rest) }\n"
+STYLE = "\n" + (Path(__file__).parent / "drawing.css").read_text(encoding="utf-8")
 
 
 def number(value):
@@ -95,32 +80,21 @@ def seconds_at(times, line):
     return (before + share * (after - before)) / 1000
 
 
-def line_ticks(chart, unit="", times=()):
-    """Line numbers, with seconds where the log tells times; or shares of the lines."""
+def line_ticks(chart, times=()):
+    """Line numbers, with seconds where the log tells times."""
     parts = []
     for line in ticks(chart.lines):
         x = chart.x(line)
         anchor, text_x = ("middle", x) if x < RIGHT - 20 else ("end", WIDTH - 1)
         seconds = f" · {seconds_at(times, line):.1f} s" if times else ""
         parts.append(f'<path class="grid" d="M{number(x)} {BOTTOM}v5"/><text x="{number(text_x)}" y="{BOTTOM + 18}" '
-                     f'text-anchor="{anchor}">{line:,}{unit}{seconds}</text>')
+                     f'text-anchor="{anchor}">{line:,}{seconds}</text>')
     return "".join(parts)
 
 
 def below_axis(text):
     """What the ticks below count."""
     return f'<text class="soft" x="{(LEFT + RIGHT) / 2:g}" y="{BOTTOM + 35}" text-anchor="middle">{text}</text>'
-
-
-def draw_shares(curves, names):
-    """Lines over the share of each log that was read, one for each log's lines and bytes."""
-    chart = Chart(100, int(1.08 * max(value for curve in curves for _, value in curve)))
-    parts = [byte_ticks(chart), line_ticks(chart, " %"), below_axis("share of each log's lines")]
-    for curve, name in zip(curves, names):
-        last = max(curve[-1][0], 1)
-        path = chart.steps([100 * line / last for line, _ in curve], [value for _, value in curve])
-        parts.append(f'<path class="line {name}" d="M{path}"/>')
-    return "".join(parts)
 
 
 def areas(chart, lines, bands):
@@ -149,15 +123,9 @@ def draw_chart(rows, peak, bands, times=()):
     chart = Chart(lines[-1], int(1.08 * max(max(row[1:4:2]) for row in rows)))
     held = dict((row[0], row[1]) for row in rows)[peak]
     reach = f'<path class="reach" d="M{chart.steps(lines, [row[3] for row in rows])}"/>' if has_reach else ""
-    axes = byte_ticks(chart) + line_ticks(chart, times=times)
+    axes = byte_ticks(chart) + line_ticks(chart, times)
     axes += below_axis("line of the log, and seconds since it began" if times else "line of the log")
     return axes + areas(chart, lines, bands) + reach + (peak_mark(chart, peak, held) if held else "")
-
-
-def chart_svg(drawn, told):
-    """The chart as a picture of its own."""
-    return (f'<svg id="chart" class="drawing" viewBox="0 0 {WIDTH} {HEIGHT}" role="img" aria-label="{escaped(told)}" '
-            f'xmlns="http://www.w3.org/2000/svg">{drawn}</svg>')
 
 
 # ---- the heap
@@ -234,12 +202,6 @@ def draw_heap(pools, extent):
 def height_of_heap(extent):
     """How high a heap's drawing is."""
     return rows_for(extent) * (ROW + GAP)
-
-
-def heap_svg(pools, extent, told):
-    """A heap as a picture of its own."""
-    return (f'<svg class="drawing heap" viewBox="0 -2 {WIDTH} {height_of_heap(extent) + 2}" role="img" '
-            f'aria-label="{escaped(told)}" xmlns="http://www.w3.org/2000/svg">{draw_heap(pools, extent)}</svg>')
 
 
 # ---- a picture alone

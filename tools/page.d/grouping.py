@@ -1,9 +1,8 @@
-"""Sites by function, file, module or whole stack: what each group held, and which the chart draws."""
+"""Sites by function: what each held, and which the picture draws."""
 from collections import namedtuple
 
 from log import CHANGE
 
-CHOICES = ("function", "file", "module", "stack")
 TOP = 10
 # The chart's groups hold this share of the peak, where ten of them can.
 SHARE = 0.6
@@ -13,21 +12,12 @@ Group = namedtuple("Group", "told sites")
 Band = namedtuple("Band", "name told values")
 
 
-def name_for(log, site, choice):
-    """What a site is told by."""
-    function = log.sites[site].function
-    if choice == "stack":
-        return " < ".join(log.sites[site].briefs)
-    return {"function": log.functions.label(function), "file": function.file or function.module, "module": function.module}[choice]
-
-
-def groups_of(log, choice):
-    """The groups of a choice, in the order of their first sites."""
+def groups_of(log):
+    """The functions, in the order of their first sites, each with its sites."""
     groups = {}
     for site, of in enumerate(log.function_of):
-        key = of if choice == "function" else name_for(log, site, choice)
-        groups.setdefault(key, []).append(site)
-    return [Group(name_for(log, sites[0], choice), sites) for sites in groups.values()]
+        groups.setdefault(of, []).append(site)
+    return [Group(log.functions.label(log.sites[sites[0]].function), sites) for sites in groups.values()]
 
 
 def held_by(part, log, group):

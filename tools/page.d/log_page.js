@@ -16,13 +16,7 @@ function bandTable() {
 
 function blockTable(home, pools, title) {
   const rows = [];
-  for (const [base, , blocks] of pools) {
-    let place = base;
-    for (const units of blocks) {
-      rows.push([place, 16 * Math.abs(units), units > 0 ? "used" : "free"]);
-      place += 16 * Math.abs(units);
-    }
-  }
+  eachBlock(pools, (place, bytes, used) => rows.push([place, bytes, used ? "used" : "free"]));
   new Table(home, title, [number("Place"), number("Bytes"), { name: "State", text: true }], 0, false).set(rows);
 }
 
@@ -38,7 +32,7 @@ function peakTable() {
 // Of each group what isn't freed: sums of bytes and blocks, the first and last line, the least and the greatest size. In front of these
 // stands what is lost, possibly lost and still reachable, where that is known.
 function leakTable() {
-  const parts = data.lost ? ["Lost", "Possibly lost", "Still reachable"] : [];
+  const parts = data.lost ? PARTS : [];
   const columns = [SITE, ...[...parts, "Bytes", "Blocks", "First line", "Last line", "Least size", "Greatest size"].map(number)];
   const table = new Table(find("table-leaks"), "Not freed", columns, 1);
   return () => {
@@ -80,11 +74,6 @@ function showRange(tables, from, to) {
   tables.sizes.set(sizesBetween(from, to), `Sizes, ${range}`);
 }
 
-// The head's lines, as they are by the groups that are chosen.
-function showHead() {
-  for (const [name, text] of Object.entries(data.heads[choice])) find(name.toLowerCase().replaceAll(" ", "-")).replaceChildren(isolated(text));
-}
-
 function heapTables() {
   if (data.fits) {
     blockTable(find("table-blocks-peak"), data.heaps[0], "Blocks at the peak");
@@ -97,6 +86,7 @@ function heapTables() {
 }
 
 function showLog() {
+  showHead();
   const range = tablesOfRange(), bands = bandTable(), byGroup = [peakTable(), leakTable()];
   const chart = new Chart(range);
   const show = () => {
@@ -116,6 +106,8 @@ function showLog() {
   pointTable();
   new Tree(find("tree"));
   new Flame(find("flame"));
+  showHeaps();
+  window.addEventListener("resize", showHeaps);
   heapTables();
   find("faults").hidden = !data.faulty;
   new Table(find("table-diagnostics"), `The first ${told(data.diagnostics.length)} of ${counted(data.faulty, "diagnostic")}`,

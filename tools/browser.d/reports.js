@@ -1,0 +1,124 @@
+// Reads the reports of the proved program.
+"use strict";
+
+// The heap on which a page is made: the greatest.
+const GREATEST = ["--pool", "1073741808", "--pools", "1", "--records", "65535"];
+const MOST_POOL = 1073741808, UNIT = 16;
+const KINDS = ["too long", "not a line", " is not held", " is already held", " refused: ", "half of a reallocation", "no < before >"];
+const [TOO_LONG, NOT_A_LINE, NOT_HELD, ALREADY_HELD, REFUSED, HALF, STRAY] = KINDS.keys();
+// What `fit` may read again, in seconds of one processor by the estimate below.
+const SECONDS_TO_FIT = 7;
+const LINES = "line bytes blocks", HEAP_LINES = "line bytes blocks reach free largest";
+
+// The reports don't agree with each other, or with what was read beside them.
+class Differs extends Error {}
+
+// A number that a report tells. Above the greatest that JavaScript counts to there is no page.
+function numberOf(digits) {
+  const number = Number(digits);
+  if (!Number.isSafeInteger(number)) throw new Error(`This log has the number ${digits}. A browser counts up to ${Number.MAX_SAFE_INTEGER}.`);
+  return number;
+}
+
+// Calls `take` for each line of a text, without its newline, from a place on.
+function eachLine(bytes, from, take) {
+  for (let at = from; at < bytes.length;) {
+    const newline = bytes.indexOf(10, at), end = newline < 0 ? bytes.length : newline;
+    take(byteText(bytes, at, end));
+    at = end + 1;
+  }
+}
+
+function kindOf(said) {
+  const kind = KINDS.findIndex((words) => said === words || words.startsWith(" ") && said.includes(words));
+  if (kind < 0) throw new Differs(`a diagnostic of an unknown kind: ${said}`);
+  return kind;
+}
+
+// Calls `take` for each diagnostic, which stand in front of a report, with line number, kind and text; answers where they end.
+function readDiagnostics(bytes, take) {
+  let at = 0;
+  for (;;) {
+    const newline = bytes.indexOf(10, at), line = newline < 0 ? "" : byteText(bytes, at, Math.min(newline, at + 120));
+    const found = /^line (\d+): (.*)/s.exec(line);
+    if (!found) return at;
+    take(numberOf(found[1]), kindOf(found[2]), found[2]);
+    at = newline + 1;
+  }
+}
+
+// The lines of a report behind its diagnostics.
+function bodyOf(bytes) {
+  const lines = [];
+  eachLine(bytes, readDiagnostics(bytes, () => {}), (line) => lines.push(line));
+  return lines;
+}
+
+// The names that stand in front, with what stands behind them.
+function readNamed(bytes) {
+  return bodyOf(bytes).map((line) => [line.slice(0, line.indexOf(": ")), line.slice(line.indexOf(": ") + 2)]);
+}
+
+// Each row: line, bytes, blocks, and with a heap reach, free, largest.
+function readTimeline(bytes, header) {
+  const [first, ...rows] = bodyOf(bytes);
+  if (first !== header) throw new Differs("the timeline has no header");
+  return rows.map((row) => row.split(" ").map(numberOf));
+}
+
+// Who holds the memory at the peak and at the end, for each location bytes and blocks; and who asks: calls, bytes and temporary blocks.
+function readSites(bytes) {
+  const parts = [];
+  for (const line of bodyOf(bytes)) {
+    const held = /^(\d+) bytes in (\d+) blocks(?: at (.*))?$/s.exec(line);
+    const asked = held ? null : /^(\d+) bytes in (\d+) calls, (\d+) temporary(?: at (.*))?$/s.exec(line);
+    if (/^Held at the |^Asked over the log: /.test(line)) parts.push(new Map());
+    else if (held) parts[parts.length - 1].set(held[3] || "", [numberOf(held[1]), numberOf(held[2])]);
+    else if (asked) parts[parts.length - 1].set(asked[4] || "", [asked[2], asked[1], asked[3]].map(numberOf));
+  }
+  if (parts.length !== 3) throw new Differs("the report of sites has no three parts");
+  return parts;
+}
+
+// Calls `take` for each block that isn't freed: size, line and location.
+function readLeaks(bytes, take) {
+  eachLine(bytes, readDiagnostics(bytes, () => {}), (line) => {
+    const found = /^0x[0-9a-f]+ (\d+) line (\d+)(?: at (.*))?$/s.exec(line);
+    if (found) take(numberOf(found[1]), numberOf(found[2]), found[3] || "");
+  });
+}
+
+// Each pool: its base, its bytes, and its blocks by place: their units, below zero for a free one.
+function readWalk(bytes) {
+  const pools = [];
+  let place = 0;
+  for (const line of bodyOf(bytes)) {
+    const pool = /^pool (\d+): (\d+) bytes$/.exec(line);
+    if (pool) {
+      place = numberOf(pool[1]);
+      pools.push([place, numberOf(pool[2]), []]);
+      continue;
+    }
+    const [start, size, state] = line.split(" ");
+    if (Number(start) !== place) throw new Differs(`the numbers differ in the walk: a block at ${start}, and not at ${place}`);
+    place += Number(size);
+    pools[pools.length - 1][2].push((state === "used" ? 1 : -1) * Number(size) / UNIT);
+  }
+  return pools;
+}
+
+// The step of `fit` for a long log, so that it tries as few sizes as its time allows; nothing where its own will do. A line takes some
+// tenths of a microsecond, more where many blocks are held (docs/SPEED.md).
+function coarseStep(lines, blocks, peak) {
+  const seconds = lines * (0.12 + 0.07 * (blocks / 1000) ** 0.5) / 1_000_000;
+  const tries = seconds ? Math.trunc(SECONDS_TO_FIT / seconds) : 64;
+  if (tries >= 64) return null;
+  const step = Math.ceil(peak / Math.max(tries, 3));
+  return Math.min(MOST_POOL, Math.max(UNIT, Math.ceil(step / UNIT) * UNIT));
+}
+
+// The lines that the timeline tells: 0, that of the peak, and so many in even steps.
+function pointsOf(lines, peak, count) {
+  const steps = Array.from({ length: count }, (_, step) => Math.ceil((step + 1) * lines / count));
+  return [...new Set([0, peak, ...steps])].sort((one, other) => one - other);
+}

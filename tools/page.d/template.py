@@ -1,0 +1,38 @@
+"""Fills a document of a page: its look, its scripts, and a policy that lets no other script run."""
+import base64
+import hashlib
+import html
+import json
+import re
+
+# The scripts of a page, in this order.
+SCRIPTS = ("page.js", "table.js", "sites.js", "tree.js", "flame.js", "chart.js", "heap.js", "head.js", "log_page.js", "comparison.js")
+STYLES = ("drawing.css", "page.css")
+
+
+def text_of(folder, names):
+    """The texts of some files, one behind the other."""
+    return "".join((folder / name).read_text(encoding="utf-8") for name in names)
+
+
+def digest_of(script):
+    """A script, as a policy names it."""
+    return f"sha256-{base64.b64encode(hashlib.sha256(script.encode()).digest()).decode()}"
+
+
+def json_text(data):
+    """JSON that nothing in it can end."""
+    text = json.dumps(data, separators=(",", ":"), ensure_ascii=False)
+    return text.replace("<", "\\u003c").replace(">", "\\u003e").replace("&", "\\u0026").replace("\u2028", "\\u2028")
+
+
+def filled(document, parts):
+    """The document with its parts, each put once: what looks like a name within one stays."""
+    return re.sub(r"\{\{(\w+)\}\}", lambda found: parts[found[1]], document)
+
+
+def page_text(folder, name, parts):
+    """A page's text with its parts. Its policy lets no other script run than its own, and nothing be fetched."""
+    script = text_of(folder, SCRIPTS)
+    policy = f"default-src 'none'; style-src 'unsafe-inline'; script-src '{digest_of(script)}'"
+    return filled(text_of(folder, [name]), {"policy": html.escape(policy), "style": text_of(folder, STYLES), "script": script, **parts})
