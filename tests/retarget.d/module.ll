@@ -110,6 +110,11 @@ start:
   ret i32 0
 }
 
+define noundef i64 @tlsf_placed_block_size(ptr noundef %a0, i64 noundef %a1, i64 noundef %a2) #0 {
+start:
+  ret i64 0
+}
+
 define noundef i32 @tlsf_placed_free(ptr noundef %a0, i64 noundef %a1, i64 noundef %a2) #0 {
 start:
   ret i32 0
@@ -121,6 +126,11 @@ start:
 }
 
 define noundef i64 @tlsf_placed_malloc(ptr noundef %a0, i64 noundef %a1, ptr noundef %a2) #0 {
+start:
+  ret i64 0
+}
+
+define noundef i64 @tlsf_placed_realloc(ptr noundef %a0, i64 noundef %a1, i64 noundef %a2, ptr noundef %a3) #0 {
 start:
   ret i64 0
 }
