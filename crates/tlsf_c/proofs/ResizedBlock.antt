@@ -1,6 +1,6 @@
 -- The live block that realloc leaves: it lies in a pool, in whole units, and has the bytes asked for.
-use Rattle.std.proofs.Common.{◌≡◌, ℕ, ◌+◌, ◌%◌, ◌<◌, ◌≤◌, true, map, Option, Some, Ok, Err, refl, sym, ap, ◌∙◌, subst, arith}
-use Rattle.std.specs.Prelude.{◌==◌, List, Contains, false}
+use Rattle.std.proofs.Common.{◌≡◌, ◌≢◌, ℕ, ◌+◌, ◌%◌, ◌<◌, ◌≤◌, true, map, Option, Some, Ok, Err, refl, sym, ap, ◌∙◌, subst, arith}
+use Rattle.std.specs.Prelude.{◌==◌, Result, List, Contains, false}
 use Rattle.std.proofs.lemmas.Bool.{eq-eqb, ne_eqb}
 use Rattle.std.proofs.lemmas.List.Elements.{recursion_from_All}
 use Rattle.tlsf_class.specs.Classes.{greatest_size}
@@ -26,6 +26,7 @@ use Rattle.tlsf_region.proofs.Ranges.{ranges, reallocated_ranges}
 use Rattle.tlsf_region.proofs.Sizes.{size_is}
 use Rattle.tlsf_c.specs.Fronts.{front, told_size}
 use Rattle.tlsf_c.specs.Lying.{LiesIn}
+use Rattle.tlsf_c.specs.Status.{number, status_of}
 use Rattle.tlsf_c.specs.PlacedPools.{IsAt}
 use Rattle.tlsf_c.specs.PlacedHeaps.{IsLiveAt, told_block}
 use Rattle.tlsf_c.specs.declared.placed_pool.PlacedPool.{PlacedPool}
@@ -91,3 +92,8 @@ grows_above slot ptr bytes size content told above =
     let some : (bytes + front == 0) ≡ false = ne_eqb (bytes + front) 0 (λ e. omega (arith, e)) in
     let asked : realloc_ptr (Some ptr) (bytes + front) slot content ≡ realloc_rounded slot ptr.place ptr.slot (round (bytes + front)) content = rw (is.0, some) refl in
     asked ∙ ap (λ r. realloc_rounded slot ptr.place ptr.slot r content) (round_above (bytes + front) (omega (arith, above)))
+
+-- a status above 0 is the number of a refusal
+pub refused_as : {X : Type 0} (answer : Result X Refusal) (status : ℕ) → status_of answer ≡ status → status ≢ 0 → (refusal : Refusal) × (status ≡ number refusal) × (answer ≡ Err refusal)
+refused_as (Ok x) status is some = absurd (some (sym is))
+refused_as (Err refusal) status is some = (refusal, sym is, refl)

@@ -1,7 +1,7 @@
 //! Blocks of a heap with addresses tell their sizes, and get others.
 
 ghost use Rattle.std.specs.Prelude.{◌≡◌, ◌≢◌, ℕ, ◌+◌, ◌-◌, ◌*◌, ◌/◌, ◌%◌, ◌^◌, ◌<◌, ◌≤◌, All, Contains, map, Ok, Err, Some, IfOk, IfErr, OnOk, OnErr, true, false};
-ghost use Rattle.tlsf_heap.specs.declared.refusal.Refusal.TheVariants.{BadPointer};
+ghost use Rattle.tlsf_heap.specs.declared.refusal.Refusal.{Refusal};
 ghost use Rattle.tlsf_heap.specs.Content.{blocks_of};
 ghost use Rattle.tlsf_heap.specs.Free.{is_live};
 ghost use Rattle.tlsf_heap.specs.Counted.{IsUnchanged, Reads, range_of};
@@ -13,11 +13,14 @@ ghost use Rattle.tlsf_c.specs.Lying.{LiesIn};
 ghost use Rattle.tlsf_c.specs.PlacedHeaps.{IsLiveAt, IsResizedAt, IsNotResized};
 ghost use Rattle.tlsf_c.specs.Status.{number};
 
+use crate::block::Block;
+use crate::blocks::tlsf_heap_realloc;
 use crate::front::mark_of;
+use crate::handle::Handle;
 use crate::placed_blocks::{FRONT, MOST, find, place_block};
 use crate::placed_heap::PlacedHeap;
-use crate::status::number;
-use tlsf_heap::{Heap, Ptr, Refusal};
+use crate::status::{SERVED, number};
+use tlsf_heap::{Ptr, Refusal};
 
 /// The bytes that the block at an address has, without the eight in front of it, where the word there is the block's. At most one
 /// touch. The answer is 0 unless the block is live.
@@ -41,27 +44,44 @@ struct Resized {
     size: u64,
 }
 
-/// `Heap::realloc` to some bytes, and what is known of the block then: it lies in a pool, at a multiple of the unit, and has these
-/// bytes or more, a multiple of the unit.
+/// `tlsf_heap_realloc` of a block to some bytes. The library has the code of `Heap::realloc` once, in that export.
 #[inline(always)]
-fn resize(heap: &mut Heap, ptr: Ptr, bytes: u64) -> Result<Resized, Refusal>
+fn reallocate(handle: &mut Handle, ptr: Ptr, bytes: u64) -> Result<Ptr, u32>
     requires some { 0 < bytes }
-    ensures ok { IfOk result (λ r. IsMoved (realloc_ptr (Some ptr) bytes) (Some ptr) (Some r.ptr) heap.old.content heap.new.content) }
+    ensures ok { IfOk result (λ new. IsMoved (realloc_ptr (Some ptr) bytes) (Some ptr) (Some new) handle.old.value.content handle.new.value.content) }
+    ensures refused { IfErr result (λ status. (refusal : Refusal) × (status ≡ number refusal) × (realloc_ptr (Some ptr) bytes ptr.slot handle.old.value.content ≡ Err refusal)) }
+    ensures unchanged { OnErr result (IsUnchanged handle.old.value handle.new.value) }
+    ensures bound { AtMost realloc_touches handle.old.value.touches handle.new.value.touches }
+{
+    let mut given = Block::of(ptr);
+    let status = tlsf_heap_realloc(handle, Block::of(ptr), bytes, &mut given);
+    if status == SERVED {
+        Ok(given.ptr())
+    } else {
+        Err(status)
+    }
+}
+
+/// The same, and what is known of the block then: it lies in a pool, at a multiple of the unit, and has these bytes or more, a
+/// multiple of the unit.
+#[inline(always)]
+fn resize(handle: &mut Handle, ptr: Ptr, bytes: u64) -> Result<Resized, u32>
+    requires some { 0 < bytes }
+    ensures ok { IfOk result (λ r. IsMoved (realloc_ptr (Some ptr) bytes) (Some ptr) (Some r.ptr) handle.old.value.content handle.new.value.content) }
     ensures in_units { IfOk result (λ r. r.ptr.place % 16 ≡ 0) }
     ensures units { IfOk result (λ r. r.size % 16 ≡ 0) }
     ensures most { IfOk result (λ r. r.size < 2 ^ 30) }
     ensures holds { IfOk result (λ r. bytes ≤ r.size) }
-    ensures lies { IfOk result (λ r. LiesIn r.ptr.place r.size (map range_of heap.old.content.pools)) }
-    ensures size { IfOk result (λ r. block_size_ptr r.ptr heap.new.content ≡ Ok r.size) }
-    ensures ranges { OnOk result (map range_of heap.new.content.pools ≡ map range_of heap.old.content.pools) }
-    ensures refused { IfErr result (λ refusal. (slot : ℕ) → realloc_ptr (Some ptr) bytes slot heap.old.content ≡ Err refusal) }
-    ensures unchanged { OnErr result (IsUnchanged heap.old heap.new) }
-    ensures bound { AtMost (realloc_touches + block_size_touches) heap.old.touches heap.new.touches }
+    ensures lies { IfOk result (λ r. LiesIn r.ptr.place r.size (map range_of handle.old.value.content.pools)) }
+    ensures size { IfOk result (λ r. block_size_ptr r.ptr handle.new.value.content ≡ Ok r.size) }
+    ensures ranges { OnOk result (map range_of handle.new.value.content.pools ≡ map range_of handle.old.value.content.pools) }
+    ensures refused { IfErr result (λ status. (refusal : Refusal) × (status ≡ number refusal) × (realloc_ptr (Some ptr) bytes ptr.slot handle.old.value.content ≡ Err refusal)) }
+    ensures unchanged { OnErr result (IsUnchanged handle.old.value handle.new.value) }
+    ensures bound { AtMost (realloc_touches + block_size_touches) handle.old.value.touches handle.new.value.touches }
 {
-    heap.keeps_good();
-    let Some(new) = heap.realloc(Some(ptr), bytes)? else {
-        unreachable!();
-    };
+    handle.heap().keeps_good();
+    let new = reallocate(handle, ptr, bytes)?;
+    let heap = handle.heap();
     heap.keeps_good();
     let Ok(size) = heap.block_size(new) else {
         unreachable!();
@@ -100,10 +120,10 @@ pub extern "C" fn tlsf_placed_realloc(
         *word = u64::from(number(Refusal::NoFit));
         return 0;
     }
-    match resize(heap.handle.heap(), ptr, bytes + FRONT) {
+    match resize(&mut heap.handle, ptr, bytes + FRONT) {
         Ok(new) => place_block(&heap.pools, new.ptr, new.size, word),
-        Err(refusal) => {
-            *word = u64::from(number(refusal));
+        Err(status) => {
+            *word = u64::from(status);
             0
         }
     }

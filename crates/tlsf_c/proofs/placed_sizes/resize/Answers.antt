@@ -1,38 +1,57 @@
-use Rattle.std.proofs.Common.{◌≡◌, ℕ, ◌%◌, map, sym, ap, ◌∙◌, subst, arith}
+use Rattle.std.proofs.Common.{◌≡◌, ℕ, ◌%◌, map, Some, Ok, sym, ap, ◌∙◌, subst, arith}
 use Rattle.tlsf_heap.specs.Content.{Content}
-use Rattle.tlsf_heap.specs.Counted.{range_of}
+use Rattle.tlsf_heap.specs.Counted.{Counted, range_of}
+use Rattle.tlsf_heap.specs.Pointer.{realloc_ptr}
 use Rattle.tlsf_c.specs.Lying.{LiesIn}
-use Rattle.tlsf_c.proofs.ResizedBlock.{live_units, size_told, same_ranges, holds_bytes, lies_still, served_some}
+use Rattle.tlsf_c.proofs.ResizedBlock.{live_units, size_told, same_ranges, holds_bytes, lies_still}
 use Rattle.tlsf_c.proofs.placed_sizes.resize.Goals as goal
 
-pub unreachable-requires-in_default-block_size : goal.unreachable-requires-in_default-block_size
-unreachable-requires-in_default-block_size c =
-    size_told c.args.ptr c.in-Some.new c.args.bytes c.args.heap.now.content c.realloc.new.self.content c.keeps_good.ensures.good (served_some c.args.ptr c.in-Some.new c.args.bytes c.args.heap.now.content c.realloc.new.self.content c.in_ok-new.field-0 c.in-Some.is c.in_ok-new.ensures.ok) c.in_default-block_size.field-0 c.in_default-block_size.ensures.refused.refused
+pub unreachable-requires : goal.unreachable-requires
+unreachable-requires c =
+    let old = (c.heap.result.now).content in
+    let new = c.heap-heap.result.now in
+    let given = c.in_ok-new.new in
+    let good = c.keeps_good.ensures.good in
+    let served = subst (λ (h : Counted). realloc_ptr (Some c.args.ptr) c.args.bytes given.slot old ≡ Ok (Some (given.place, given.slot), h.content)) (sym c.heap-heap.ensures.value) c.in_ok-new.ensures.ok.ok in
+    size_told c.args.ptr given c.args.bytes old new.content good served c.in_default.field-0 c.in_default.ensures.refused.refused
 
 pub returns-clause-in_units : goal.returns-clause-in_units
 returns-clause-in_units c =
-    (live_units c.in-Some.new c.in-Ok.size c.realloc.new.self.content c.keeps_good-2.ensures.good c.in-Ok.ensures.ok).place
+    (live_units c.in_ok-new.new c.in-Ok.size c.heap-heap.result.now.content c.keeps_good-2.ensures.good c.in-Ok.ensures.ok).place
 
 pub returns-clause-units : goal.returns-clause-units
 returns-clause-units c =
-    subst (λ (n : ℕ). n % 16 ≡ 0) (sym c.from.ensures) (live_units c.in-Some.new c.in-Ok.size c.realloc.new.self.content c.keeps_good-2.ensures.good c.in-Ok.ensures.ok).size_in_units
+    subst (λ (n : ℕ). n % 16 ≡ 0) (sym c.from.ensures) (live_units c.in_ok-new.new c.in-Ok.size c.heap-heap.result.now.content c.keeps_good-2.ensures.good c.in-Ok.ensures.ok).size_in_units
 
 pub returns-clause-most : goal.returns-clause-most
 returns-clause-most c =
-    let is = live_units c.in-Some.new c.in-Ok.size c.realloc.new.self.content c.keeps_good-2.ensures.good c.in-Ok.ensures.ok in
+    let is = (live_units c.in_ok-new.new c.in-Ok.size c.heap-heap.result.now.content c.keeps_good-2.ensures.good c.in-Ok.ensures.ok) in
     omega (arith, is.most, c.from.ensures)
 
 pub returns-clause-holds : goal.returns-clause-holds
 returns-clause-holds c =
-    let holds = holds_bytes c.args.ptr c.in-Some.new c.args.bytes c.args.heap.now.content c.realloc.new.self.content c.keeps_good.ensures.good (served_some c.args.ptr c.in-Some.new c.args.bytes c.args.heap.now.content c.realloc.new.self.content c.in_ok-new.field-0 c.in-Some.is c.in_ok-new.ensures.ok) c.keeps_good-2.ensures.good c.in-Ok.size c.in-Ok.ensures.ok in
-    omega (arith, holds, c.from.ensures)
+    let old = (c.heap.result.now).content in
+    let new = c.heap-heap.result.now in
+    let given = c.in_ok-new.new in
+    let good = c.keeps_good.ensures.good in
+    let served = subst (λ (h : Counted). realloc_ptr (Some c.args.ptr) c.args.bytes given.slot old ≡ Ok (Some (given.place, given.slot), h.content)) (sym c.heap-heap.ensures.value) c.in_ok-new.ensures.ok.ok in
+    omega (arith, holds_bytes c.args.ptr given c.args.bytes old new.content good served c.keeps_good-2.ensures.good c.in-Ok.size c.in-Ok.ensures.ok, c.from.ensures)
 
 pub returns-clause-lies : goal.returns-clause-lies
 returns-clause-lies c =
-    let lies = lies_still c.args.ptr c.in-Some.new c.args.bytes c.args.heap.now.content c.realloc.new.self.content c.keeps_good.ensures.good (served_some c.args.ptr c.in-Some.new c.args.bytes c.args.heap.now.content c.realloc.new.self.content c.in_ok-new.field-0 c.in-Some.is c.in_ok-new.ensures.ok) c.keeps_good-2.ensures.good c.in-Ok.size c.in-Ok.ensures.ok in
-    subst (λ (n : ℕ). LiesIn c.in-Some.new.place n (map range_of c.args.heap.now.content.pools)) (sym c.from.ensures) lies
+    let old = (c.heap.result.now).content in
+    let new = c.heap-heap.result.now in
+    let given = c.in_ok-new.new in
+    let good = c.keeps_good.ensures.good in
+    let served = subst (λ (h : Counted). realloc_ptr (Some c.args.ptr) c.args.bytes given.slot old ≡ Ok (Some (given.place, given.slot), h.content)) (sym c.heap-heap.ensures.value) c.in_ok-new.ensures.ok.ok in
+    let lies = lies_still c.args.ptr given c.args.bytes old new.content good served c.keeps_good-2.ensures.good c.in-Ok.size c.in-Ok.ensures.ok in
+    subst (λ (h : Counted). LiesIn given.place c.from.result (map range_of h.content.pools)) c.heap.ensures.value (subst (λ (n : ℕ). LiesIn given.place n (map range_of old.pools)) (sym c.from.ensures) lies)
 
 pub returns-clause-ranges : goal.returns-clause-ranges
 returns-clause-ranges c =
-    let same = same_ranges c.args.ptr c.in-Some.new c.args.bytes c.args.heap.now.content c.realloc.new.self.content c.keeps_good.ensures.good (served_some c.args.ptr c.in-Some.new c.args.bytes c.args.heap.now.content c.realloc.new.self.content c.in_ok-new.field-0 c.in-Some.is c.in_ok-new.ensures.ok) in
-    ap (λ (content : Content ℕ). map range_of content.pools) c.block_size.ensures.read.unchanged.content ∙ same
+    let old = (c.heap.result.now).content in
+    let new = c.heap-heap.result.now in
+    let given = c.in_ok-new.new in
+    let good = c.keeps_good.ensures.good in
+    let served = subst (λ (h : Counted). realloc_ptr (Some c.args.ptr) c.args.bytes given.slot old ≡ Ok (Some (given.place, given.slot), h.content)) (sym c.heap-heap.ensures.value) c.in_ok-new.ensures.ok.ok in
+    ap (λ (content : Content ℕ). map range_of content.pools) c.block_size.ensures.read.unchanged.content ∙ same_ranges c.args.ptr given c.args.bytes old new.content good served ∙ ap (λ (h : Counted). map range_of h.content.pools) c.heap.ensures.value

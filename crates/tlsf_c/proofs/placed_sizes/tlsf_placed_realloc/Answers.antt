@@ -5,7 +5,7 @@ use Rattle.tlsf_heap.specs.Content.{Content}
 use Rattle.tlsf_heap.specs.Counted.{Counted, range_of}
 use Rattle.tlsf_heap.specs.Pointer.{Pointer, realloc_ptr, block_size_ptr}
 use Rattle.tlsf_heap.specs.Served.{IsMoved}
-use Rattle.tlsf_c.specs.Fronts.{told_size}
+use Rattle.tlsf_c.specs.Fronts.{told_slot, told_size}
 use Rattle.tlsf_c.specs.Lying.{LiesIn}
 use Rattle.tlsf_c.specs.declared.placed_pool.PlacedPool.{PlacedPool}
 use Rattle.tlsf_c.specs.PlacedHeaps.{IsLiveAt, told_block}
@@ -28,7 +28,7 @@ returns-then-bytes-gt-MOST-clause-refused c = λ none.
     let live = found_live c.args.address c.args.word.now c.in-Some.ptr heap.pools heap.handle.value.content some.0 some.1 some.2 in
     record {
       refusal = NoFit;
-      refused = inr (live, λ slot. grows_above slot (told_block live.place c.args.address c.args.word.now) c.args.bytes (told_size c.args.word.now c.args.address) heap.handle.value.content live.live (omega (arith, c.if-bytes-gt-MOST.true)));
+      refused = inr (live, grows_above (told_slot c.args.word.now c.args.address) (told_block live.place c.args.address c.args.word.now) c.args.bytes (told_size c.args.word.now c.args.address) heap.handle.value.content live.live (omega (arith, c.if-bytes-gt-MOST.true)));
       number_is = search rules;
       unchanged = search rules;
     }
@@ -37,8 +37,7 @@ pub place_block-requires-clause-somewhere : goal.place_block-requires-clause-som
 place_block-requires-clause-somewhere c =
     let heap = c.find.new.heap in
     let ptr = c.in-Ok.new.ptr in
-    let lies = subst (λ (h : Counted). LiesIn ptr.place c.in-Ok.new.size (map range_of h.content.pools)) c.heap.ensures.value c.in-Ok.ensures.lies in
-    lies_somewhere ptr.place c.in-Ok.new.size (map range_of heap.handle.value.content.pools) heap.pools heap.entries lies (omega (arith, c.in-Ok.ensures.holds, c.in-Ok.ensures.units))
+    lies_somewhere ptr.place c.in-Ok.new.size (map range_of heap.handle.value.content.pools) heap.pools heap.entries c.in-Ok.ensures.lies (omega (arith, c.in-Ok.ensures.holds, c.in-Ok.ensures.units))
 
 pub returns-in-Ok-clause-given : goal.returns-in-Ok-clause-given
 returns-in-Ok-clause-given c = λ some.
@@ -47,7 +46,7 @@ returns-in-Ok-clause-given c = λ some.
     let new = c.in-Ok.new in
     let found = c.in-Some.ensures.some in
     let live = found_live c.args.address c.args.word.now c.in-Some.ptr heap.pools content found.0 found.1 found.2 in
-    let same : (c.heap.result.now).content ≡ content = ap (λ (h : Counted). h.content) c.heap.ensures.value ∙ c.find.ensures.read.unchanged.content in
+    let same : c.find.new.heap.handle.value.content ≡ content = c.find.ensures.read.unchanged.content in
     let there = c.place_block.ensures.at in
     let of_pools = subst (λ (pools : List PlacedPool). Contains pools there.0) c.find.ensures.pools there.1 in
     let lies = subst (λ (k : Content ℕ). LiesIn new.ptr.place new.size (map range_of k.pools)) same c.in-Ok.ensures.lies in
@@ -56,8 +55,8 @@ returns-in-Ok-clause-given c = λ some.
       was = live;
       pointer = new.ptr;
       pool = there.0;
-      moved = subst (λ (p : Pointer). IsMoved (realloc_ptr (Some p) (c.args.bytes + 8)) (Some p) (Some new.ptr) content c.resize.new.heap.content) found.0
-          (subst (λ (k : Content ℕ). IsMoved (realloc_ptr (Some c.in-Some.ptr) (c.args.bytes + 8)) (Some c.in-Some.ptr) (Some new.ptr) k c.resize.new.heap.content) same c.in-Ok.ensures.ok);
+      moved = subst (λ (p : Pointer). IsMoved (realloc_ptr (Some p) (c.args.bytes + 8)) (Some p) (Some new.ptr) content c.resize.new.handle.value.content) found.0
+          (subst (λ (k : Content ℕ). IsMoved (realloc_ptr (Some c.in-Some.ptr) (c.args.bytes + 8)) (Some c.in-Some.ptr) (Some new.ptr) k c.resize.new.handle.value.content) same c.in-Ok.ensures.ok);
       of_pools = of_pools;
       at = there.2;
       ends = omega (arith, there.2.address_is, there.2.has.0, ends, c.in-Ok.ensures.holds);
@@ -67,18 +66,17 @@ pub returns-in-Err-clause-refused : goal.returns-in-Err-clause-refused
 returns-in-Err-clause-refused c = λ none.
     let heap = c.args.heap.now in
     let content = heap.handle.value.content in
-    let why = c.in-Err.refusal in
     let found = c.in-Some.ensures.some in
     let live = found_live c.args.address c.args.word.now c.in-Some.ptr heap.pools content found.0 found.1 found.2 in
-    let same : (c.heap.result.now).content ≡ content = ap (λ (h : Counted). h.content) c.heap.ensures.value ∙ c.find.ensures.read.unchanged.content in
-    let rows = ap (λ (h : Counted). h.rows) c.heap.ensures.value ∙ c.find.ensures.read.unchanged.rows in
+    let same : c.find.new.heap.handle.value.content ≡ content = c.find.ensures.read.unchanged.content in
+    let why = c.in-Err.ensures.refused in
     record {
-      refusal = why;
+      refusal = why.0;
       refused = inr (
         live,
-        λ slot. subst (λ (p : Pointer). realloc_ptr (Some p) (c.args.bytes + 8) slot content ≡ Err why) found.0
-            (subst (λ (k : Content ℕ). realloc_ptr (Some c.in-Some.ptr) (c.args.bytes + 8) slot k ≡ Err why) same (c.in-Err.ensures.refused slot)),
+        subst (λ (p : Pointer). realloc_ptr (Some p) (c.args.bytes + 8) p.slot content ≡ Err why.0) found.0
+            (subst (λ (k : Content ℕ). realloc_ptr (Some c.in-Some.ptr) (c.args.bytes + 8) c.in-Some.ptr.slot k ≡ Err why.0) same why.2),
       );
-      number_is = c.from-in-Err.ensures ∙ c.number-in-Err.ensures.value;
-      unchanged = record { content = c.in-Err.ensures.unchanged.content ∙ same; rows = c.in-Err.ensures.unchanged.rows ∙ rows };
+      number_is = c.from-in-Err.ensures ∙ why.1;
+      unchanged = record { content = c.in-Err.ensures.unchanged.content ∙ same; rows = c.in-Err.ensures.unchanged.rows ∙ c.find.ensures.read.unchanged.rows };
     }
