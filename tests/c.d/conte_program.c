@@ -16,7 +16,7 @@ struct sums {
 };
 
 static char memory[64 * 1024];
-static char more[16 * 1024];
+static char more[16 * 1024 + 256];
 
 static void add_block(void *ptr, size_t size, int used, void *user)
 {
@@ -50,7 +50,9 @@ static const struct {
 int main(void)
 {
     tlsf_t tlsf = tlsf_create_with_pool(memory, sizeof(memory));
-    pool_t pool = tlsf_add_pool(tlsf, more, sizeof(more));
+    /* At a multiple of 256, so that its blocks lie alike wherever the array is. */
+    char *second = more + (256 - (size_t)more % 256) % 256;
+    pool_t pool = tlsf_add_pool(tlsf, second, sizeof(more) - 256);
     struct word *list = NULL;
     char *line = NULL;
     size_t length = 0;
