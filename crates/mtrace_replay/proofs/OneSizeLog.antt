@@ -1,21 +1,18 @@
 -- A log that asks for blocks of one size alone, and without a heap never holds more than a number of them, is refused nothing on
 -- one pool with the bytes of as many.
 use Rattle.std.proofs.Math.Path.{fun_ext}
-use Rattle.std.proofs.Common.{◌≡◌, ◌≢◌, ℕ, suc, ◌+◌, ◌*◌, ◌<◌, ◌≤◌, Bool, true, false, cond, List, [], ◌∷◌, length, map, reverse, not, is_some, Option, Some, None, Ok, Err, refl, sym, ap, ◌∙◌, subst, arith, inl, inr}
+use Rattle.std.proofs.Common.{◌≡◌, ◌≢◌, ℕ, suc, ◌*◌, ◌<◌, ◌≤◌, Bool, true, false, cond, List, [], ◌∷◌, length, map, reverse, not, is_some, Option, Some, None, Ok, Err, refl, sym, ap, ◌∙◌, subst, arith, inl, inr}
 use Rattle.std.specs.Prelude.{Result, ◌==◌, ◌&&◌, count_by}
 use Rattle.std.specs.List.{AllByRecursion}
 use Rattle.std.proofs.lemmas.Bool.{cases_Bool, eqb-true, eq-eqb, ne_eqb}
 use Rattle.std.proofs.lemmas.Map.Keys.{sorted_from_strictly_increasing, IsStrictlyIncreasing-from_sorted}
-use Rattle.tlsf_class.specs.Classes.{unit}
 use Rattle.tlsf_class.specs.Rounding.{round}
 use Rattle.tlsf_heap.specs.declared.refusal.Refusal.{Refusal}
-use Rattle.tlsf_heap.specs.Content.{blocks_of}
 use Rattle.tlsf_heap.specs.Malloc.{malloc}
-use Rattle.tlsf_heap.specs.Memalign.{memalign, is_alignment}
+use Rattle.tlsf_heap.specs.Memalign.{memalign}
 use Rattle.tlsf_heap.specs.Free.{free, after_free}
-use Rattle.tlsf_heap.specs.Realloc.{realloc}
 use Rattle.tlsf_heap.specs.Implied.{live_blocks}
-use Rattle.tlsf_heap.specs.OneSize.{TakesOne, HasRecords}
+use Rattle.tlsf_heap.specs.OneSize.{HasRecords}
 use Rattle.tlsf_heap.specs.Sizing.{class_size}
 use Rattle.tlsf_heap.proofs.Counts.{one_if, count-cons}
 use Rattle.tlsf_heap.proofs.Good.OneSize.{IsLowest, IsForSize, malloc_for, memalign_for, freed_for, realloc_kept, malloc_given, memalign_given_or_bad, one_pool_for, own_class, positive}
@@ -28,9 +25,9 @@ use Rattle.mtrace_replay.specs.Entry.{Entry}
 use Rattle.mtrace_replay.specs.Started.{Bare, left_by, started}
 use Rattle.mtrace_replay.specs.Settings.{are_bad}
 use Rattle.mtrace_replay.specs.Fit.{one_pool}
-use Rattle.mtrace_replay.specs.Moment.{ReadLine, Given, Moment, Act, idle, give, take, move, plan, asked_size, asked_block, answered, moved, done, without as heap_without, allocation, release, reallocation, renewal, none_for, doing}
+use Rattle.mtrace_replay.specs.Moment.{ReadLine, Given, Moment, Act, idle, give, take, move, plan, asked_size, answered, moved, done, without as heap_without, allocation, release, reallocation, renewal, none_for, doing}
 use Rattle.mtrace_replay.specs.History.{AreHeld, held, moments, next_moment, content_after, pending}
-use Rattle.mtrace_replay.specs.Totals.{is_refused, first_moments}
+use Rattle.mtrace_replay.specs.Totals.{is_refused}
 use Rattle.mtrace_replay.specs.Enough.{HoldsAtMost, act_of}
 use Rattle.mtrace_replay.specs.Served.{served, served_moment, served_moments, unplaced}
 use Rattle.mtrace_replay.specs.Step.{found}
@@ -41,9 +38,9 @@ use Rattle.mtrace_replay.proofs.PlanLemmas.{Fits, is_planned}
 use Rattle.mtrace_replay.proofs.HeldCounts.{Rise, without, rise-without, found-without}
 use Rattle.mtrace_replay.proofs.SortedLemmas.{addresses}
 use Rattle.mtrace_replay.proofs.FoundLemmas.{found_is_held, held_as_found}
-use Rattle.mtrace_replay.proofs.EnoughRecords.{IsRefusedAs, leaves_moment, first_but_one, few_held, started_good}
+use Rattle.mtrace_replay.proofs.EnoughRecords.{IsRefusedAs, leaves_moment, first_but_one, few_held}
 use Rattle.mtrace_replay.proofs.HeldLive.{AllLive, IsLiveAt, all_live}
-use Rattle.mtrace_replay.proofs.UnrefusedLemmas.{bare, bare_act, plain, planned_bare, served_bare, asked_some, served_alike, held_plain, held_back, length_back}
+use Rattle.mtrace_replay.proofs.UnrefusedLemmas.{bare, bare_act, plain, served_bare, asked_some, served_alike, held_plain, held_back, length_back}
 use Rattle.mtrace_replay.proofs.FittedPool.{no_refusal, never_bad, act_bare}
 use Rattle.mtrace_replay.proofs.StartLemmas.{one_pool_added}
 

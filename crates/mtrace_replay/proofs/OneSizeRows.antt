@@ -1,12 +1,12 @@
 -- Worked logs of blocks of one size, computed by the definitions.
-use Rattle.std.proofs.Common.{◌≡◌, ℕ, List, [], ◌∷◌, map, reverse, Some, None, Ok, refl}
+use Rattle.std.proofs.Common.{◌≡◌, List, [], ◌∷◌, map, reverse, Some, None, Ok, refl}
 use Rattle.mtrace_log.specs.declared.event.Event.TheVariants.{Alloc, Free, Old, New, Aligned}
 use Rattle.tlsf_class.specs.Classes.{class, need, low}
 use Rattle.tlsf_class.specs.Rounding.{rounded}
 use Rattle.mtrace_replay.specs.Started.{started}
 use Rattle.mtrace_replay.specs.Moment.{ReadLine, idle, give, take, move}
 use Rattle.mtrace_replay.specs.History.{moments}
-use Rattle.mtrace_replay.specs.Served.{served_moments, unplaced}
+use Rattle.mtrace_replay.specs.Served.{served_moments}
 use Rattle.mtrace_replay.specs.Fit.{one_pool}
 use Rattle.mtrace_replay.specs.RunFit.{refusals}
 use Rattle.mtrace_replay.specs.OneSize.{rounded_up, served_acts}

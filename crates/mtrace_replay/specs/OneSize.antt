@@ -1,5 +1,5 @@
 -- Logs that ask for blocks of one size alone.
-use Rattle.std.specs.Prelude.{◌≡◌, ℕ, suc, ◌≤◌, List, [], ◌∷◌, length, map, Option, Some, None, Ok, IsTrue, ⊤}
+use Rattle.std.specs.Prelude.{◌≡◌, ℕ, suc, ◌≤◌, List, [], ◌∷◌, length, Some, None, Ok, IsTrue, ⊤}
 use Rattle.tlsf_class.specs.Classes.{unit}
 use Rattle.tlsf_class.specs.Rounding.{round}
 use Rattle.tlsf_heap.specs.Memalign.{is_alignment}

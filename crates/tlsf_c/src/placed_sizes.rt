@@ -1,9 +1,7 @@
 //! Blocks of a heap with addresses tell their sizes, and get others.
 
-ghost use Rattle.std.specs.Prelude.{◌≡◌, ◌≢◌, ℕ, ◌+◌, ◌-◌, ◌*◌, ◌/◌, ◌%◌, ◌^◌, ◌<◌, ◌≤◌, All, Contains, map, Ok, Err, Some, IfOk, IfErr, OnOk, OnErr, true, false};
+ghost use Rattle.std.specs.Prelude.{◌≡◌, ◌+◌, ◌-◌, ◌*◌, ◌/◌, ◌%◌, ◌^◌, ◌<◌, ◌≤◌, map, Ok, Err, Some, IfOk, IfErr, OnOk, OnErr};
 ghost use Rattle.tlsf_heap.specs.declared.refusal.Refusal.{Refusal};
-ghost use Rattle.tlsf_heap.specs.Content.{blocks_of};
-ghost use Rattle.tlsf_heap.specs.Free.{is_live};
 ghost use Rattle.tlsf_heap.specs.Counted.{IsUnchanged, Reads, range_of};
 ghost use Rattle.tlsf_heap.specs.Pointer.{realloc_ptr, block_size_ptr};
 ghost use Rattle.tlsf_heap.specs.Served.{IsMoved};

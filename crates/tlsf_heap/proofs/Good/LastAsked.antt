@@ -1,9 +1,8 @@
 -- Through a run within bounds each live block has the size of what was last asked for at its place, rounded up.
-use Rattle.std.proofs.Common.{◌≡◌, ◌≢◌, ℕ, ◌+◌, ◌*◌, ◌<◌, ◌≤◌, Bool, true, false, cond, not, List, [], ◌∷◌, count_by, Option, Some, None, Ok, Err, inl, inr, refl, sym, ap, ◌∙◌, subst, arith}
+use Rattle.std.proofs.Common.{◌≡◌, ℕ, ◌<◌, ◌≤◌, Bool, true, false, cond, not, List, [], ◌∷◌, count_by, Option, Some, None, Ok, Err, inl, inr, refl, sym, ap, ◌∙◌, subst, arith}
 use Rattle.std.specs.Prelude.{◌==◌, ◌⊎◌, Result}
 use Rattle.std.specs.List.{Contains}
 use Rattle.std.proofs.lemmas.Bool.{cases_Bool, cases_eq, eqb-true, eq-eqb}
-use Rattle.tlsf_class.specs.Rounding.{round}
 use Rattle.tlsf_heap.specs.declared.request.Request.{Request}
 use Rattle.tlsf_heap.specs.declared.request.Request.TheVariants.{AddPool, RemovePool, Malloc, Memalign, Free, Realloc, BlockSize}
 use Rattle.tlsf_heap.specs.declared.answer.Answer.{Answer}
@@ -14,7 +13,7 @@ use Rattle.tlsf_heap.specs.Content.{Block, Content, blocks_of, is_free, used_rec
 use Rattle.tlsf_heap.specs.Malloc.{malloc}
 use Rattle.tlsf_heap.specs.Free.{is_live, after_free}
 use Rattle.tlsf_heap.specs.Realloc.{given_anew, realloc}
-use Rattle.tlsf_heap.specs.Pointer.{Pointer, place_and_slot, slot_of, realloc_ptr}
+use Rattle.tlsf_heap.specs.Pointer.{Pointer, realloc_ptr}
 use Rattle.tlsf_heap.specs.Good.{IsGood}
 use Rattle.tlsf_heap.specs.Implied.{live_blocks}
 use Rattle.tlsf_heap.specs.Run.{Step, Run}

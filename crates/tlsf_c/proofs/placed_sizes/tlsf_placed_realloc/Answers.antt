@@ -1,14 +1,14 @@
 use Rattle.std.specs.Prelude.{List, Contains}
-use Rattle.std.proofs.Common.{◌≡◌, ℕ, rules, ◌+◌, map, Some, Ok, Err, inl, inr, refl, sym, ap, ◌∙◌, subst, arith}
+use Rattle.std.proofs.Common.{◌≡◌, ℕ, rules, ◌+◌, map, Some, Err, inl, inr, refl, ◌∙◌, subst, arith}
 use Rattle.tlsf_heap.specs.declared.refusal.Refusal.TheVariants.{BadPointer, NoFit}
 use Rattle.tlsf_heap.specs.Content.{Content}
-use Rattle.tlsf_heap.specs.Counted.{Counted, range_of}
-use Rattle.tlsf_heap.specs.Pointer.{Pointer, realloc_ptr, block_size_ptr}
+use Rattle.tlsf_heap.specs.Counted.{range_of}
+use Rattle.tlsf_heap.specs.Pointer.{Pointer, realloc_ptr}
 use Rattle.tlsf_heap.specs.Served.{IsMoved}
 use Rattle.tlsf_c.specs.Fronts.{told_slot, told_size}
 use Rattle.tlsf_c.specs.Lying.{LiesIn}
 use Rattle.tlsf_c.specs.declared.placed_pool.PlacedPool.{PlacedPool}
-use Rattle.tlsf_c.specs.PlacedHeaps.{IsLiveAt, told_block}
+use Rattle.tlsf_c.specs.PlacedHeaps.{told_block}
 use Rattle.tlsf_c.proofs.PlacedLemmas.{lies_somewhere, ends_in_entry}
 use Rattle.tlsf_c.proofs.ResizedBlock.{found_live, grows_above}
 use Rattle.tlsf_c.proofs.placed_sizes.tlsf_placed_realloc.Goals as goal
