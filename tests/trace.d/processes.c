@@ -110,7 +110,7 @@ int main(int count, char **words)
         take(CALLS);
     } else if (strcmp(word, "waits") == 0) {
         (void)!write(1, "ready\n", 6);
-        alarm(10);
+        alarm(40);
         for (;;) {
             free(malloc(10));
         }
