@@ -1,10 +1,9 @@
 -- What one more line does to the spans that are counted.
-use Rattle.std.proofs.Common.{cond, Bool, true, false, Option, Some, None, ◌≡◌, ℕ, suc, ◌+◌, ◌≤◌, List, ◌∷◌, map, refl, sym, ap, ◌∙◌, subst, arith, nat_eq}
-use Rattle.std.specs.Prelude.{is_some, count_by, nat_lt, if◌then◌else◌}
+use Rattle.std.proofs.Common.{Bool, true, false, Option, Some, None, ◌≡◌, ℕ, suc, ◌≤◌, List, ◌∷◌, map, refl, sym, ap, ◌∙◌, subst, nat_eq}
+use Rattle.std.specs.Prelude.{is_some, nat_lt, if◌then◌else◌}
 use Rattle.std.specs.HashMap.{get}
 use Rattle.std.specs.List.{All, list_all}
-use Rattle.std.proofs.lemmas.Bool.{false≢true, lt-ltb, le-ltb}
-use Rattle.tlsf_heap.proofs.Counts.{count-cons}
+use Rattle.std.proofs.lemmas.Bool.{false≢true}
 use Rattle.mtrace_replay.specs.declared.parts.change.Change.{Change}
 use Rattle.mtrace_replay.specs.declared.parts.span.Span.{Span}
 use Rattle.mtrace_replay.specs.declared.parts.spans.Block.{Block}
@@ -17,6 +16,7 @@ use Rattle.mtrace_replay.specs.Served.{served_moments, Standing, IsServed}
 use Rattle.mtrace_replay.specs.Parts.{served_classes}
 use Rattle.mtrace_replay.specs.Spans.{released, range_released, unless_released, given_all, given_range, released_by, block_asked, AreCounted, AreCountedOf}
 use Rattle.mtrace_replay.specs.CountedReplay.{IsChangeOf}
+use Rattle.mtrace_replay.proofs.TotalsStep.{served_more as moment_served}
 use Rattle.mtrace_replay.proofs.SpansLemmas.{its, taken, facts, counted_without, counted_with, few_released, few_given}
 
 -- where a request had no class, one had none with one line more
@@ -99,9 +99,4 @@ followed_few range given old new is lines few =
 -- whether a line was served is told by how many were
 pub served_more : (old new : Standing) (line : ReadLine) (past : List ReadLine) → IsServed old past → IsServed new (line ∷ past) → nat_lt old.served new.served ≡ is_served (its past line)
 unfolding served_moments
-served_more old new line past before after =
-    by_served (is_served (its past line)) (after.served_are ∙ count-cons is_served (its past line) (served_moments past))
-  where
-    by_served : (b : Bool) → new.served ≡ cond b 1 0 + count_by is_served (served_moments past) → nat_lt old.served new.served ≡ b
-    by_served true is = lt-ltb old.served new.served (omega (arith, is, before.served_are))
-    by_served false is = le-ltb old.served new.served (omega (arith, is, before.served_are))
+served_more old new line past before after = moment_served (its past line) (served_moments past) old.served new.served before.served_are after.served_are

@@ -21,7 +21,11 @@ use Rattle.tlsf_heap.specs.Sizing.{sure_pool}
 use Rattle.mtrace_replay.specs.Started.{started}
 use Rattle.mtrace_replay.specs.Asked.{greatest_class}
 use Rattle.mtrace_replay.specs.Moment.{ReadLine}
-use Rattle.mtrace_replay.specs.Replay.{Replayed, StandsFor}
+use Rattle.mtrace_replay.specs.declared.runs.needs.Needs.{Needs}
+use Rattle.mtrace_replay.specs.declared.heap.totals.Totals.{Totals}
+use Rattle.mtrace_replay.specs.Totals.{AreTotals}
+use Rattle.mtrace_replay.specs.History.{history}
+use Rattle.mtrace_replay.specs.Needs.{AreNeeds}
 use Rattle.mtrace_replay.specs.Texts.{greatest_line, most_line, fitted_lines, untried_lines, refused_line}
 
 abbrev serving : ℕ → Bool → List Verdict
@@ -159,53 +163,44 @@ no_range step now first times is few =
     let none : suc (last_number (doubled step (suc times)) first) - suc first ≡ 0 = omega (arith, last) in
     ap (λ count. map (λ number. number * doubled step (suc times)) (range_with_len (suc first) count)) none
 
--- the pool that is always enough, by what the replay of a log tells
-abbrev pub sure_of : Replayed → Option ℕ
-sure_of replay = sure_pool replay.most replay.most_rounded replay.class_size
+-- the pool that is always enough, by what a log needs
+abbrev pub sure_of : Needs → Option ℕ
+sure_of needs = sure_pool needs.most needs.rounded needs.class_size
 
--- it is told by the log's lines
-sure_is : (lines : List ReadLine) (replay : Replayed) → StandsFor replay greatest_settings (reverse lines)
-    → sure_of replay ≡ sure_pool replay.most replay.most_rounded (greatest_class (started greatest_settings) (reverse lines))
-sure_is lines replay stands = ap (sure_pool replay.most replay.most_rounded) stands.class
+module _ (step : Option ℕ) (lines : List ReadLine) (whole : Bytes) (totals : Totals) (summed : AreTotals (started greatest_settings) (history greatest_settings lines) totals)
+    (needs : Needs) (are : AreNeeds (started greatest_settings) (reverse lines) needs) where
+  -- what is told of the sizes, by how many lines the greatest pool refuses
+  abbrev Tells : (refused times : ℕ) → List ℕ → Type 0
+  Tells refused times text = TellsSizes refused (step_of step totals.peak_bytes) totals.peak_bytes needs.most totals.lines
+      (sure_pool needs.most needs.rounded (greatest_class (started greatest_settings) (reverse lines))) whole times text
 
--- the text of a log that the greatest pool doesn't serve
-pub tells_untried : (step : Option ℕ) (lines : List ReadLine) (whole : Bytes) (replay : Replayed) → StandsFor replay greatest_settings (reverse lines) → 0 < replay.totals.refused
-    → TellsFit step lines whole 0 (greatest_line replay.totals ++ most_line replay.most ++ untried_lines ++ refused_line replay.totals.refused)
-tells_untried step lines whole replay stands some = record {
-  totals = replay.totals;
-  summed = stands.totals;
-  most = replay.most;
-  is_most = stands.most;
-  rounded = replay.most_rounded;
-  is_rounded = stands.rounded;
-  rest = untried_lines ++ refused_line replay.totals.refused;
-  tells = by_refused replay.totals.refused some;
-  text_is = append_assoc (greatest_line replay.totals ++ most_line replay.most) untried_lines (refused_line replay.totals.refused);
-}
-  where
-    by_refused : (refused : ℕ) → 0 < refused → TellsSizes refused (step_of step replay.totals.peak_bytes) replay.totals.peak_bytes replay.most replay.totals.lines
-        (sure_pool replay.most replay.most_rounded (greatest_class (started greatest_settings) (reverse lines))) whole 0 (untried_lines ++ refused_line refused)
-    by_refused zero some = absurd (omega (arith, some))
-    by_refused (suc more) some = (refl, refl)
+  told : (times : ℕ) (rest : List ℕ) → Tells totals.refused times rest → TellsFit step lines whole times (greatest_line totals ++ most_line needs.most ++ rest)
+  told times rest tells = record {
+    totals = totals;
+    summed = summed;
+    most = needs.most;
+    is_most = are.most;
+    rounded = needs.rounded;
+    is_rounded = are.rounded;
+    rest = rest;
+    tells = tells;
+    text_is = refl;
+  }
 
--- the text of a log that it serves
-pub tells_fitted : (step : Option ℕ) (lines : List ReadLine) (whole : Bytes) (replay : Replayed) → StandsFor replay greatest_settings (reverse lines) → replay.totals.refused ≡ 0
-    → (verdicts : List Verdict) → (let peak = replay.totals.peak_bytes in TriesRanges (enough_records replay.most) replay.totals.lines (step_of step peak) (first_number (step_of step peak) peak) whole verdicts)
-    → TellsFit step lines whole (length verdicts) (greatest_line replay.totals ++ most_line replay.most ++ fitted_lines (enough_records replay.most) (fitted verdicts) (sure_of replay))
-tells_fitted step lines whole replay stands none verdicts tries = record {
-  totals = replay.totals;
-  summed = stands.totals;
-  most = replay.most;
-  is_most = stands.most;
-  rounded = replay.most_rounded;
-  is_rounded = stands.rounded;
-  rest = text (sure_of replay);
-  tells =
-      let P : ℕ → Type 0 = λ refused. TellsSizes refused (step_of step replay.totals.peak_bytes) replay.totals.peak_bytes replay.most replay.totals.lines
-      (sure_pool replay.most replay.most_rounded (greatest_class (started greatest_settings) (reverse lines))) whole (length verdicts) (text (sure_of replay)) in
-      subst P (sym none) (verdicts, tries, refl, ap text (sure_is lines replay stands));
-  text_is = refl;
-}
-  where
-    text : Option ℕ → List ℕ
-    text sure = fitted_lines (enough_records replay.most) (fitted verdicts) sure
+  -- the text of a log that the greatest pool doesn't serve
+  pub tells_untried : 0 < totals.refused → TellsFit step lines whole 0 (greatest_line totals ++ most_line needs.most ++ untried_lines ++ refused_line totals.refused)
+  tells_untried some = subst (TellsFit step lines whole 0) (sym (append_assoc (greatest_line totals ++ most_line needs.most) untried_lines (refused_line totals.refused)))
+      (told 0 (untried_lines ++ refused_line totals.refused) (by_refused totals.refused some))
+    where
+      by_refused : (refused : ℕ) → 0 < refused → Tells refused 0 (untried_lines ++ refused_line refused)
+      by_refused zero some = absurd (omega (arith, some))
+      by_refused (suc more) some = (refl, refl)
+
+  -- the text of a log that it serves
+  pub tells_fitted : totals.refused ≡ 0 → (verdicts : List Verdict)
+      → TriesRanges (enough_records needs.most) totals.lines (step_of step totals.peak_bytes) (first_number (step_of step totals.peak_bytes) totals.peak_bytes) whole verdicts
+      → TellsFit step lines whole (length verdicts) (greatest_line totals ++ most_line needs.most ++ fitted_lines (enough_records needs.most) (fitted verdicts) (sure_of needs))
+  tells_fitted none verdicts tries =
+      let text : Option ℕ → List ℕ = fitted_lines (enough_records needs.most) (fitted verdicts) in
+      told (length verdicts) (text (sure_of needs)) (subst (λ refused. Tells refused (length verdicts) (text (sure_of needs))) (sym none)
+      (verdicts, tries, refl, ap (λ class. text (sure_pool needs.most needs.rounded class)) are.class))

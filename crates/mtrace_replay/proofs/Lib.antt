@@ -44,6 +44,7 @@ mod SitesLemmas
 mod SizePartsLemmas
 mod SlotLemmas
 mod SortedLemmas
+mod NeedsLemmas
 mod OneLineMore
 mod OneSizeLog
 mod OneSizeRows

@@ -1,7 +1,7 @@
 -- A replay stands for one line more.
 use Rattle.std.proofs.Math.Path.{fun_ext}
 use Rattle.std.proofs.Common.{◌⊎◌, inl, inr, cond, option_map, is_some, Bool, true, false, ◌≤◌, Option, Some, None, ◌≡◌, ℕ, suc, ◌+◌, List, [], ◌∷◌, ◌++◌, length, refl, sym, ap, ◌∙◌, subst, arith}
-use Rattle.std.specs.Prelude.{if◌then◌else◌, max, ◌==◌}
+use Rattle.std.specs.Prelude.{if◌then◌else◌, ◌==◌}
 use Rattle.std.specs.List.Sorted.{IsStrictlyIncreasing}
 use Rattle.mtrace_replay.specs.declared.held.diagnostic.Diagnostic.{Diagnostic}
 use Rattle.mtrace_replay.specs.declared.heap.settings.Settings.{Settings}
@@ -21,13 +21,12 @@ use Rattle.tlsf_heap.proofs.Good.LiveBlocks.{end_here_bare, live_end_bare}
 use Rattle.mtrace_replay.specs.Holding.{Holding}
 use Rattle.mtrace_replay.specs.declared.heap.totals.Totals.{Totals}
 use Rattle.mtrace_replay.specs.Index.{held_at}
-use Rattle.mtrace_replay.specs.Asked.{class_asked, greater_class}
 use Rattle.mtrace_replay.specs.Texts.{total_size}
-use Rattle.mtrace_replay.specs.Totals.{is_served, bytes_in, AreTotals, blocks_in, rounded_bytes_in, IsMost, gone_on, is_refusal}
+use Rattle.mtrace_replay.specs.Totals.{bytes_in, AreTotals, blocks_in, gone_on, is_refusal}
 use Rattle.mtrace_replay.proofs.StepLemmas.{found_given, given_under}
 use Rattle.mtrace_replay.proofs.LiveBefore.{stood_outcome}
-use Rattle.mtrace_replay.proofs.TotalsLemmas.{none_measured, most_none, most_goes_on, high_none, started_free}
-use Rattle.mtrace_replay.proofs.TotalsStep.{some_mapped, totals_of_line}
+use Rattle.mtrace_replay.proofs.TotalsLemmas.{none_measured, most_none, high_none, started_free}
+use Rattle.mtrace_replay.proofs.TotalsStep.{totals_of_line}
 use Rattle.mtrace_replay.proofs.Moments.{moments-line}
 use Rattle.mtrace_replay.proofs.SortedLemmas.{addresses}
 
@@ -112,13 +111,11 @@ module _ (old new : Replayed) (settings : Settings) (past : List ReadLine) (line
 
     pub stands_for_line : IsStrictlyIncreasing (addresses new.given) → new.pending ≡ old_address line → new.out_of_memory ≡ false
         → (bytes blocks : ℕ) (refused : Bool) → new.totals ≡ gone_on old.totals end refused bytes blocks
-        → bytes ≡ total_size (entries_of new.given) → blocks ≡ length new.given → new.most ≡ max old.most blocks
-        → (rounded : ℕ) → rounded ≡ rounded_bytes_in new.given → new.most_rounded ≡ max old.most_rounded rounded
-        → new.class_size ≡ (if is_some end then greater_class old.class_size (class_asked line) else old.class_size)
+        → bytes ≡ total_size (entries_of new.given) → blocks ≡ length new.given
         → refused ≡ list_any (λ (diagnostic : Diagnostic). is_refusal diagnostic.kind) (added_diagnostics settings line past)
         → StandsFor new settings (line ∷ past)
     unfolding its_outcome before now
-    stands_for_line ordered told works bytes blocks refused gone sum count most rounded rounded_is most_rounded class_is has_diagnostics =
+    stands_for_line ordered told works bytes blocks refused gone sum count has_diagnostics =
         let whole = moments-line (started settings) line past in
         let start = started settings in
         let ms = moments (started settings) past in
@@ -133,12 +130,6 @@ module _ (old new : Replayed) (settings : Settings) (past : List ReadLine) (line
           held = subst P (sym whole) holds;
           totals = subst (λ past. T past new.totals) (sym whole) (subst (T (now ∷ ms)) (sym gone)
               (totals_of_line start ms now new.given old.totals end refused bytes blocks stands.totals comes_so.end_is has_diagnostics holds sum count stood given_stands));
-          most = subst (λ past. IsMost blocks_in past new.most) (sym whole) (subst (IsMost blocks_in (now ∷ ms)) (sym most)
-              (most_goes_on blocks_in now ms old.most blocks (record { all = new.given; held = holds; measured = count }) stands.most));
-          rounded = subst (λ past. IsMost rounded_bytes_in past new.most_rounded) (sym whole) (subst (IsMost rounded_bytes_in (now ∷ ms)) (sym most_rounded)
-              (most_goes_on rounded_bytes_in now ms old.most_rounded rounded (record { all = new.given; held = holds; measured = rounded_is }) stands.rounded));
-          class = class_is ∙ ap (λ b. if b then greater_class old.class_size (class_asked line) else old.class_size) (ap is_some comes_so.end_is ∙ some_mapped _ now.given)
-              ∙ ap (λ size. if is_served now then greater_class size (class_asked line) else size) stands.class;
         }
 
   pub diagnostics_of_line : (if is_new line then [] else half old.totals.lines old.pending) ++ diagnostics ≡ added_diagnostics settings line past

@@ -10,7 +10,7 @@ use Rattle.tlsf_class.specs.Rounding.{round}
 use Rattle.tlsf_heap.specs.declared.refusal.Refusal.{Refusal}
 use Rattle.tlsf_heap.specs.Malloc.{malloc}
 use Rattle.tlsf_heap.specs.Memalign.{memalign}
-use Rattle.tlsf_heap.specs.Free.{free, after_free}
+use Rattle.tlsf_heap.specs.Free.{after_free}
 use Rattle.tlsf_heap.specs.Implied.{live_blocks}
 use Rattle.tlsf_heap.specs.OneSize.{HasRecords}
 use Rattle.tlsf_heap.specs.Sizing.{class_size}

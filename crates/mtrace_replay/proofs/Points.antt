@@ -59,9 +59,6 @@ touched_stands touches replay settings past stands = record {
   content_is = stands.content_is;
   held = stands.held;
   totals = stands.totals;
-  most = stands.most;
-  rounded = stands.rounded;
-  class = stands.class;
 }
 
 abbrev touched_replaying : (touches : ℕ) (settings : Settings) (progress : Progress) (replay : Replayed) (start reader : ReaderState) → IsReplaying settings progress replay start reader

@@ -68,16 +68,16 @@ end_is report settings replay lines stands =
     ∙ ap (λ content. diagnostics_text (half (length lines) (pending (reverse lines))) ++ report_text report (entries replay) replay.totals content) stands.content_is
 
 -- the diagnostics of lines, one after the other, are those of their history
-noted_is : (settings : Settings) (past : List ReadLine) → noted (added_diagnostics settings) past ≡ notes (moments (started settings) past)
+pub noted_is : (settings : Settings) (past : List ReadLine) → noted (added_diagnostics settings) past ≡ notes (moments (started settings) past)
 noted_is settings [] = sym (ap notes (moments-none (started settings)))
 noted_is settings (line ∷ past) =
     ap (λ all. all ++ added_diagnostics settings line past) (noted_is settings past) ∙ sym (ap notes (moments-line (started settings) line past))
 
-noted_text_is : (settings : Settings) (lines : List ReadLine) → noted_text (added_diagnostics settings) (reverse lines) ≡ text_of_notes settings lines
+pub noted_text_is : (settings : Settings) (lines : List ReadLine) → noted_text (added_diagnostics settings) (reverse lines) ≡ text_of_notes settings lines
 noted_text_is settings lines = ap diagnostics_text (noted_is settings (reverse lines))
 
 -- all lines were followed
-pub has_replayed : (settings : Settings) (replay : Replayed) (has_diagnostics : Bool) (reader_old reader_new : ReaderState) (writer_old writer_new : WriterState)
+unfoldable pub has_replayed : (settings : Settings) (replay : Replayed) (has_diagnostics : Bool) (reader_old reader_new : ReaderState) (writer_old writer_new : WriterState)
     → HasFollowed (heap_rules.Stands settings replay) (added_diagnostics settings) has_diagnostics reader_old reader_new writer_old writer_new
     → HasReplayed settings replay has_diagnostics reader_old reader_new writer_old writer_new
 has_replayed settings replay has_diagnostics reader_old reader_new writer_old writer_new done = record {
@@ -187,7 +187,7 @@ report_all report settings replay has_diagnostics status reader_old reader_new w
     }
 
 -- all was written of a run that makes no report, and the replay in the end
-pub ends_at : (settings : Settings) (replay end : Replayed) (has_diagnostics : Bool) (status : Status) (reader_old reader_new : ReaderState) (writer_old writer_middle writer_new : WriterState)
+unfoldable pub ends_at : (settings : Settings) (replay end : Replayed) (has_diagnostics : Bool) (status : Status) (reader_old reader_new : ReaderState) (writer_old writer_middle writer_new : WriterState)
     → HasReplayed settings replay has_diagnostics reader_old reader_new writer_old writer_middle
     → Wrote writer_middle writer_new (end_text Nothing replay)
     → status ≡ (if has_diagnostics || (has_some (half replay.totals.lines replay.pending) || has_some (entries replay)) then Found else Clean)

@@ -1,7 +1,8 @@
 -- The totals of a log's lines after one line more, by the outcome of that line.
-use Rattle.std.proofs.Common.{◌≡◌, ℕ, suc, ◌+◌, ◌<◌, ◌≤◌, Bool, false, List, ◌∷◌, length, ◌⊎◌, inl, inr, refl, sym, ap, ◌∙◌, subst, arith, Option, Some, None, count_by}
+use Rattle.std.proofs.Common.{cond, ◌≡◌, ℕ, suc, ◌+◌, ◌<◌, ◌≤◌, Bool, true, false, List, ◌∷◌, length, ◌⊎◌, inl, inr, refl, sym, ap, ◌∙◌, subst, arith, Option, Some, None, count_by}
 use Rattle.std.specs.Prelude.{max, nat_lt, unwrap_or, is_some, option_map, if◌then◌else◌}
 use Rattle.std.specs.List.{Contains, list_any}
+use Rattle.std.proofs.lemmas.Bool.{lt-ltb, le-ltb}
 use Rattle.tlsf_heap.specs.Content.{Block, blocks_of, is_free}
 use Rattle.tlsf_heap.proofs.Counts.{count-cons, one_if}
 use Rattle.mtrace_replay.specs.declared.held.diagnostic.Diagnostic.{Diagnostic}
@@ -24,6 +25,14 @@ count_more : (p : Moment → Bool) (moment : Moment) (past : List Moment) (befor
 count_more p moment past before test counted same =
     let one : (if test then 1 else 0) ≡ one_if (p moment) = ap (λ b. if b then 1 else 0) same in
     omega (arith, counted, one, count-cons p moment past)
+
+-- whether a line was served is told by how many were
+pub served_more : (moment : Moment) (past : List Moment) (old new : ℕ) → old ≡ count_by is_served past → new ≡ count_by is_served (moment ∷ past) → nat_lt old new ≡ is_served moment
+served_more moment past old new before after = by_served (is_served moment) (after ∙ count-cons is_served moment past)
+  where
+    by_served : (b : Bool) → new ≡ cond b 1 0 + count_by is_served past → nat_lt old new ≡ b
+    by_served true is = lt-ltb old new (omega (arith, is, before))
+    by_served false is = le-ltb old new (omega (arith, is, before))
 
 -- each block that is live now stood before, or ends at this end
 abbrev StoodBut : Bare → List Moment → Moment → Option ℕ → Type 0

@@ -18,6 +18,7 @@ pub mod Key
 pub mod Keys
 pub mod LineReplay
 pub mod Moment
+pub mod Needs
 pub mod Prepared
 pub mod Replay
 pub mod Replaying

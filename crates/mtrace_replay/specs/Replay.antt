@@ -8,26 +8,21 @@ use Rattle.mtrace_replay.specs.declared.heap.settings.Settings.{Settings}
 use Rattle.mtrace_replay.specs.declared.heap.totals.Totals.{Totals}
 use Rattle.tlsf_heap.specs.Touches.{AtMost}
 use Rattle.mtrace_replay.specs.Started.{Bare, started}
-use Rattle.mtrace_replay.specs.Asked.{greatest_class}
 use Rattle.mtrace_replay.specs.Step.{found}
-use Rattle.mtrace_replay.specs.Totals.{blocks_in, rounded_bytes_in, AreTotals, IsMost}
+use Rattle.mtrace_replay.specs.Totals.{AreTotals}
 use Rattle.mtrace_replay.specs.Moment.{ReadLine, Given, plan, acts, half}
 use Rattle.mtrace_replay.specs.History.{AreHeld, next_moment, moments, content_after, pending, entries_of}
 use Rattle.mtrace_replay.specs.LineReplay.{LineRules}
 
 -- a replay: the heap's content, how often it was touched, how many addresses were compared, and the totals. `given`
--- is what is held, in order of address; `most`, the most addresses that were held, and `most_rounded` the most bytes in
--- their blocks. `class_size` is the greatest class size that a served line asked for. `pending` is the address of the last
--- line where that is `<`; `out_of_memory`, whether memory was refused
+-- is what is held, in order of address. `pending` is the address of the last line where that is `<`; `out_of_memory`,
+-- whether memory was refused
 pub record Replayed : Type 0 where
   pub content : Bare
   pub touches : ℕ
   pub comparisons : ℕ
   pub given : List Given
   pub totals : Totals
-  pub most : ℕ
-  pub most_rounded : ℕ
-  pub class_size : Option ℕ
   pub pending : Option ℕ
   pub out_of_memory : Bool
 
@@ -47,9 +42,6 @@ pub record StandsFor (replay : Replayed) (settings : Settings) (past : List Read
   pub content_is : replay.content ≡ content_after (started settings) (moments (started settings) past)
   pub held : AreHeld replay.given (moments (started settings) past)
   pub totals : AreTotals (started settings) (moments (started settings) past) replay.totals
-  pub most : IsMost blocks_in (moments (started settings) past) replay.most
-  pub rounded : IsMost rounded_bytes_in (moments (started settings) past) replay.most_rounded
-  pub class : replay.class_size ≡ greatest_class (started settings) past
 
 -- the diagnostics that one more line adds to those of the lines before it, of which the latest comes first
 abbrev pub added_diagnostics : Settings → ReadLine → List ReadLine → List Diagnostic

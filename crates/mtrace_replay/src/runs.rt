@@ -6,6 +6,7 @@ pub mod fitted;
 pub mod flush;
 pub mod following;
 pub mod line_replay;
+pub mod needs;
 pub mod report;
 pub mod run;
 pub mod save;

@@ -2,7 +2,6 @@ ghost use Rattle.std.specs.Prelude.{◌≡◌, ◌+◌, ◌≤◌, ◌++◌, len
 ghost use Rattle.mtrace_replay.specs.Moment.{half, is_new};
 ghost use Rattle.mtrace_replay.specs.History.{old_address};
 
-use crate::heap::asked::Asked;
 use crate::heap::index::{Entries, Index};
 use crate::heap::settings::Settings;
 use crate::heap::start::{restart_heap, started_heap};
@@ -82,9 +81,6 @@ pub struct Replay<H: Heaped> {
     heap: H,
     held: Index,
     totals: Totals,
-    most: u64,
-    most_rounded: u64,
-    class_size: Option<u32>,
     pending: Option<Addr>,
     out_of_memory: bool,
 }
@@ -102,9 +98,6 @@ impl<H: Heaped> Model for Replay<H> {
       comparisons = r.held.comparisons;
       given = all_given r.held.all;
       totals = r.totals;
-      most = r.most;
-      most_rounded = r.most_rounded;
-      class_size = r.class_size;
       pending = r.pending;
       out_of_memory = r.out_of_memory;
     } };
@@ -119,6 +112,7 @@ impl<H: Heaped> Replay<H> {
     ghost use Rattle.mtrace_replay.specs.declared.heap.settings.Settings.{Settings};
     ghost use Rattle.mtrace_replay.specs.Settings.{are_bad};
     ghost use Rattle.mtrace_replay.specs.Index.{Counts};
+    ghost use Rattle.mtrace_replay.specs.Totals.{rounded_bytes_in};
     ghost use Rattle.mtrace_replay.specs.Replay.{StandsFor, entries, touched, Feeds, TellsEnd};
     ghost use Rattle.mtrace_log.specs.Output.{Puts};
     ghost use Rattle.mtrace_replay.specs.Texts.{free_sizes, walk_report, total_size};
@@ -147,9 +141,6 @@ impl<H: Heaped> Replay<H> {
             heap,
             held,
             totals: Totals::default(),
-            most: 0,
-            most_rounded: 0,
-            class_size: Some(tlsf_class::UNIT),
             pending: None,
             out_of_memory: false,
         })
@@ -188,7 +179,6 @@ impl<H: Heaped> Replay<H> {
         }
         let half = half_before(self.totals.lines, self.pending, &event);
         let next = old_address(&event);
-        let asked = Asked::of(&event);
         match outcome(
             &mut self.heap,
             &mut self.held,
@@ -204,10 +194,6 @@ impl<H: Heaped> Replay<H> {
                 let is_refused = findings.has_refusal();
                 let (bytes, blocks) = (self.held.bytes(), self.held.len());
                 self.totals = self.totals.after(end, is_refused, bytes, blocks);
-                self.most = self.most.max(blocks);
-                let rounded = self.held.rounded();
-                self.most_rounded = self.most_rounded.max(rounded);
-                self.class_size = asked.greatest(self.class_size, end.is_some());
                 self.pending = next;
                 Ok(())
             }
@@ -267,25 +253,11 @@ impl<H: Heaped> Replay<H> {
         self.totals
     }
 
-    /// The most addresses that were held after any line.
-    pub(crate) fn most(&self) -> u64
-        ensures { result ≡ self.now.most }
+    /// The sum of the sizes of the blocks held, in bytes.
+    pub(crate) fn rounded(&self) -> u64
+        ensures { result ≡ rounded_bytes_in self.now.given }
     {
-        self.most
-    }
-
-    /// The most bytes that the blocks held had after any line.
-    pub(crate) fn most_rounded(&self) -> u64
-        ensures { result ≡ self.now.most_rounded }
-    {
-        self.most_rounded
-    }
-
-    /// The greatest class size that a served line asked for, in bytes; `None` where a class is missing.
-    pub(crate) fn class_size(&self) -> Option<u32>
-        ensures { result ≡ self.now.class_size }
-    {
-        self.class_size
+        self.held.rounded()
     }
 
     /// What is free in the heap, and how far its live blocks reach.
@@ -346,9 +318,6 @@ impl Replay<Heap> {
         restart_heap(&mut self.heap, settings);
         self.held.restart(settings.records);
         self.totals = Totals::default();
-        self.most = 0;
-        self.most_rounded = 0;
-        self.class_size = Some(tlsf_class::UNIT);
         self.pending = None;
         self.out_of_memory = false;
     }

@@ -5,7 +5,9 @@ ghost use Rattle.tlsf_class.specs.Classes.{greatest_size};
 ghost use Rattle.mtrace_replay.specs.Again.{FailsAgain};
 ghost use Rattle.tlsf_heap.specs.Pools.{most_records};
 ghost use Rattle.mtrace_replay.specs.Moment.{ReadLine};
+ghost use Rattle.mtrace_replay.specs.Started.{started};
 ghost use Rattle.mtrace_replay.specs.Replay.{StandsFor};
+ghost use Rattle.mtrace_replay.specs.Needs.{AreNeeds};
 ghost use Rattle.mtrace_replay.specs.Settings.{are_bad};
 ghost use Rattle.mtrace_replay.specs.Fit.{one_pool, greatest_settings, enough_records, is_bad_step, step_of, first_number, last_number, multiples, Verdict, fitted as fitted_by};
 ghost use Rattle.mtrace_replay.specs.RunFit.{IsTried, TriesLog, AreVerdicts, TriesRanges, TellsFit, ReadsAgain, FitFollows, RunsFit};
@@ -17,8 +19,7 @@ use crate::held::line_text::LineText;
 use crate::runs::fit_text::{fitted_text, untried_text};
 use crate::runs::fitted::Fitted;
 use crate::runs::flush::flush_behind;
-use crate::runs::report::Report;
-use crate::runs::run::replay_log;
+use crate::runs::needs::{Needs, NeedsRun, replay_needs};
 use crate::runs::status::{RunFault, Status};
 use crate::runs::watch::Watch;
 use mtrace_log::{Again, Failed, Sink, put_all};
@@ -186,54 +187,54 @@ fn try_sizes<R: Again, T: Watch>(
     Ok(fitted)
 }
 
-/// The text of how large a pool the log of this first replay needs. The log is read again for each size, unless the
+/// The text of how large a pool the log of this first replay needs, with its needs. The log is read again for each size, unless the
 /// greatest pool refuses a line.
 fn fit_text<R: Again, T: Watch>(
     reader: &mut R,
     replay: &mut Replay<Heap>,
+    needs: Needs,
     step: Option<u64>,
     watch: &T,
 ) -> Result<LineText, Failed>
     requires good { is_bad_step step ≡ false }
     requires records { replay.old.content.records ≡ most_records }
     ensures { ReadsAgain replay.old.totals.lines (λ text times. (lines : List ReadLine) → StandsFor replay.old greatest_settings (reverse lines)
-        → TellsFit step lines (R.shown reader.old).whole times text.items) result (R.shown reader.old) (R.shown reader.new) }
+        → AreNeeds (started greatest_settings) (reverse lines) needs → TellsFit step lines (R.shown reader.old).whole times text.items) result (R.shown reader.old) (R.shown reader.new) }
 {
     let totals = replay.totals();
-    let most = replay.most();
     if totals.refused > 0 {
-        return Ok(untried_text(totals, most));
+        return Ok(untried_text(totals, needs.most));
     }
-    let sure = sure_pool(most, replay.most_rounded(), replay.class_size());
+    let sure = sure_pool(needs.most, needs.rounded, needs.class_size);
     let peak = totals.peak_bytes;
     let trial = Trial {
-        records: enough_records(most),
+        records: enough_records(needs.most),
         many: totals.lines,
     };
     let fitted = try_sizes(reader, replay, trial, step_of(step, peak), peak, watch)?;
-    Ok(fitted_text(totals, most, trial.records, fitted, sure))
+    Ok(fitted_text(totals, needs.most, trial.records, fitted, sure))
 }
 
-/// Tells how large a pool the log needs that was replayed on the greatest one. Answers this status.
+/// Tells how large a pool the log needs that was replayed on the greatest one. Answers the status of that run.
 fn tell_fit<R: Again, W: Sink, T: Watch>(
     reader: &mut R,
     writer: &mut W,
-    replay: &mut Replay<Heap>,
+    ended: &mut NeedsRun,
     step: Option<u64>,
-    status: Status,
     watch: &T,
 ) -> Result<Status, RunFault>
     requires good { is_bad_step step ≡ false }
-    requires records { replay.old.content.records ≡ most_records }
-    ensures answer { IfOk result (λ answered. answered ≡ status) }
-    ensures told { (lines : List ReadLine) → StandsFor replay.old greatest_settings (reverse lines)
-        → FitFollows step lines R.shown W.shown result reader.old reader.new writer.old writer.new }
+    requires records { ended.old.replay.replay.content.records ≡ most_records }
+    ensures answer { IfOk result (λ answered. answered ≡ ended.old.status) }
+    ensures told { (lines : List ReadLine) → StandsFor ended.old.replay.replay greatest_settings (reverse lines)
+        → AreNeeds (started greatest_settings) (reverse lines) ended.old.replay.needs → FitFollows step lines R.shown W.shown result reader.old reader.new writer.old writer.new }
 {
-    let Ok(text) = fit_text(reader, replay, step, watch) else {
+    let followed = &mut ended.replay;
+    let Ok(text) = fit_text(reader, &mut followed.replay, followed.needs, step, watch) else {
         return Err(RunFault::Read);
     };
     let put = put_all(writer, text.as_slice());
-    flush_behind(writer, put, status)
+    flush_behind(writer, put, ended.status)
 }
 
 /// Reads a log of mtrace(3), and replays it on the greatest pool with the most records. Writes what is wrong with its
@@ -265,6 +266,6 @@ pub fn run_fit<R: Again, W: Sink, T: Watch>(
     if is_bad_step(step) {
         return Err(RunFault::BadSettings);
     }
-    let mut ended = replay_log(alloc, reader, writer, greatest(), Report::Nothing)?;
-    tell_fit(reader, writer, &mut ended.replay, step, ended.status, watch)
+    let mut ended = replay_needs(alloc, reader, writer, greatest())?;
+    tell_fit(reader, writer, &mut ended, step, watch)
 }

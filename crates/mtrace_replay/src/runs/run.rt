@@ -56,7 +56,7 @@ fn put_end<H: Heaped, W: Sink>(
 }
 
 /// Puts what is wrong at the end and the report, and flushes. Answers the status.
-fn finish<H: Heaped, W: Sink>(
+pub(crate) fn finish<H: Heaped, W: Sink>(
     writer: &mut W,
     replay: &mut Replay<H>,
     has_diagnostics: bool,

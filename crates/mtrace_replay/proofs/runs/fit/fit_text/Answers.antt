@@ -1,12 +1,11 @@
 use Rattle.std.proofs.Common.{◌≡◌, ◌<◌, ℕ, List, ◌++◌, length, sym, ap, ◌∙◌, subst, arith}
-use Rattle.tlsf_heap.specs.Sizing.{sure_pool}
 use Rattle.mtrace_replay.specs.declared.heap.totals.Totals.{Totals}
 use Rattle.mtrace_replay.specs.declared.runs.fitted.Fitted.{Fitted}
 use Rattle.mtrace_replay.specs.Fit.{enough_records, step_of, first_number, fitted}
 use Rattle.mtrace_replay.specs.Texts.{greatest_line, most_line, fitted_lines, untried_lines, refused_line}
 use Rattle.mtrace_replay.specs.RunFit.{TriesRanges, TellsFit, HasBegun}
 use Rattle.mtrace_replay.proofs.TriedLemmas.{nothing_begun}
-use Rattle.mtrace_replay.proofs.FitLemmas.{sure_of, tells_untried, tells_fitted}
+use Rattle.mtrace_replay.proofs.FitLemmas.{tells_untried, tells_fitted}
 use Rattle.mtrace_replay.proofs.runs.fit.fit_text.Goals as goal
 
 pub returns-then-totals-gt0 : goal.returns-then-totals-gt0
@@ -14,15 +13,15 @@ returns-then-totals-gt0 g c = record {
   read = tt;
   tells = (
     0,
-    λ lines stands.
+    λ lines stands are.
         let replay = c.args.replay.now in
+        let needs = c.args.needs in
         let T : List ℕ → Type 0 = λ text. TellsFit c.args.step lines (g.R.Source.shown c.args.reader.now).whole 0 text in
         let some : 0 < c.totals-totals.result.refused = c.if-totals-gt0.true in
         let same = c.untried_text.ensures
-        ∙ ap (λ (totals : Totals). greatest_line totals ++ most_line c.most-most.result ++ untried_lines ++ refused_line totals.refused) c.totals-totals.ensures.totals
-        ∙ ap (λ most. greatest_line replay.totals ++ most_line most ++ untried_lines ++ refused_line replay.totals.refused) c.most-most.ensures in
+        ∙ ap (λ (totals : Totals). greatest_line totals ++ most_line needs.most ++ untried_lines ++ refused_line totals.refused) c.totals-totals.ensures.totals in
         subst T (sym same)
-        (tells_untried c.args.step lines (g.R.Source.shown c.args.reader.now).whole replay stands (omega (arith, some, ap (λ (totals : Totals). totals.refused) c.totals-totals.ensures.totals))),
+        (tells_untried c.args.step lines (g.R.Source.shown c.args.reader.now).whole replay.totals stands.totals needs are (omega (arith, some, ap (λ (totals : Totals). totals.refused) c.totals-totals.ensures.totals))),
     nothing_begun (g.R.Source.shown c.args.reader.now).calls,
   );
 }
@@ -32,31 +31,29 @@ returns g c = record {
   read = tt;
   tells = (
     length c.in_ok-fitted.ensures.tells.1.1.0,
-    λ lines stands.
+    λ lines stands are.
         let replay = c.args.replay.now in
+        let needs = c.args.needs in
         let whole = (g.R.Source.shown c.args.reader.now).whole in
         let tried = c.in_ok-fitted.ensures.tells.1.1 in
         let T : List ℕ → Type 0 = λ text. TellsFit c.args.step lines whole (length tried.0) text in
         let peak_is = ap (λ (totals : Totals). totals.peak_bytes) c.totals-totals.ensures.totals in
-        let records_are : c.enough_records.result ≡ enough_records replay.most = c.enough_records.ensures.value ∙ ap enough_records c.most-most.ensures in
+        let records_are : c.enough_records.result ≡ enough_records needs.most = c.enough_records.ensures.value in
         let step_is : c.step_of.result ≡ step_of c.args.step replay.totals.peak_bytes = c.step_of.ensures.value ∙ ap (step_of c.args.step) peak_is in
         let A : ℕ → ℕ → ℕ → ℕ → Type 0 = λ records many step peak. TriesRanges records many step (first_number step peak) whole tried.0 in
         let lines_are = ap (λ (totals : Totals). totals.lines) c.totals-totals.ensures.totals in
-        let are : A (enough_records replay.most) replay.totals.lines (step_of c.args.step replay.totals.peak_bytes) replay.totals.peak_bytes =
+        let tries : A (enough_records needs.most) replay.totals.lines (step_of c.args.step replay.totals.peak_bytes) replay.totals.peak_bytes =
         subst (λ records. A records replay.totals.lines (step_of c.args.step replay.totals.peak_bytes) replay.totals.peak_bytes) records_are
         (subst (λ many. A c.enough_records.result many (step_of c.args.step replay.totals.peak_bytes) replay.totals.peak_bytes) lines_are
         (subst (λ step. A c.enough_records.result c.totals-totals.result.lines step replay.totals.peak_bytes) step_is
         (subst (λ peak. A c.enough_records.result c.totals-totals.result.lines c.step_of.result peak) peak_is tried.1))) in
-        let sure_is : c.sure_pool-sure.result ≡ sure_of replay = c.sure_pool-sure.ensures ∙ ap (λ most. sure_pool most c.most_rounded.result c.class_size.result) c.most-most.ensures
-        ∙ ap (λ rounded. sure_pool replay.most rounded c.class_size.result) c.most_rounded.ensures ∙ ap (λ size. sure_pool replay.most replay.most_rounded size) c.class_size.ensures in
         let same = c.fitted_text.ensures
-        ∙ ap (λ (totals : Totals). greatest_line totals ++ most_line c.most-most.result ++ fitted_lines c.enough_records.result c.in_ok-fitted.fitted c.sure_pool-sure.result) c.totals-totals.ensures.totals
-        ∙ ap (λ most. greatest_line replay.totals ++ most_line most ++ fitted_lines c.enough_records.result c.in_ok-fitted.fitted c.sure_pool-sure.result) c.most-most.ensures
-        ∙ ap (λ records. greatest_line replay.totals ++ most_line replay.most ++ fitted_lines records c.in_ok-fitted.fitted c.sure_pool-sure.result) records_are
-        ∙ ap (λ (all : Fitted). greatest_line replay.totals ++ most_line replay.most ++ fitted_lines (enough_records replay.most) all c.sure_pool-sure.result) tried.2
-        ∙ ap (λ sure. greatest_line replay.totals ++ most_line replay.most ++ fitted_lines (enough_records replay.most) (fitted tried.0) sure) sure_is in
+        ∙ ap (λ (totals : Totals). greatest_line totals ++ most_line needs.most ++ fitted_lines c.enough_records.result c.in_ok-fitted.fitted c.sure_pool-sure.result) c.totals-totals.ensures.totals
+        ∙ ap (λ records. greatest_line replay.totals ++ most_line needs.most ++ fitted_lines records c.in_ok-fitted.fitted c.sure_pool-sure.result) records_are
+        ∙ ap (λ (all : Fitted). greatest_line replay.totals ++ most_line needs.most ++ fitted_lines (enough_records needs.most) all c.sure_pool-sure.result) tried.2
+        ∙ ap (λ sure. greatest_line replay.totals ++ most_line needs.most ++ fitted_lines (enough_records needs.most) (fitted tried.0) sure) c.sure_pool-sure.ensures in
         subst T (sym same)
-        (tells_fitted c.args.step lines whole replay stands (omega (arith, c.if-totals-gt0.false, ap (λ (totals : Totals). totals.refused) c.totals-totals.ensures.totals)) tried.0 are),
+        (tells_fitted c.args.step lines whole replay.totals stands.totals needs are (omega (arith, c.if-totals-gt0.false, ap (λ (totals : Totals). totals.refused) c.totals-totals.ensures.totals)) tried.0 tries),
     (let told = c.in_ok-fitted.ensures.tells in
         let same : told.0 ≡ length told.1.1.0 = told.1.0 ∙ ap (λ (f : Fitted). f.tried) told.1.1.2 in
         subst (λ times. HasBegun times (g.R.Source.shown c.args.reader.now).calls (g.R.Source.shown c.try_sizes.new.reader).calls) same told.2),

@@ -1,11 +1,12 @@
-use Rattle.std.proofs.Common.{◌≡◌, Bool, true, false, refl, sym, ◌∙◌, subst, inl, inr, ◌⊎◌}
+use Rattle.std.proofs.Common.{◌≡◌, Bool, true, false, sym, ◌∙◌, subst, inl, inr, ◌⊎◌}
 use Rattle.std.specs.Prelude.{Result, Ok, Err, IfErr, IsErrOf, IsTrue}
 use Rattle.mtrace_replay.specs.declared.runs.report.Report.TheVariants.{Nothing}
 use Rattle.mtrace_replay.specs.declared.heap.settings.Settings.{Settings}
 use Rattle.mtrace_replay.specs.declared.runs.status.Status.{Status}
 use Rattle.mtrace_replay.specs.declared.runs.status.RunFault.{RunFault}
 use Rattle.mtrace_replay.specs.declared.runs.status.RunFault.TheVariants.{Read, Write, BadSettings}
-use Rattle.mtrace_replay.specs.Run.{Runs, EndsAt}
+use Rattle.mtrace_replay.specs.Run.{Runs}
+use Rattle.mtrace_replay.specs.Needs.{EndsWithNeeds}
 use Rattle.mtrace_replay.proofs.runs.fit.run_fit.Goals as goal
 
 not_bad : (bad : Bool) → bad ≡ false → IsTrue bad → ⊥
@@ -22,19 +23,19 @@ returns g c =
     let reads = g.R.Source.shown in
     let writes = g.W.Sink.shown in
     let ended = c.in_ok-ended.ended in
-    let E : Settings → Type 0 = λ settings. EndsAt settings ended.status ended.replay (reads c.args.reader.now) (reads c.replay_log.new.reader) (writes c.args.writer.now) (writes c.replay_log.new.writer) in
-    let R : Settings → Type 0 = λ settings. Runs Nothing settings reads writes (Ok ended.status) c.args.reader.now c.replay_log.new.reader c.args.writer.now c.replay_log.new.writer in
-    let last = subst E c.greatest.ensures (c.in_ok-ended.ensures.last refl) in
+    let E : Settings → Type 0 = λ settings. EndsWithNeeds settings ended.status ended.replay (reads c.args.reader.now) (reads c.replay_needs.new.reader) (writes c.args.writer.now) (writes c.replay_needs.new.writer) in
+    let R : Settings → Type 0 = λ settings. Runs Nothing settings reads writes (Ok ended.status) c.args.reader.now c.replay_needs.new.reader c.args.writer.now c.replay_needs.new.writer in
+    let last = subst E c.greatest.ensures c.in_ok-ended.ensures.last in
     let ran = subst R c.greatest.ensures c.in_ok-ended.ensures.ran in
-    let follow = c.tell_fit.ensures.told last.reports.lines last.stands in
+    let follow = c.tell_fit.ensures.told last.ends.reports.lines last.ends.stands last.needs in
     record {
       bad_step = ((λ is. absurd (no_bad_settings c.tell_fit.result follow.1.faults is)), (λ bad. absurd (not_bad _ (sym c.is_bad_step.ensures ∙ c.if-is_bad_step.false) bad)));
       nothing_done = λ is. absurd (no_bad_settings c.tell_fit.result follow.1.faults is);
       runs = λ good. record {
         run = Ok ended.status;
-        reader_middle = c.replay_log.new.reader;
-        writer_middle = c.replay_log.new.writer;
+        reader_middle = c.replay_needs.new.reader;
+        writer_middle = c.replay_needs.new.writer;
         runs = ran;
-        goes_on = record { reports = last.reports; answer = c.tell_fit.ensures.answer; follow = follow };
+        goes_on = record { reports = last.ends.reports; answer = c.tell_fit.ensures.answer; follow = follow };
       };
     }

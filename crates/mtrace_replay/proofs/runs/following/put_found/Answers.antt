@@ -1,5 +1,5 @@
 -- Where nothing is wrong nothing is put.
-use Rattle.std.proofs.Common.{[], List, sym, subst, ap, ◌∙◌}
+use Rattle.std.proofs.Common.{List, sym, subst, ap, ◌∙◌}
 use Rattle.mtrace_log.specs.Output.{Wrote}
 use Rattle.mtrace_log.specs.declared.call.Call.TheVariants.{Took}
 use Rattle.mtrace_log.proofs.TraceLemmas.{moved_none}

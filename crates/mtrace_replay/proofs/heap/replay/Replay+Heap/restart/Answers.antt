@@ -2,7 +2,7 @@ use Rattle.std.proofs.Common.{List, [], length, refl, sym, subst, ap, ◌∙◌,
 use Rattle.mtrace_replay.specs.Moment.{Given, Moment}
 use Rattle.mtrace_replay.specs.History.{AreHeld, content_after}
 use Rattle.mtrace_replay.specs.Started.{Bare, started}
-use Rattle.mtrace_replay.specs.Totals.{blocks_in, rounded_bytes_in, AreTotals, IsMost}
+use Rattle.mtrace_replay.specs.Totals.{AreTotals}
 use Rattle.mtrace_replay.specs.declared.heap.totals.Totals.{Totals}
 use Rattle.mtrace_replay.specs.Holding.{Holding}
 use Rattle.mtrace_replay.specs.Index.{Indexed}
@@ -11,7 +11,6 @@ use Rattle.mtrace_replay.proofs.Moments.{moments-none}
 use Rattle.mtrace_replay.proofs.FoundLemmas.{none_held}
 use Rattle.mtrace_replay.proofs.HeldStayLive.{none_live}
 use Rattle.mtrace_replay.proofs.StartLemmas.{started_records, started_room}
-use Rattle.mtrace_replay.proofs.TotalsLemmas.{most_none}
 use Rattle.mtrace_replay.proofs.OneLineMore.{all_zero, totals_none}
 use Rattle.mtrace_replay.proofs.heap.replay.Replay+Heap.restart.Goals as goal
 
@@ -45,9 +44,6 @@ returns-clause-made c =
       content_is = c.restart_heap.ensures ∙ ap (content_after start) (sym none);
       held = subst (P (all_given c.restart.new.self.all)) (sym none) (subst (λ (all : List Holding). P (all_given all) []) (sym (ap (λ (index : Indexed). index.all) c.restart.ensures)) none_held);
       totals = subst (λ past. T past fresh.result) (sym none) (subst (T []) (sym (all_zero _ fresh.ensures)) (totals_none c.args.settings));
-      most = subst (λ past. IsMost blocks_in past 0) (sym none) (0, most_none blocks_in refl);
-      rounded = subst (λ past. IsMost rounded_bytes_in past 0) (sym none) (0, most_none rounded_bytes_in refl);
-      class = refl;
     }
 
 pub returns-clause-records : goal.returns-clause-records

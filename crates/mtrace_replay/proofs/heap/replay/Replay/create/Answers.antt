@@ -2,7 +2,7 @@ use Rattle.std.proofs.Common.{List, [], length, refl, sym, subst, ap, ◌∙◌,
 use Rattle.mtrace_replay.specs.Moment.{Given, Moment}
 use Rattle.mtrace_replay.specs.History.{AreHeld, content_after}
 use Rattle.mtrace_replay.specs.Started.{Bare, started}
-use Rattle.mtrace_replay.specs.Totals.{blocks_in, rounded_bytes_in, AreTotals, IsMost}
+use Rattle.mtrace_replay.specs.Totals.{AreTotals}
 use Rattle.mtrace_replay.specs.declared.heap.totals.Totals.{Totals}
 use Rattle.mtrace_replay.specs.Index.{Indexed}
 use Rattle.mtrace_replay.specs.Step.{all_given, AreLive}
@@ -10,7 +10,6 @@ use Rattle.mtrace_replay.proofs.Moments.{moments-none}
 use Rattle.mtrace_replay.proofs.FoundLemmas.{none_held}
 use Rattle.mtrace_replay.proofs.HeldStayLive.{none_live}
 use Rattle.mtrace_replay.proofs.StartLemmas.{started_records, started_room}
-use Rattle.mtrace_replay.proofs.TotalsLemmas.{most_none}
 use Rattle.mtrace_replay.proofs.OneLineMore.{all_zero, totals_none}
 use Rattle.mtrace_replay.proofs.heap.replay.Replay.create.Goals as goal
 
@@ -43,9 +42,6 @@ returns-clause-made g c =
       content_is = c.in-Ok.ensures ∙ ap (content_after start) (sym none);
       held = subst (P (all_given c.in-Ok-new.held.all)) (sym none) (subst (λ (index : Indexed). P (all_given index.all) []) (sym c.in-Ok-new.ensures) none_held);
       totals = subst (λ past. T past c.default.result) (sym none) (subst (T []) (sym (all_zero _ c.default.ensures)) (totals_none c.args.settings));
-      most = subst (λ past. IsMost blocks_in past 0) (sym none) (0, most_none blocks_in refl);
-      rounded = subst (λ past. IsMost rounded_bytes_in past 0) (sym none) (0, most_none rounded_bytes_in refl);
-      class = refl;
     }
 
 pub returns-clause-records : goal.returns-clause-records

@@ -6,12 +6,10 @@ use Rattle.tlsf_heap.specs.Bare.{bare}
 use Rattle.mtrace_replay.specs.declared.held.diagnostic.Diagnostic.{Diagnostic}
 use Rattle.mtrace_replay.specs.declared.heap.settings.Settings.{Settings}
 use Rattle.mtrace_replay.specs.Moment.{ReadLine}
-use Rattle.std.specs.Prelude.{if◌then◌else◌}
-use Rattle.mtrace_replay.specs.Asked.{class_asked, greater_class}
 use Rattle.mtrace_replay.specs.Replay.{Replayed, StandsFor, added_diagnostics}
 use Rattle.mtrace_replay.specs.Step.{given_of, all_given, found}
 use Rattle.mtrace_replay.specs.Totals.{is_refusal}
-use Rattle.mtrace_replay.proofs.FoundLemmas.{addresses_given, sizes_given, rounded_given}
+use Rattle.mtrace_replay.proofs.FoundLemmas.{addresses_given, sizes_given}
 use Rattle.mtrace_replay.proofs.DiagnosticLemmas.{diagnostics_few}
 use Rattle.mtrace_replay.proofs.HeldFew.{held_few}
 use Rattle.mtrace_replay.proofs.OneLineMore.{served_within, refused_within, stands_for_line, diagnostics_of_line}
@@ -52,9 +50,6 @@ returns-in-Ok g c =
       comparisons = c.outcome.new.held.comparisons;
       given = all_given holdings;
       totals = c.after-self-inside.result;
-      most = c.max-self-inside.result;
-      most_rounded = c.max-self-inside-in-Ok.result;
-      class_size = c.greatest-self-inside.result;
       pending = c.old_address-next.result;
       out_of_memory = c.self.inside.out_of_memory;
     } in
@@ -74,10 +69,7 @@ returns-in-Ok g c =
           heap holdings c.keeps_good.ensures.good c.in-Ok.ensures.live refl refl
           (subst IsStrictlyIncreasing (sym (addresses_given holdings)) c.keeps_order.ensures) c.old_address-next.ensures c.if-self.false
           c.bytes-bytes.result c.len-blocks.result c.has_refusal-is_refused.result c.after-self-inside.ensures
-          (c.bytes-bytes.ensures ∙ sizes_given holdings) (c.len-blocks.ensures.len ∙ sym (length-map holdings given_of)) c.max-self-inside.ensures
-          c.rounded-rounded.result (c.rounded-rounded.ensures ∙ rounded_given holdings) c.max-self-inside-in-Ok.ensures
-          (c.greatest-self-inside.ensures ∙ ap (λ size. if c.is_some.result then greater_class c.self.inside.class_size size else c.self.inside.class_size) c.of-asked.ensures
-          ∙ ap (λ served. if served then greater_class c.self.inside.class_size (class_asked event) else c.self.inside.class_size) c.is_some.ensures)
+          (c.bytes-bytes.ensures ∙ sizes_given holdings) (c.len-blocks.ensures.len ∙ sym (length-map holdings given_of))
           (c.has_refusal-is_refused.ensures ∙ ap (λ (all : List Diagnostic). list_any (λ (diagnostic : Diagnostic). is_refusal diagnostic.kind) all) (told stands)))
           c.requires.next (diagnostics settings past);
       diagnostics = diagnostics;

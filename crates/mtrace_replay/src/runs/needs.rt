@@ -1,0 +1,134 @@
+//! What a log needs of a pool, gathered beside its replay.
+
+ghost use Rattle.std.specs.Prelude.{◌≡◌, max, nat_lt, IfOk, Some, if◌then◌else◌};
+ghost use Rattle.tlsf_class.specs.Classes.{unit};
+ghost use Rattle.tlsf_heap.specs.Sizing.{class_size};
+ghost use Rattle.mtrace_replay.specs.Moment.{asked_size};
+ghost use Rattle.mtrace_replay.specs.Asked.{greater_class};
+ghost use Rattle.mtrace_replay.specs.Run.{Runs};
+ghost use Rattle.mtrace_replay.specs.Needs.{status_with, EndsWithNeeds};
+
+use crate::heap::asked::Asked;
+use crate::heap::replay::{Replay, ReplayFault};
+use crate::heap::settings::Settings;
+use crate::heap::totals::Totals;
+use crate::held::findings::Findings;
+use crate::runs::following::{Stop, follow_lines};
+use crate::runs::line_replay::LineReplay;
+use crate::runs::report::Report;
+use crate::runs::run::finish;
+use crate::runs::status::{RunFault, Status};
+use mtrace_log::{Event, LentLocation, LineFault, Sink, Source};
+use std::alloc::{AllocError, Global};
+use tlsf_heap::Heap;
+
+/// What lines need of a pool.
+#[derive(Clone, Copy)]
+pub(crate) struct Needs {
+    /// The most addresses that were held after any line.
+    pub(crate) most: u64,
+    /// The most bytes that the blocks held had after any line.
+    pub(crate) rounded: u64,
+    /// The greatest class size that a served line asked for, in bytes. `None` where a class is missing.
+    pub(crate) class_size: Option<u32>,
+}
+
+impl Needs {
+    /// What no line needs.
+    fn none() -> Needs
+        ensures { result ≡ record { most = 0; rounded = 0; class_size = Some unit } }
+    {
+        Needs {
+            most: 0,
+            rounded: 0,
+            class_size: Some(tlsf_class::UNIT),
+        }
+    }
+
+    /// What is needed with one line more, which asks for this, by the sums before and after it.
+    fn after(self, asked: Asked, old: Totals, new: Totals, rounded: u64) -> Needs
+        ensures most { result.most ≡ max self.most new.live_blocks }
+        ensures rounded { result.rounded ≡ max self.rounded rounded }
+        ensures class { result.class_size ≡ (if nat_lt old.served new.served then greater_class self.class_size (class_size asked.align (asked_size asked.size)) else self.class_size) }
+    {
+        Needs {
+            most: self.most.max(new.live_blocks),
+            rounded: self.rounded.max(rounded),
+            class_size: asked.greatest(self.class_size, new.served > old.served),
+        }
+    }
+}
+
+/// A replay on a heap, with what its lines need.
+#[derive(Drop)]
+pub(crate) struct NeedsReplay {
+    pub(crate) replay: Replay<Heap>,
+    pub(crate) needs: Needs,
+}
+
+impl LineReplay for NeedsReplay {
+    ghost use Rattle.mtrace_replay.specs.Needs.{needs_rules};
+
+    ghost rules = { needs_rules };
+
+    #[inline(always)]
+    fn take_line(
+        &mut self,
+        number: u64,
+        event: Result<Event<LentLocation<'_>>, LineFault>,
+        findings: &mut Findings,
+    ) -> Result<(), AllocError> {
+        let asked = Asked::of(&event);
+        let old = self.replay.totals();
+        self.replay.take_line(number, event, findings)?;
+        let rounded = self.replay.rounded();
+        self.needs = self.needs.after(asked, old, self.replay.totals(), rounded);
+        Ok(())
+    }
+}
+
+/// A run that read its log to the end: its status, and then the replay with what the log needs.
+#[derive(Drop)]
+pub(crate) struct NeedsRun {
+    pub(crate) status: Status,
+    pub(crate) replay: NeedsReplay,
+}
+
+/// Reads and replays a log on a heap by the settings, and gathers what it needs. Writes what is wrong with its lines.
+pub(crate) fn replay_needs<R: Source, W: Sink>(
+    alloc: Global,
+    reader: &mut R,
+    writer: &mut W,
+    settings: Settings,
+) -> Result<NeedsRun, RunFault>
+    ensures ran { Runs Report.Nothing settings R.shown W.shown (status_with result) reader.old reader.new writer.old writer.new }
+    ensures last { IfOk result (λ ended. EndsWithNeeds settings ended.status ended.replay
+        (R.shown reader.old) (R.shown reader.new) (W.shown writer.old) (W.shown writer.new)) }
+{
+    let replay = match Replay::<Heap>::create(alloc, settings) {
+        Ok(replay) => replay,
+        Err(ReplayFault::BadSettings) => return Err(RunFault::BadSettings),
+        Err(ReplayFault::OutOfMemory) => return Err(RunFault::OutOfMemory),
+    };
+    let mut replay = NeedsReplay {
+        replay,
+        needs: Needs::none(),
+    };
+    match follow_lines(reader, writer, &mut replay) {
+        Ok(has_diagnostics) => match finish(
+            writer,
+            &mut replay.replay,
+            has_diagnostics,
+            Report::Nothing,
+        ) {
+            Ok(status) => Ok(NeedsRun { status, replay }),
+            Err(_) => Err(RunFault::Write),
+        },
+        Err(Stop::Writer) => Err(RunFault::Write),
+        Err(Stop::Memory) => unreachable!(),
+        Err(Stop::Reader) => {
+            let _ = writer.flush();
+            Err(RunFault::Read)
+        }
+    }
+}
