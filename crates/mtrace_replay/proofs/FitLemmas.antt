@@ -165,14 +165,14 @@ no_range step now first times is few =
 
 -- the pool that is always enough, by what a log needs
 abbrev pub sure_of : Needs → Option ℕ
-sure_of needs = sure_pool needs.most needs.rounded needs.class_size
+sure_of needs = sure_pool needs.most needs.most_rounded needs.class_size
 
 module _ (step : Option ℕ) (lines : List ReadLine) (whole : Bytes) (totals : Totals) (summed : AreTotals (started greatest_settings) (history greatest_settings lines) totals)
     (needs : Needs) (are : AreNeeds (started greatest_settings) (reverse lines) needs) where
   -- what is told of the sizes, by how many lines the greatest pool refuses
   abbrev Tells : (refused times : ℕ) → List ℕ → Type 0
   Tells refused times text = TellsSizes refused (step_of step totals.peak_bytes) totals.peak_bytes needs.most totals.lines
-      (sure_pool needs.most needs.rounded (greatest_class (started greatest_settings) (reverse lines))) whole times text
+      (sure_pool needs.most needs.most_rounded (greatest_class (started greatest_settings) (reverse lines))) whole times text
 
   told : (times : ℕ) (rest : List ℕ) → Tells totals.refused times rest → TellsFit step lines whole times (greatest_line totals ++ most_line needs.most ++ rest)
   told times rest tells = record {
@@ -180,8 +180,8 @@ module _ (step : Option ℕ) (lines : List ReadLine) (whole : Bytes) (totals : T
     summed = summed;
     most = needs.most;
     is_most = are.most;
-    rounded = needs.rounded;
-    is_rounded = are.rounded;
+    rounded = needs.most_rounded;
+    is_rounded = are.most_rounded;
     rest = rest;
     tells = tells;
     text_is = refl;
@@ -203,4 +203,4 @@ module _ (step : Option ℕ) (lines : List ReadLine) (whole : Bytes) (totals : T
   tells_fitted none verdicts tries =
       let text : Option ℕ → List ℕ = fitted_lines (enough_records needs.most) (fitted verdicts) in
       told (length verdicts) (text (sure_of needs)) (subst (λ refused. Tells refused (length verdicts) (text (sure_of needs))) (sym none)
-      (verdicts, tries, refl, ap (λ class. text (sure_pool needs.most needs.rounded class)) are.class))
+      (verdicts, tries, refl, ap (λ class. text (sure_pool needs.most needs.most_rounded class)) are.class))

@@ -5,9 +5,8 @@ use Rattle.std.specs.List.Sorted.{IsStrictlyIncreasing}
 use Rattle.std.proofs.lemmas.Bool.{cases_Bool, eqb-true}
 use Rattle.std.proofs.lemmas.Map.Keys.{sorted_from_strictly_increasing}
 use Rattle.mtrace_replay.specs.Holding.{Holding}
-use Rattle.mtrace_replay.specs.Moment.{Given, Moment, rounded_bytes}
-use Rattle.mtrace_replay.specs.Totals.{rounded_bytes_in}
-use Rattle.mtrace_replay.specs.Index.{addresses as holding_addresses, held_bytes, held_rounded}
+use Rattle.mtrace_replay.specs.Moment.{Given, Moment}
+use Rattle.mtrace_replay.specs.Index.{addresses as holding_addresses, held_bytes}
 use Rattle.mtrace_replay.specs.Texts.{total_size}
 use Rattle.mtrace_replay.specs.Entry.{Entry}
 use Rattle.std.proofs.lemmas.List.Sums.{sum_by-cons}
@@ -82,7 +81,3 @@ sizes_given [] = refl
 sizes_given (holding ∷ holdings) =
     sum_by-cons (λ (h : Holding). h.entry.size) holding holdings ∙ ap (λ rest. holding.entry.size + rest) (sizes_given holdings)
     ∙ sym (sum_by-cons (λ (entry : Entry). entry.size) holding.entry (entries_of (all_given holdings)))
-
-pub rounded_given : (holdings : List Holding) → held_rounded holdings ≡ rounded_bytes_in (all_given holdings)
-rounded_given [] = refl
-rounded_given (holding ∷ holdings) = sum_by-cons (λ (h : Holding). rounded_bytes h.entry.size) holding holdings ∙ ap (λ rest. rounded_bytes holding.entry.size + rest) (rounded_given holdings)

@@ -1,14 +1,16 @@
--- How a list in order of address, and a count of it, change by one address.
+-- How a list in order of address, and a sum over it, change by one address.
 use Rattle.std.proofs.Common.{cond, Bool, true, false, Option, Some, None, ◌≡◌, ℕ, ◌+◌, ◌<◌, List, [], ◌∷◌, refl, sym, ap, ◌∙◌, arith, Less}
-use Rattle.std.specs.Prelude.{◌==◌, nat_lt, count_by, if◌then◌else◌}
+use Rattle.std.specs.Prelude.{◌==◌, nat_lt, sum_by, count_by, if◌then◌else◌}
 use Rattle.std.specs.List.{AllByRecursion}
 use Rattle.std.specs.List.Sorted.{IsStrictlySortedBy}
 use Rattle.std.specs.Ordering.{nat_cmp}
 use Rattle.std.proofs.lemmas.Bool.{eqb-true, cond-false}
 use Rattle.std.proofs.lemmas.Bool.Decides.{nat_tests}
-use Rattle.tlsf_heap.proofs.Counts.{count-cons}
+use Rattle.std.proofs.lemmas.List.Sums.{sum_by-cons}
 use Rattle.mtrace_replay.specs.Moment.{Given}
+use Rattle.mtrace_replay.specs.History.{unless_taken}
 use Rattle.mtrace_replay.specs.Step.{found}
+use Rattle.mtrace_replay.specs.Needs.{of_one}
 use Rattle.mtrace_replay.proofs.SortedLemmas.{addresses}
 
 -- the addresses rise
@@ -24,11 +26,6 @@ put given (first ∷ rest) = if nat_lt first.entry.addr given.entry.addr then fi
 abbrev pub without : ℕ → List Given → List Given
 without address [] = []
 without address (first ∷ rest) = if first.entry.addr == address then rest else first ∷ without address rest
-
--- one where a block passes, else 0
-abbrev pub one_if : (Given → Bool) → Option Given → ℕ
-one_if p None = 0
-one_if p (Some given) = if p given then 1 else 0
 
 pub found-put : (e : Given) (es : List Given) (a : ℕ) → found (put e es) a ≡ cond (e.entry.addr == a) (Some e) (found es a)
 found-put e [] a = refl
@@ -78,21 +75,31 @@ rise-put e (f ∷ fs) sorted apart = by_order (rise-put e fs sorted.1 (not_first
         let less : e.entry.addr < f.entry.addr = grind (arith, nat_tests) in
         ((grind (arith, nat_tests), all_above e.entry.addr f.entry.addr less (addresses fs) sorted.0), sorted)
 
-pub count-put : (p : Given → Bool) (e : Given) (es : List Given) → count_by p (put e es) ≡ one_if p (Some e) + count_by p es
-count-put p e [] = count-cons p e []
-count-put p e (f ∷ fs) = by_order (count-put p e fs) (nat_lt f.entry.addr e.entry.addr)
+pub sum-put : (m : Given → ℕ) (e : Given) (es : List Given) → sum_by m (put e es) ≡ m e + sum_by m es
+sum-put m e [] = sum_by-cons m e []
+sum-put m e (f ∷ fs) = by_order (sum-put m e fs) (nat_lt f.entry.addr e.entry.addr)
   where
-    by_order : count_by p (put e fs) ≡ one_if p (Some e) + count_by p fs → (b : Bool) → count_by p (cond b (f ∷ put e fs) (e ∷ (f ∷ fs))) ≡ one_if p (Some e) + count_by p (f ∷ fs)
-    by_order later false = count-cons p e (f ∷ fs)
-    by_order later true = let first = count-cons p f (put e fs) in let rest = count-cons p f fs in omega (arith, later, first, rest)
+    by_order : sum_by m (put e fs) ≡ m e + sum_by m fs → (b : Bool) → sum_by m (cond b (f ∷ put e fs) (e ∷ (f ∷ fs))) ≡ m e + sum_by m (f ∷ fs)
+    by_order later false = sum_by-cons m e (f ∷ fs)
+    by_order later true = let first = sum_by-cons m f (put e fs) in let rest = sum_by-cons m f fs in omega (arith, later, first, rest)
+
+pub sum-without : (m : Given → ℕ) (a : ℕ) (es : List Given) → sum_by m es ≡ of_one m (found es a) + sum_by m (without a es)
+sum-without m a [] = refl
+sum-without m a (f ∷ fs) = by_first (sum-without m a fs) (f.entry.addr == a)
+  where
+    by_first : sum_by m fs ≡ of_one m (found fs a) + sum_by m (without a fs) → (b : Bool) → sum_by m (f ∷ fs) ≡ of_one m (cond b (Some f) (found fs a)) + sum_by m (cond b fs (f ∷ without a fs))
+    by_first later true = sum_by-cons m f fs
+    by_first later false = let first = sum_by-cons m f fs in let rest = sum_by-cons m f (without a fs) in omega (arith, later, first, rest)
+
+-- one where a block passes, else 0
+abbrev pub one_if : (Given → Bool) → Option Given → ℕ
+one_if p held = of_one (λ given. if p given then 1 else 0) held
+
+pub count-put : (p : Given → Bool) (e : Given) (es : List Given) → count_by p (put e es) ≡ one_if p (Some e) + count_by p es
+count-put p e es = sum-put (λ given. if p given then 1 else 0) e es
 
 pub count-without : (p : Given → Bool) (a : ℕ) (es : List Given) → count_by p es ≡ one_if p (found es a) + count_by p (without a es)
-count-without p a [] = refl
-count-without p a (f ∷ fs) = by_first (count-without p a fs) (f.entry.addr == a)
-  where
-    by_first : count_by p fs ≡ one_if p (found fs a) + count_by p (without a fs) → (b : Bool) → count_by p (f ∷ fs) ≡ one_if p (cond b (Some f) (found fs a)) + count_by p (cond b fs (f ∷ without a fs))
-    by_first later true = count-cons p f fs
-    by_first later false = let first = count-cons p f fs in let rest = count-cons p f (without a fs) in omega (arith, later, first, rest)
+count-without p a es = sum-without (λ given. if p given then 1 else 0) a es
 
 all-without : (P : ℕ → Type 0) (a : ℕ) (es : List Given) → AllByRecursion P (addresses es) → AllByRecursion P (addresses (without a es))
 all-without P a [] all = tt
@@ -145,3 +152,21 @@ found-without a (f ∷ fs) sorted q = by_first (found-without a fs sorted.1 q) (
     by_first : (found (without a fs) q ≡ cond (a == q) None (found fs q)) → (b : Bool) → (f.entry.addr == a) ≡ b → found (cond b fs (f ∷ without a fs)) q ≡ cond (a == q) None (found (f ∷ fs) q)
     by_first later true is = apart is (a == q) refl
     by_first later false is = later_on later is (f.entry.addr == q) refl
+
+-- what was held before, but for what was released
+abbrev pub rest_of : Option ℕ → List Given → List Given
+rest_of None all = all
+rest_of (Some address) all = without address all
+
+-- and then perhaps one more
+abbrev pub with_given : Option Given → List Given → List Given
+with_given None all = all
+with_given (Some given) all = put given all
+
+pub rise-rest : (address : Option ℕ) (all : List Given) → Rise all → Rise (rest_of address all)
+rise-rest None all rise = rise
+rise-rest (Some address) all rise = rise-without address all rise
+
+pub found-rest : (address : Option ℕ) (all : List Given) → Rise all → (q : ℕ) → found (rest_of address all) q ≡ unless_taken address q (found all q)
+found-rest None all rise q = refl
+found-rest (Some address) all rise q = found-without address all rise q

@@ -15,10 +15,11 @@ use Rattle.mtrace_replay.specs.Holding.{Holding}
 use Rattle.tlsf_class.specs.Classes.{greatest_size}
 use Rattle.tlsf_class.specs.Rounding.{round}
 use Rattle.tlsf_class.proofs.RoundingLaws.{round-Some}
-use Rattle.mtrace_replay.specs.Moment.{asked_size, rounded_bytes}
+use Rattle.mtrace_replay.specs.Moment.{Given, asked_size, rounded_bytes}
+use Rattle.mtrace_replay.specs.Totals.{rounded_bytes_in}
 use Rattle.tlsf_heap.specs.Pools.{most_records}
 use Rattle.std.proofs.lemmas.List.Sums.{sum_by-cons}
-use Rattle.mtrace_replay.specs.Index.{AreInOrder, held_at, held_bytes, held_rounded}
+use Rattle.mtrace_replay.specs.Index.{AreInOrder, held_at, held_bytes}
 use Rattle.mtrace_replay.specs.Step.{AreLive}
 use Rattle.mtrace_replay.proofs.SortedLemmas.{AreSorted, first_or_rest, has_first, has_more, above, sorted_rest, is_found}
 
@@ -145,8 +146,6 @@ rounded_small size = of (round (asked_size size)) refl
     of None is = omega arith
     of (Some bytes) is = (round-Some (asked_size size) bytes is).within
 
-pub rounded_few : (holdings : List Holding) → held_rounded holdings ≤ greatest_size * length holdings
+pub rounded_few : (all : List Given) → rounded_bytes_in all ≤ greatest_size * length all
 rounded_few [] = omega arith
-rounded_few (first ∷ rest) =
-    let sum = sum_by-cons (λ (holding : Holding). rounded_bytes holding.entry.size) first rest in
-    omega (arith, rounded_small first.entry.size, rounded_few rest, sum)
+rounded_few (first ∷ rest) = omega (arith, rounded_small first.entry.size, rounded_few rest)

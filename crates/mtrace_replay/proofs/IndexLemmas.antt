@@ -17,8 +17,7 @@ use Rattle.mtrace_replay.specs.Keys.{Rows, row_at, HasRow, Kept, KeepsRows, Sets
 use Rattle.mtrace_replay.specs.Key.{no_row, held_under, holding_of, all_held, IsRow, HaveRows, least_behind, RiseFrom, AreAbove}
 use Rattle.mtrace_replay.specs.Search.{StandsAt, FitsAt, IsVacantAt, AreOthers}
 use Rattle.mtrace_replay.specs.declared.heap.index.LookUp.{LookUp}
-use Rattle.mtrace_replay.specs.Moment.{rounded_bytes}
-use Rattle.mtrace_replay.specs.Index.{addresses, held_at, held_bytes, held_rounded, AreInOrder, IsNewSlot, Indexed, IsFound, IsIndex}
+use Rattle.mtrace_replay.specs.Index.{addresses, held_at, held_bytes, AreInOrder, IsNewSlot, Indexed, IsFound, IsIndex}
 use Rattle.mtrace_replay.proofs.KeyLemmas.{above_all, fits_there, rise_remove, rise_insert, all_remove, all_insert, all_there}
 use Rattle.mtrace_replay.specs.Arrange.{held_keys}
 use Rattle.mtrace_replay.proofs.ArrangeLemmas.{alone_held, alone_rows, rows_of_alone}
@@ -349,17 +348,16 @@ module _ (kept now : Kept) (address : ℕ) (was is : Option Holding) (puts : Put
   pub puts_sum : (f : Holding → ℕ) → sum_by f (all_held now.rows now.keys) + sum_by f (option_to_list was) ≡ sum_by f (all_held kept.rows kept.keys) + sum_by f (option_to_list is)
   puts_sum = changes_sum address was is (all_held kept.rows kept.keys) (all_held now.rows now.keys) puts.changes
 
-  pub puts_keeps : (blocks bytes rounded new_blocks new_bytes new_rounded : ℕ) → IsIndex kept blocks bytes rounded → length now.keys ≤ now.rows.room → now.rows.room ≡ kept.rows.room
+  pub puts_keeps : (blocks bytes new_blocks new_bytes : ℕ) → IsIndex kept blocks bytes → length now.keys ≤ now.rows.room → now.rows.room ≡ kept.rows.room
       → new_blocks + length (option_to_list was) ≡ blocks + length (option_to_list is) → new_bytes + held_bytes (option_to_list was) ≡ bytes + held_bytes (option_to_list is)
-      → new_rounded + held_rounded (option_to_list was) ≡ rounded + held_rounded (option_to_list is) → IsIndex now new_blocks new_bytes new_rounded
-  puts_keeps blocks bytes rounded new_blocks new_bytes new_rounded index within room blocks_are bytes_are rounded_are = record {
+      → IsIndex now new_blocks new_bytes
+  puts_keeps blocks bytes new_blocks new_bytes index within room blocks_are bytes_are = record {
     rise = puts.rise;
     rows = puts.rows;
     within = within;
     few = omega (arith, room, index.few);
     blocks_are = omega (arith, blocks_are, index.blocks_are, puts_count);
     bytes_are = omega (arith, bytes_are, index.bytes_are, puts_sum (λ (held : Holding). held.entry.size));
-    rounded_are = omega (arith, rounded_are, index.rounded_are, puts_sum (λ (held : Holding). rounded_bytes held.entry.size));
   }
 
 -- the same keys are held, among other vacant ones
@@ -370,15 +368,14 @@ module _ (kept now : Kept) (have : HaveRows kept.rows kept.keys) (alone : held_k
   pub arranged_held : all_held now.rows now.keys ≡ all_held kept.rows kept.keys
   arranged_held = same_held kept.rows now.rows now.keys same ∙ sym (alone_held kept.rows now.keys) ∙ ap (all_held kept.rows) alone ∙ alone_held kept.rows kept.keys
 
-  pub arranged_keeps : (blocks bytes rounded : ℕ) → IsIndex kept blocks bytes rounded → RiseFrom 0 now.keys → length now.keys ≤ now.rows.room → now.rows.room ≡ kept.rows.room → IsIndex now blocks bytes rounded
-  arranged_keeps blocks bytes rounded index rise within room = record {
+  pub arranged_keeps : (blocks bytes : ℕ) → IsIndex kept blocks bytes → RiseFrom 0 now.keys → length now.keys ≤ now.rows.room → now.rows.room ≡ kept.rows.room → IsIndex now blocks bytes
+  arranged_keeps blocks bytes index rise within room = record {
     rise = rise;
     rows = rows_there kept.rows now.rows now.keys same;
     within = within;
     few = omega (arith, room, index.few);
     blocks_are = index.blocks_are ∙ sym (ap (length {A = Holding}) arranged_held);
     bytes_are = index.bytes_are ∙ sym (ap held_bytes arranged_held);
-    rounded_are = index.rounded_are ∙ sym (ap held_rounded arranged_held);
   }
 
 first_least : (rows : Rows) (address : ℕ) (keys : List Key) → AreAbove address keys → AllByRecursion (λ other. nat_cmp address other ≡ Less) (addresses (all_held rows keys))
@@ -413,9 +410,9 @@ module _ (keys : List Key) (index : Indexed) (seen : keys ≡ index.keys) (found
   found_fits is = subst (λ all. FitsAt all found.address at) (sym seen) (subst (λ (place : Result ℕ ℕ). IfErr place (FitsAt index.keys found.address)) is is_found.absent)
 
 -- the key that was read where an address was found
-pub found_key : (kept : Kept) (index : Indexed) → kept.keys ≡ index.keys → (blocks bytes rounded : ℕ) → IsIndex kept blocks bytes rounded → (found : LookUp) → IsFound index.keys found
+pub found_key : (kept : Kept) (index : Indexed) → kept.keys ≡ index.keys → (blocks bytes : ℕ) → IsIndex kept blocks bytes → (found : LookUp) → IsFound index.keys found
     → (at : ℕ) → found.place ≡ Ok at → (key : Key) → key ≡ slice_index_or kept.keys at key → IsKeyAt kept found.address at key
-found_key kept index seen blocks bytes rounded has found is_found at is key there = record {
+found_key kept index seen blocks bytes has found is_found at is key there = record {
   rise = has.rise;
   have = has.rows;
   stands = found_stands kept.keys index seen found is_found at is;

@@ -13,6 +13,7 @@ mod FittedPool
 mod FollowingLemmas
 mod FoundLemmas
 mod GapLemmas
+mod GivenSize
 mod HeapSteps
 mod HeldBytes
 mod HeldFew
@@ -23,6 +24,7 @@ mod IndexLemmas
 mod KeyLemmas
 mod KeysLemmas
 mod HeldStayLive
+mod HeldSums
 mod LogRows
 mod LookLemmas
 mod Moments

@@ -19,26 +19,8 @@ use Rattle.mtrace_replay.specs.Spans.{has_range, with_block, hits, released, Agr
 use Rattle.mtrace_replay.proofs.SortedLemmas.{addresses}
 use Rattle.mtrace_replay.proofs.FoundLemmas.{found_is_held, held_as_found}
 use Rattle.mtrace_replay.proofs.TotalsLemmas.{none_measured, most_none, most_goes_on}
-use Rattle.mtrace_replay.proofs.HeldCounts.{Rise, put, without, one_if, found-put, rise-put, count-put, count-without, rise-without, found-without}
+use Rattle.mtrace_replay.proofs.HeldCounts.{Rise, put, one_if, rest_of, found-put, rise-put, rise-rest, found-rest, count-put, count-without}
 use Rattle.mtrace_replay.proofs.LineChange.{IsChange, line_change}
-
--- what was held before, but for what was released
-abbrev rest_of : Option ℕ → List Given → List Given
-rest_of None all = all
-rest_of (Some address) all = without address all
-
--- and then perhaps one more
-abbrev with_given : Option Given → List Given → List Given
-with_given None all = all
-with_given (Some given) all = put given all
-
-rise-rest : (address : Option ℕ) (all : List Given) → Rise all → Rise (rest_of address all)
-rise-rest None all rise = rise
-rise-rest (Some address) all rise = rise-without address all rise
-
-found-rest : (address : Option ℕ) (all : List Given) → Rise all → (q : ℕ) → found (rest_of address all) q ≡ unless_taken address q (found all q)
-found-rest None all rise q = refl
-found-rest (Some address) all rise q = found-without address all rise q
 
 module _ (asked : ℕ → Option ℕ) (span : Span) where
   -- whether a block is of the span

@@ -15,6 +15,13 @@ class_asked (Ok (New at address size)) = class_size 1 (asked_size size)
 class_asked (Ok (Aligned at address align size)) = class_size align (asked_size size)
 class_asked _ = None
 
+-- how many bytes a line asks for; 0 where it asks for none
+abbrev pub bytes_asked : ReadLine → ℕ
+bytes_asked (Ok (Alloc at address size)) = size
+bytes_asked (Ok (New at address size)) = size
+bytes_asked (Ok (Aligned at address align size)) = size
+bytes_asked _ = 0
+
 -- the greater of two class sizes; none where one is missing
 abbrev pub greater_class : Option ℕ → Option ℕ → Option ℕ
 greater_class (Some size) (Some other) = Some (max size other)

@@ -2,7 +2,6 @@
 use Rattle.std.specs.Prelude.{◌≡◌, ◌≢◌, Bool, ℕ, ◌*◌, ◌<◌, ◌≤◌, ◌^◌, List, length, map, find, sum_by, Option, Some, ◌==◌, IfOk, IfErr}
 use Rattle.std.specs.List.Sorted.{IsStrictlyIncreasing}
 use Rattle.tlsf_heap.specs.Touches.{AtMost}
-use Rattle.mtrace_replay.specs.Moment.{rounded_bytes}
 use Rattle.mtrace_replay.specs.Holding.{Holding}
 use Rattle.mtrace_replay.specs.declared.heap.key.Key.{Key}
 use Rattle.mtrace_replay.specs.declared.heap.index.LookUp.{LookUp}
@@ -32,10 +31,6 @@ AreInOrder holdings = IsStrictlyIncreasing (addresses holdings)
 -- the sum of the sizes held
 abbrev pub held_bytes : List Holding → ℕ
 held_bytes holdings = sum_by (λ holding. holding.entry.size) holdings
-
--- the sum of the sizes of the blocks held
-abbrev pub held_rounded : List Holding → ℕ
-held_rounded holdings = sum_by (λ holding. rounded_bytes holding.entry.size) holdings
 
 -- look-ups, this many: each compares at most as many addresses as the room has binary digits; the room stays
 pub record LooksUp (times : ℕ) (old new : Indexed) : Type 0 where
@@ -72,12 +67,11 @@ abbrev pub IsNewSlot : ℕ → ℕ → List Holding → Type 0
 IsNewSlot slot address all = (other : ℕ) (holding : Holding) → held_at all other ≡ Some holding → other ≢ address → holding.ptr.slot ≢ slot
 
 -- what an index keeps. The addresses of its keys rise. What is held has its rows. There are no more keys than room.
--- `blocks` is how much is held, `bytes` the bytes asked for it, and `rounded` those of its blocks
-pub record IsIndex (kept : Kept) (blocks bytes rounded : ℕ) : Type 0 where
+-- `blocks` is how much is held, and `bytes` the bytes asked for it
+pub record IsIndex (kept : Kept) (blocks bytes : ℕ) : Type 0 where
   pub rise : RiseFrom 0 kept.keys
   pub rows : HaveRows kept.rows kept.keys
   pub within : length kept.keys ≤ kept.rows.room
   pub few : kept.rows.room < 2 ^ 32
   pub blocks_are : blocks ≡ length (all_held kept.rows kept.keys)
   pub bytes_are : bytes ≡ held_bytes (all_held kept.rows kept.keys)
-  pub rounded_are : rounded ≡ held_rounded (all_held kept.rows kept.keys)

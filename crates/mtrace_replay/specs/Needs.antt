@@ -1,5 +1,6 @@
 -- What a log needs of a pool, gathered beside its replay on a heap.
-use Rattle.std.specs.Prelude.{◌≡◌, List, reverse, Result, Ok, Err}
+use Rattle.std.specs.Prelude.{◌≡◌, ℕ, ◌+◌, ◌<◌, ◌≤◌, ◌^◌, nat_lt, is_some, Option, Some, None, List, reverse, Result, Ok, Err}
+use Rattle.tlsf_class.specs.Classes.{greatest_size}
 use Rattle.mtrace_log.specs.Shown.{ReaderState, WriterState}
 use Rattle.mtrace_replay.specs.declared.heap.settings.Settings.{Settings}
 use Rattle.mtrace_replay.specs.declared.runs.status.Status.{Status}
@@ -8,18 +9,43 @@ use Rattle.mtrace_replay.specs.declared.runs.needs.Needs.{Needs}
 use Rattle.mtrace_replay.specs.declared.runs.needs.NeedsReplay.{NeedsReplay}
 use Rattle.mtrace_replay.specs.declared.runs.needs.NeedsRun.{NeedsRun}
 use Rattle.mtrace_replay.specs.Started.{Bare, started}
-use Rattle.mtrace_replay.specs.Moment.{ReadLine}
+use Rattle.mtrace_replay.specs.declared.heap.totals.Totals.{Totals}
+use Rattle.mtrace_replay.specs.Moment.{ReadLine, Given, rounded_bytes}
 use Rattle.mtrace_replay.specs.History.{moments}
-use Rattle.mtrace_replay.specs.Totals.{blocks_in, rounded_bytes_in, IsMost}
+use Rattle.mtrace_replay.specs.Totals.{blocks_in, rounded_bytes_in, Measures, IsMost}
 use Rattle.mtrace_replay.specs.Asked.{greatest_class}
 use Rattle.mtrace_replay.specs.LineReplay.{LineRules}
 use Rattle.mtrace_replay.specs.Replay.{added_diagnostics, heap_rules}
 use Rattle.mtrace_replay.specs.Run.{EndsAt}
 
+-- what one that there may be is in a sum
+abbrev pub of_one : (Given → ℕ) → Option Given → ℕ
+of_one measure None = 0
+of_one measure (Some given) = measure given
+
+-- the bytes of the block of what is held
+abbrev pub block_bytes : Given → ℕ
+block_bytes given = rounded_bytes given.entry.size
+
+-- One of what was held is freed, and one is given, for this many bytes: so say the sums before and after. There may be none of either.
+pub record Exchanges (asked : ℕ) (old new : Totals) (freed given : Option Given) : Type 0 where
+  pub served : nat_lt old.served new.served ≡ is_some given
+  pub size : of_one (λ given. given.entry.size) given ≡ of_one (λ given. asked) given
+  pub blocks : new.live_blocks + of_one (λ given. 1) freed ≡ of_one (λ given. 1) given + old.live_blocks
+  pub bytes : new.live_bytes + of_one (λ given. given.entry.size) freed ≡ of_one (λ given. given.entry.size) given + old.live_bytes
+  pub within_blocks : of_one (λ given. 1) freed ≤ old.live_blocks
+  pub within_bytes : of_one (λ given. given.entry.size) freed ≤ old.live_bytes
+
+-- the bytes of the blocks held behind an exchange, by those before it
+abbrev pub BehindExchange : (asked : ℕ) (old new : Totals) (before behind : ℕ) → Type 0
+BehindExchange asked old new before behind = (freed given : Option Given) (exact : ℕ) → Exchanges asked old new freed given → before + greatest_size < 2 ^ 64
+    → exact + of_one block_bytes freed ≡ of_one block_bytes given + before → behind ≡ exact
+
 -- the needs are those of the lines, of which the latest comes first
 pub record AreNeeds (start : Bare) (past : List ReadLine) (needs : Needs) : Type 0 where
   pub most : IsMost blocks_in (moments start past) needs.most
-  pub rounded : IsMost rounded_bytes_in (moments start past) needs.rounded
+  pub rounded : Measures rounded_bytes_in (moments start past) needs.rounded
+  pub most_rounded : IsMost rounded_bytes_in (moments start past) needs.most_rounded
   pub class : needs.class_size ≡ greatest_class start past
 
 -- what a replay says of itself that gathers what its lines need

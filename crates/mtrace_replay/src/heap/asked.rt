@@ -1,7 +1,7 @@
 //! What a line asks the lists of the heap for.
 
 ghost use Rattle.std.specs.Prelude.{◌≡◌, if◌then◌else◌};
-ghost use Rattle.mtrace_replay.specs.Asked.{class_asked, greater_class};
+ghost use Rattle.mtrace_replay.specs.Asked.{bytes_asked, class_asked, greater_class};
 ghost use Rattle.mtrace_replay.specs.Moment.{asked_size};
 
 use crate::heap::step::asked_size;
@@ -12,7 +12,7 @@ use tlsf_heap::class_size;
 #[derive(Clone, Copy)]
 pub(crate) struct Asked {
     align: u64,
-    size: u64,
+    pub(crate) size: u64,
 }
 
 impl Asked {
@@ -21,7 +21,8 @@ impl Asked {
     /// What the line asks for.
     #[inline(always)]
     pub(crate) fn of(event: &Result<Event<LentLocation<'_>>, LineFault>) -> Asked
-        ensures { class_size result.align (asked_size result.size) ≡ class_asked event.now }
+        ensures class { class_size result.align (asked_size result.size) ≡ class_asked event.now }
+        ensures size { result.size ≡ bytes_asked event.now }
     {
         match event {
             Ok(Event::Alloc { size, .. } | Event::New { size, .. }) => Asked {

@@ -2,13 +2,12 @@
 
 ghost use Rattle.std.specs.Prelude.{◌≡◌, ◌≢◌, ℕ, ◌+◌, ◌<◌, ◌≤◌, ◌^◌, option_map, option_to_list, [], length, map, None, Some, IfOk, if◌then◌else◌, ◌==◌, is_some, true};
 ghost use Rattle.mtrace_replay.specs.Key.{holding_of, IsRow};
-ghost use Rattle.mtrace_replay.specs.Index.{held_at, held_bytes, held_rounded, AreInOrder, LooksUp, FindsAddress, TellsWhether, Counts, IsFound, IsNewSlot};
+ghost use Rattle.mtrace_replay.specs.Index.{held_at, held_bytes, AreInOrder, LooksUp, FindsAddress, TellsWhether, Counts, IsFound, IsNewSlot};
 
 use crate::heap::arrange::{Came, arrange};
 use crate::heap::key::Key;
 use crate::heap::keys::Keys;
 use crate::heap::search::{Gap, is_last_of, make_gap, search};
-use crate::heap::step::rounded_bytes;
 use crate::held::entry::Entry;
 use mtrace_log::{Addr, LentLocation};
 use std::alloc::{AllocError, Global};
@@ -32,7 +31,6 @@ pub(crate) struct Index {
     keys: Keys,
     blocks: u64,
     bytes: u64,
-    rounded: u64,
     came: Came,
     comparisons: GhostCount,
 }
@@ -45,7 +43,7 @@ impl Model for Index {
 
     ghost view = { λ index. record { all = all_held index.keys.rows index.keys.keys; keys = index.keys.keys; room = index.keys.rows.room; comparisons = index.comparisons.count } };
 
-    ghost invariant = { λ index. IsIndex index.keys index.blocks index.bytes index.rounded };
+    ghost invariant = { λ index. IsIndex index.keys index.blocks index.bytes };
 }
 
 /// How many bytes were asked for what is held under the key.
@@ -56,18 +54,6 @@ fn size_of(keys: &Keys, key: &Key) -> u64
 {
     match key.block() {
         Some(ptr) => keys.row(ptr.slot()).size,
-        None => 0,
-    }
-}
-
-/// How many bytes the block has that is held under the key.
-#[inline(always)]
-fn rounded_size_of(keys: &Keys, key: &Key) -> u64
-    requires { IsRow keys.now.rows key.now.address key.now.block }
-    ensures { result ≡ held_rounded (option_to_list (holding_of keys.now.rows key.now)) }
-{
-    match key.block() {
-        Some(ptr) => rounded_bytes(keys.row(ptr.slot()).size),
         None => 0,
     }
 }
@@ -85,7 +71,6 @@ impl Index {
             keys: Keys::new(alloc, room)?,
             blocks: 0,
             bytes: 0,
-            rounded: 0,
             came: Came::default(),
             comparisons: GhostCount::new(),
         })
@@ -99,7 +84,6 @@ impl Index {
         self.keys.restart(room);
         self.blocks = 0;
         self.bytes = 0;
-        self.rounded = 0;
         self.came = Came::default();
     }
 
@@ -197,7 +181,6 @@ impl Index {
         let gap = make_gap(&mut self.keys, found.place);
         self.blocks += 1;
         self.bytes += entry.size;
-        self.rounded += rounded_bytes(entry.size);
         self.keys.put(gap.from, gap.to, entry, ptr);
         self.settle(found, end, &gap);
     }
@@ -234,7 +217,6 @@ impl Index {
             let key = self.keys.key(at);
             self.blocks -= u64::from(!key.is_vacant());
             self.bytes -= size_of(&self.keys, &key);
-            self.rounded -= rounded_size_of(&self.keys, &key);
             self.keys.set_key(at, &key.vacated());
         }
     }
@@ -251,13 +233,6 @@ impl Index {
         ensures { result ≡ held_bytes self.now.all }
     {
         self.bytes
-    }
-
-    /// The sum of the sizes of the blocks held, in bytes.
-    pub fn rounded(&self) -> u64
-        ensures { result ≡ held_rounded self.now.all }
-    {
-        self.rounded
     }
 
     /// The entries, in order of address.

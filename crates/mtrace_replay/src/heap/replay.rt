@@ -112,7 +112,6 @@ impl<H: Heaped> Replay<H> {
     ghost use Rattle.mtrace_replay.specs.declared.heap.settings.Settings.{Settings};
     ghost use Rattle.mtrace_replay.specs.Settings.{are_bad};
     ghost use Rattle.mtrace_replay.specs.Index.{Counts};
-    ghost use Rattle.mtrace_replay.specs.Totals.{rounded_bytes_in};
     ghost use Rattle.mtrace_replay.specs.Replay.{StandsFor, entries, touched, Feeds, TellsEnd};
     ghost use Rattle.mtrace_log.specs.Output.{Puts};
     ghost use Rattle.mtrace_replay.specs.Texts.{free_sizes, walk_report, total_size};
@@ -253,13 +252,6 @@ impl<H: Heaped> Replay<H> {
         self.totals
     }
 
-    /// The sum of the sizes of the blocks held, in bytes.
-    pub(crate) fn rounded(&self) -> u64
-        ensures { result ≡ rounded_bytes_in self.now.given }
-    {
-        self.held.rounded()
-    }
-
     /// What is free in the heap, and how far its live blocks reach.
     pub(crate) fn survey(&mut self) -> Survey
         requires works { self.old.out_of_memory ≡ false }
@@ -302,7 +294,8 @@ impl LineReplay for Replay<Heap> {
 }
 
 impl Replay<Heap> {
-    ghost use Rattle.std.specs.Prelude.{◌≤◌, false, []};
+    ghost use Rattle.std.specs.Prelude.{◌≤◌, false, [], length};
+    ghost use Rattle.tlsf_heap.specs.Pools.{most_records};
     ghost use Rattle.mtrace_replay.specs.Settings.{are_bad};
     ghost use Rattle.mtrace_replay.specs.Replay.{StandsFor};
     ghost use Rattle.mtrace_replay.specs.Saving.{PutsImage};
@@ -322,9 +315,10 @@ impl Replay<Heap> {
         self.out_of_memory = false;
     }
 
-    /// Says that memory was never refused, and does nothing.
+    /// Says that memory was never refused, and that no more is held than there can be records. It does nothing.
     pub(crate) fn keeps_working(&self)
-        ensures { self.now.out_of_memory ≡ false }
+        ensures works { self.now.out_of_memory ≡ false }
+        ensures few { length self.now.given ≤ most_records }
     {
         let _ = &self.heap;
     }

@@ -205,7 +205,7 @@ fn fit_text<R: Again, T: Watch>(
     if totals.refused > 0 {
         return Ok(untried_text(totals, needs.most));
     }
-    let sure = sure_pool(needs.most, needs.rounded, needs.class_size);
+    let sure = sure_pool(needs.most, needs.most_rounded, needs.class_size);
     let peak = totals.peak_bytes;
     let trial = Trial {
         records: enough_records(needs.most),

@@ -1,16 +1,17 @@
 //! What a log needs of a pool, gathered beside its replay.
 
-ghost use Rattle.std.specs.Prelude.{◌≡◌, max, nat_lt, IfOk, Some, if◌then◌else◌};
+ghost use Rattle.std.specs.Prelude.{◌≡◌, ℕ, ◌+◌, max, nat_lt, IfOk, Option, Some, if◌then◌else◌};
 ghost use Rattle.tlsf_class.specs.Classes.{unit};
 ghost use Rattle.tlsf_heap.specs.Sizing.{class_size};
-ghost use Rattle.mtrace_replay.specs.Moment.{asked_size};
+ghost use Rattle.mtrace_replay.specs.Moment.{Given, asked_size};
 ghost use Rattle.mtrace_replay.specs.Asked.{greater_class};
 ghost use Rattle.mtrace_replay.specs.Run.{Runs};
-ghost use Rattle.mtrace_replay.specs.Needs.{status_with, EndsWithNeeds};
+ghost use Rattle.mtrace_replay.specs.Needs.{of_one, block_bytes, BehindExchange, status_with, EndsWithNeeds};
 
 use crate::heap::asked::Asked;
 use crate::heap::replay::{Replay, ReplayFault};
 use crate::heap::settings::Settings;
+use crate::heap::step::rounded_bytes;
 use crate::heap::totals::Totals;
 use crate::held::findings::Findings;
 use crate::runs::following::{Stop, follow_lines};
@@ -22,13 +23,42 @@ use mtrace_log::{Event, LentLocation, LineFault, Sink, Source};
 use std::alloc::{AllocError, Global};
 use tlsf_heap::Heap;
 
+/// The bytes of the blocks held behind a line, where `more` are those of the blocks held before it and of the block that it
+/// is given. The blocks held before it that are left are this many, of this many bytes as asked for: all but the one that it
+/// frees, if any.
+fn less_freed(more: u64, blocks: u64, bytes: u64, old: Totals) -> u64
+    ensures { (freed : Option Given) (exact : ℕ) → blocks + of_one (λ given. 1) freed ≡ old.live_blocks → bytes + of_one (λ given. given.entry.size) freed ≡ old.live_bytes
+        → exact + of_one block_bytes freed ≡ more → result ≡ exact }
+{
+    if blocks == old.live_blocks {
+        return more;
+    }
+    more.saturating_sub(rounded_bytes(old.live_bytes.saturating_sub(bytes)))
+}
+
+/// The bytes of the blocks held behind a line that asks for this many bytes, by those before it and by the sums of both. No
+/// look-up finds the block that the line frees: its size is told by the sums.
+fn rounded_after(rounded: u64, size: u64, old: Totals, new: Totals) -> u64
+    ensures { BehindExchange size old new rounded result }
+{
+    if new.served > old.served {
+        let more = rounded.saturating_add(rounded_bytes(size));
+        let blocks = new.live_blocks.saturating_sub(1);
+        less_freed(more, blocks, new.live_bytes.saturating_sub(size), old)
+    } else {
+        less_freed(rounded, new.live_blocks, new.live_bytes, old)
+    }
+}
+
 /// What lines need of a pool.
 #[derive(Clone, Copy)]
 pub(crate) struct Needs {
     /// The most addresses that were held after any line.
     pub(crate) most: u64,
+    /// The bytes that the blocks held have.
+    rounded: u64,
     /// The most bytes that the blocks held had after any line.
-    pub(crate) rounded: u64,
+    pub(crate) most_rounded: u64,
     /// The greatest class size that a served line asked for, in bytes. `None` where a class is missing.
     pub(crate) class_size: Option<u32>,
 }
@@ -36,24 +66,28 @@ pub(crate) struct Needs {
 impl Needs {
     /// What no line needs.
     fn none() -> Needs
-        ensures { result ≡ record { most = 0; rounded = 0; class_size = Some unit } }
+        ensures { result ≡ record { most = 0; rounded = 0; most_rounded = 0; class_size = Some unit } }
     {
         Needs {
             most: 0,
             rounded: 0,
+            most_rounded: 0,
             class_size: Some(tlsf_class::UNIT),
         }
     }
 
     /// What is needed with one line more, which asks for this, by the sums before and after it.
-    fn after(self, asked: Asked, old: Totals, new: Totals, rounded: u64) -> Needs
+    fn after(self, asked: Asked, old: Totals, new: Totals) -> Needs
         ensures most { result.most ≡ max self.most new.live_blocks }
-        ensures rounded { result.rounded ≡ max self.rounded rounded }
+        ensures rounded { BehindExchange asked.size old new self.rounded result.rounded }
+        ensures most_rounded { result.most_rounded ≡ max self.most_rounded result.rounded }
         ensures class { result.class_size ≡ (if nat_lt old.served new.served then greater_class self.class_size (class_size asked.align (asked_size asked.size)) else self.class_size) }
     {
+        let rounded = rounded_after(self.rounded, asked.size, old, new);
         Needs {
             most: self.most.max(new.live_blocks),
-            rounded: self.rounded.max(rounded),
+            rounded,
+            most_rounded: self.most_rounded.max(rounded),
             class_size: asked.greatest(self.class_size, new.served > old.served),
         }
     }
@@ -80,9 +114,9 @@ impl LineReplay for NeedsReplay {
     ) -> Result<(), AllocError> {
         let asked = Asked::of(&event);
         let old = self.replay.totals();
+        self.replay.keeps_working();
         self.replay.take_line(number, event, findings)?;
-        let rounded = self.replay.rounded();
-        self.needs = self.needs.after(asked, old, self.replay.totals(), rounded);
+        self.needs = self.needs.after(asked, old, self.replay.totals());
         Ok(())
     }
 }

@@ -16,7 +16,7 @@ pub returns-in-Ok : goal.returns-in-Ok
 returns-in-Ok c =
     let kept = c.self.inside.keys in
     let address = c.args.found.now.address in
-    let is_at = found_key kept c.args.self.now (ap (λ (index : Indexed). index.keys) c.self.view_is) _ _ _ c.self.invariant c.args.found.now c.requires.found c.in-Ok.at c.in-Ok.is c.key.result (c.key.ensures c.key.result) in
+    let is_at = found_key kept c.args.self.now (ap (λ (index : Indexed). index.keys) c.self.view_is) _ _ c.self.invariant c.args.found.now c.requires.found c.in-Ok.at c.in-Ok.is c.key.result (c.key.ensures c.key.result) in
     record {
       value = c.block.ensures ∙ same_block kept.rows c.key.result.address c.key.result.block
           ∙ ap (option_map (λ (holding : Holding). holding.ptr))

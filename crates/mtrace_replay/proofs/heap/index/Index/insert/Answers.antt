@@ -1,4 +1,4 @@
-use Rattle.std.proofs.Common.{ℕ, List, length, slice_index_or, Option, Some, None, refl, sym, ap, ◌∙◌, subst, cond, arith}
+use Rattle.std.proofs.Common.{ℕ, List, slice_index_or, Option, Some, None, refl, sym, ap, ◌∙◌, subst, cond, arith}
 use Rattle.std.specs.Prelude.{◌==◌, Result, Ok, Err, IfOk}
 use Rattle.std.proofs.lemmas.List.{get_or_default}
 use Rattle.std.specs.List.{remove}
@@ -6,8 +6,6 @@ use Rattle.mtrace_replay.specs.declared.heap.key.Key.{Key}
 use Rattle.mtrace_replay.specs.Holding.{Holding}
 use Rattle.mtrace_replay.specs.Search.{StandsAt, FitsAt, IsVacantAt}
 use Rattle.mtrace_replay.specs.Index.{Indexed, IsFound, IsNewSlot, held_at}
-use Rattle.mtrace_replay.specs.Key.{all_held}
-use Rattle.mtrace_replay.proofs.HeldFew.{rounded_few}
 use Rattle.mtrace_replay.proofs.IndexLemmas.{vacant_there, enters, puts_keeps, puts_held}
 use Rattle.mtrace_replay.proofs.heap.index.Index.insert.Goals as goal
 
@@ -24,11 +22,6 @@ make_gap-gap-requires-clause-vacant c =
     by_place keys vacant (Ok at) stands = vacant at stands
     by_place keys vacant (Err at) stands = tt
 
-pub overflow_add-self-3 : goal.overflow_add-self-3
-overflow_add-self-3 c =
-    let all : List Holding = all_held c.self.inside.keys.rows c.self.inside.keys.keys in
-    omega (arith, rounded_few all, c.self.invariant.rounded_are, c.rounded_bytes.ensures.small, c.self.invariant.few, c.requires.room, ap (λ (index : Indexed). length index.all) c.self.view_is, ap (λ (index : Indexed). index.room) c.self.view_is)
-
 pub invariant_of-self : goal.invariant_of-self
 invariant_of-self c =
     let kept = c.self.inside.keys in
@@ -41,8 +34,8 @@ invariant_of-self c =
     let put = enters kept c.put.new.self (remove c.make_gap-gap.new.keys.keys c.make_gap-gap.result.from) c.make_gap-gap.new.keys.rows address c.make_gap-gap.result.to c.args.entry.now c.args.ptr new c.make_gap-gap.ensures.others
     c.self.invariant.rise c.self.invariant.rows fits c.make_gap-gap.ensures.rows refl refl refl c.put.ensures.keys c.put.ensures.rows is_new in
     let room = c.put.ensures.rows.room ∙ c.make_gap-gap.ensures.rows.room in
-    puts_keeps kept c.put.new.self address None held put c.self.inside.blocks c.self.inside.bytes c.self.inside.rounded _ _ _ c.self.invariant
-    (omega (arith, c.put.ensures.len, c.put.ensures.rows.room, c.make_gap-gap.ensures.within, c.make_gap-gap.ensures.rows.room)) room (omega arith) (omega arith) (omega (arith, c.rounded_bytes.ensures.value))
+    puts_keeps kept c.put.new.self address None held put c.self.inside.blocks c.self.inside.bytes _ _ c.self.invariant
+    (omega (arith, c.put.ensures.len, c.put.ensures.rows.room, c.make_gap-gap.ensures.within, c.make_gap-gap.ensures.rows.room)) room (omega arith) (omega arith)
 
 pub returns-clause-held : goal.returns-clause-held
 returns-clause-held c other =

@@ -6,7 +6,6 @@ use Rattle.mtrace_replay.specs.Holding.{Holding}
 use Rattle.mtrace_replay.specs.declared.heap.key.Key.{Key}
 use Rattle.mtrace_replay.specs.Keys.{Rows}
 use Rattle.mtrace_replay.specs.Key.{holding_of}
-use Rattle.mtrace_replay.specs.Moment.{rounded_bytes}
 use Rattle.mtrace_replay.specs.Index.{Indexed, held_at, held_bytes}
 use Rattle.mtrace_replay.proofs.IndexLemmas.{row_there, held_there, held_fewer, held_less, vacates, puts_keeps, puts_held, puts_count, puts_sum, none_there, none_removed, found_key, found_fits}
 use Rattle.mtrace_replay.proofs.heap.index.Index.remove.Goals as goal
@@ -19,7 +18,7 @@ pub overflow_sub-self : goal.overflow_sub-self
 overflow_sub-self c =
     let kept = c.self.inside.keys in
     let address = c.args.found.now.address in
-    let is_at = found_key kept c.args.self.now (ap (λ (index : Indexed). index.keys) c.self.view_is) _ _ _ c.self.invariant c.args.found.now c.requires.found c.in-Ok.at c.in-Ok.is c.key-key.result (c.key-key.ensures c.key-key.result) in
+    let is_at = found_key kept c.args.self.now (ap (λ (index : Indexed). index.keys) c.self.view_is) _ _ c.self.invariant c.args.found.now c.requires.found c.in-Ok.at c.in-Ok.is c.key-key.result (c.key-key.ensures c.key-key.result) in
     let fewer = held_fewer kept address c.in-Ok.at c.key-key.result is_at in
     omega (arith, fewer, blocks_under kept.rows c.key-key.result c.is_vacant.result c.is_vacant.ensures c.from.result c.from.ensures, c.self.invariant.blocks_are)
 
@@ -27,52 +26,36 @@ pub size_of-requires : goal.size_of-requires
 size_of-requires c =
     let kept = c.self.inside.keys in
     let address = c.args.found.now.address in
-    let is_at = found_key kept c.args.self.now (ap (λ (index : Indexed). index.keys) c.self.view_is) _ _ _ c.self.invariant c.args.found.now c.requires.found c.in-Ok.at c.in-Ok.is c.key-key.result (c.key-key.ensures c.key-key.result) in
-    row_there kept address c.in-Ok.at c.key-key.result is_at
-
-pub rounded_size_of-requires : goal.rounded_size_of-requires
-rounded_size_of-requires c =
-    let kept = c.self.inside.keys in
-    let address = c.args.found.now.address in
-    let is_at = found_key kept c.args.self.now (ap (λ (index : Indexed). index.keys) c.self.view_is) _ _ _ c.self.invariant c.args.found.now c.requires.found c.in-Ok.at c.in-Ok.is c.key-key.result (c.key-key.ensures c.key-key.result) in
+    let is_at = found_key kept c.args.self.now (ap (λ (index : Indexed). index.keys) c.self.view_is) _ _ c.self.invariant c.args.found.now c.requires.found c.in-Ok.at c.in-Ok.is c.key-key.result (c.key-key.ensures c.key-key.result) in
     row_there kept address c.in-Ok.at c.key-key.result is_at
 
 pub overflow_sub-self-in-Ok : goal.overflow_sub-self-in-Ok
 overflow_sub-self-in-Ok c =
     let kept = c.self.inside.keys in
     let address = c.args.found.now.address in
-    let is_at = found_key kept c.args.self.now (ap (λ (index : Indexed). index.keys) c.self.view_is) _ _ _ c.self.invariant c.args.found.now c.requires.found c.in-Ok.at c.in-Ok.is c.key-key.result (c.key-key.ensures c.key-key.result) in
+    let is_at = found_key kept c.args.self.now (ap (λ (index : Indexed). index.keys) c.self.view_is) _ _ c.self.invariant c.args.found.now c.requires.found c.in-Ok.at c.in-Ok.is c.key-key.result (c.key-key.ensures c.key-key.result) in
     let less = held_less kept address c.in-Ok.at c.key-key.result is_at in
     omega (arith, less (λ (held : Holding). held.entry.size), c.size_of.ensures, c.self.invariant.bytes_are)
-
-pub overflow_sub-self-in-Ok-2 : goal.overflow_sub-self-in-Ok-2
-overflow_sub-self-in-Ok-2 c =
-    let kept = c.self.inside.keys in
-    let address = c.args.found.now.address in
-    let is_at = found_key kept c.args.self.now (ap (λ (index : Indexed). index.keys) c.self.view_is) _ _ _ c.self.invariant c.args.found.now c.requires.found c.in-Ok.at c.in-Ok.is c.key-key.result (c.key-key.ensures c.key-key.result) in
-    let less = held_less kept address c.in-Ok.at c.key-key.result is_at in
-    omega (arith, less (λ (held : Holding). rounded_bytes held.entry.size), c.rounded_size_of.ensures, c.self.invariant.rounded_are)
 
 pub invariant_of-self : goal.invariant_of-self
 invariant_of-self c =
     let kept = c.self.inside.keys in
     let address = c.args.found.now.address in
-    let is_at = found_key kept c.args.self.now (ap (λ (index : Indexed). index.keys) c.self.view_is) _ _ _ c.self.invariant c.args.found.now c.requires.found c.in-Ok.at c.in-Ok.is c.key-key.result (c.key-key.ensures c.key-key.result) in
+    let is_at = found_key kept c.args.self.now (ap (λ (index : Indexed). index.keys) c.self.view_is) _ _ c.self.invariant c.args.found.now c.requires.found c.in-Ok.at c.in-Ok.is c.key-key.result (c.key-key.ensures c.key-key.result) in
     let gone = ap (λ (k : Key). k.address) c.vacated.ensures ∙ ap (λ (k : Key). k.address) is_at.there ∙ is_at.stands.1 c.key-key.result in
     let put = vacates kept address c.in-Ok.at c.key-key.result is_at c.set_key.new.self c.vacated.result gone (ap (λ (k : Key). k.block) c.vacated.ensures) c.set_key.ensures.keys c.set_key.ensures.rows in
     let fewer = held_fewer kept address c.in-Ok.at c.key-key.result is_at in
     let less = held_less kept address c.in-Ok.at c.key-key.result is_at in
     let as_many = ap (length {A = Key}) c.set_key.ensures.keys ∙ length-set kept.keys c.in-Ok.at c.vacated.result in
-    puts_keeps kept c.set_key.new.self address (holding_of kept.rows c.key-key.result) None put c.self.inside.blocks c.self.inside.bytes c.self.inside.rounded _ _ _ c.self.invariant
+    puts_keeps kept c.set_key.new.self address (holding_of kept.rows c.key-key.result) None put c.self.inside.blocks c.self.inside.bytes _ _ c.self.invariant
     (omega (arith, as_many, ap (λ (rows : Rows). rows.room) c.set_key.ensures.rows, c.self.invariant.within)) (ap (λ (rows : Rows). rows.room) c.set_key.ensures.rows)
     (omega (arith, fewer, blocks_under kept.rows c.key-key.result c.is_vacant.result c.is_vacant.ensures c.from.result c.from.ensures, c.self.invariant.blocks_are)) (omega (arith, less (λ (held : Holding). held.entry.size), c.size_of.ensures, c.self.invariant.bytes_are))
-    (omega (arith, less (λ (held : Holding). rounded_bytes held.entry.size), c.rounded_size_of.ensures, c.self.invariant.rounded_are))
 
 pub returns-in-Ok-clause-held : goal.returns-in-Ok-clause-held
 returns-in-Ok-clause-held c other =
     let kept = c.self.inside.keys in
     let address = c.args.found.now.address in
-    let is_at = found_key kept c.args.self.now (ap (λ (index : Indexed). index.keys) c.self.view_is) _ _ _ c.self.invariant c.args.found.now c.requires.found c.in-Ok.at c.in-Ok.is c.key-key.result (c.key-key.ensures c.key-key.result) in
+    let is_at = found_key kept c.args.self.now (ap (λ (index : Indexed). index.keys) c.self.view_is) _ _ c.self.invariant c.args.found.now c.requires.found c.in-Ok.at c.in-Ok.is c.key-key.result (c.key-key.ensures c.key-key.result) in
     let gone = ap (λ (k : Key). k.address) c.vacated.ensures ∙ ap (λ (k : Key). k.address) is_at.there ∙ is_at.stands.1 c.key-key.result in
     let put = vacates kept address c.in-Ok.at c.key-key.result is_at c.set_key.new.self c.vacated.result gone (ap (λ (k : Key). k.block) c.vacated.ensures) c.set_key.ensures.keys c.set_key.ensures.rows in
     puts_held kept c.set_key.new.self address (holding_of kept.rows c.key-key.result) None put other
@@ -86,7 +69,7 @@ pub returns-in-Ok-clause-fewer : goal.returns-in-Ok-clause-fewer
 returns-in-Ok-clause-fewer c some =
     let kept = c.self.inside.keys in
     let address = c.args.found.now.address in
-    let is_at = found_key kept c.args.self.now (ap (λ (index : Indexed). index.keys) c.self.view_is) _ _ _ c.self.invariant c.args.found.now c.requires.found c.in-Ok.at c.in-Ok.is c.key-key.result (c.key-key.ensures c.key-key.result) in
+    let is_at = found_key kept c.args.self.now (ap (λ (index : Indexed). index.keys) c.self.view_is) _ _ c.self.invariant c.args.found.now c.requires.found c.in-Ok.at c.in-Ok.is c.key-key.result (c.key-key.ensures c.key-key.result) in
     let gone = ap (λ (k : Key). k.address) c.vacated.ensures ∙ ap (λ (k : Key). k.address) is_at.there ∙ is_at.stands.1 c.key-key.result in
     let put = vacates kept address c.in-Ok.at c.key-key.result is_at c.set_key.new.self c.vacated.result gone (ap (λ (k : Key). k.block) c.vacated.ensures) c.set_key.ensures.keys c.set_key.ensures.rows in
     let count = puts_count kept c.set_key.new.self address (holding_of kept.rows c.key-key.result) None put in
@@ -98,7 +81,7 @@ pub returns-in-Ok-clause-bytes : goal.returns-in-Ok-clause-bytes
 returns-in-Ok-clause-bytes c =
     let kept = c.self.inside.keys in
     let address = c.args.found.now.address in
-    let is_at = found_key kept c.args.self.now (ap (λ (index : Indexed). index.keys) c.self.view_is) _ _ _ c.self.invariant c.args.found.now c.requires.found c.in-Ok.at c.in-Ok.is c.key-key.result (c.key-key.ensures c.key-key.result) in
+    let is_at = found_key kept c.args.self.now (ap (λ (index : Indexed). index.keys) c.self.view_is) _ _ c.self.invariant c.args.found.now c.requires.found c.in-Ok.at c.in-Ok.is c.key-key.result (c.key-key.ensures c.key-key.result) in
     let gone = ap (λ (k : Key). k.address) c.vacated.ensures ∙ ap (λ (k : Key). k.address) is_at.there ∙ is_at.stands.1 c.key-key.result in
     let put = vacates kept address c.in-Ok.at c.key-key.result is_at c.set_key.new.self c.vacated.result gone (ap (λ (k : Key). k.block) c.vacated.ensures) c.set_key.ensures.keys c.set_key.ensures.rows in
     let bytes = puts_sum kept c.set_key.new.self address (holding_of kept.rows c.key-key.result) None put (λ (held : Holding). held.entry.size) in
