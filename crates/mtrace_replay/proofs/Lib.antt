@@ -1,84 +1,9 @@
-mod AgainLemmas
-mod ArrangeLemmas
-mod AskedBlock
-mod CallerRows
-mod CallersBySlot
-mod CallsLemmas
-mod DiagnosticLemmas
-mod EnoughBlocks
-mod EnoughRecords
-mod Flat
-mod FitLemmas
-mod FittedPool
-mod FollowingLemmas
-mod FoundLemmas
-mod GapLemmas
-mod GivenSize
-mod HeapSteps
-mod HeldBytes
-mod HeldFew
-mod HeldLemmas
-mod HeldLive
-mod HoldingLemmas
-mod IndexLemmas
-mod KeyLemmas
-mod KeysLemmas
-mod HeldStayLive
-mod HeldSums
-mod LogRows
-mod LookLemmas
-mod Moments
-mod ReplayingLemmas
-mod PlanLemmas
-mod Points
-mod RowLemmas
-mod RowsBySlot
-mod RunLemmas
-mod RunsAgain
-pub mod SaveLemmas
-mod SearchLemmas
-mod FreeAndRealloc
-mod SharesLemmas
-mod SiteLemmas
-mod SiteRows
-mod SitesBySlot
-mod SitesLemmas
-mod SizePartsLemmas
-mod SlotLemmas
-mod SortedLemmas
-mod NeedsLemmas
-mod OneLineMore
-mod OneSizeLog
-mod OneSizeRows
-mod StartLemmas
-mod StartSteps
-mod StepLemmas
-mod LiveBefore
-mod SurePool
-mod TextLemmas
-mod TimelineLemmas
-mod ToldLemmas
-mod ToldLines
-mod TotalsLemmas
-mod TotalsStep
-mod TriedLemmas
-mod UnrefusedLemmas
-mod VerdictLemmas
-mod EntryOrder
-mod LedgerLemmas
-mod LedgerPeak
-mod LocationsLemmas
-mod ServedLemmas
-mod ServedRunLemmas
-mod ServedTimelineLemmas
-mod PartsRows
-mod MappedLemmas
-mod RangeLemmas
-mod LineChange
-mod HeldCounts
-mod SpansLemmas
-mod CountedLemmas
-mod CutLemmas
-mod CountedRunLemmas
-mod PartsTextLemmas
-mod PartsRun
+-- Lemmas that several proofs share, by subject.
+pub mod History
+pub mod Told
+pub mod Index
+pub mod OnHeap
+pub mod Running
+pub mod Served
+pub mod BySize
+pub mod Enough

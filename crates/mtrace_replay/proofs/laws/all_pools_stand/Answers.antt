@@ -1,4 +1,4 @@
-use Rattle.mtrace_replay.proofs.StartLemmas.{all_pools_stand}
+use Rattle.mtrace_replay.proofs.OnHeap.StartLemmas.{all_pools_stand}
 use Rattle.mtrace_replay.proofs.laws.all_pools_stand.Goals as goal
 
 pub returns : goal.returns

@@ -1,4 +1,4 @@
-use Rattle.mtrace_replay.proofs.ToldLemmas.{told_first}
+use Rattle.mtrace_replay.proofs.Running.ToldLemmas.{told_first}
 use Rattle.mtrace_replay.proofs.laws.first_lines_again.Goals as goal
 
 pub returns : goal.returns

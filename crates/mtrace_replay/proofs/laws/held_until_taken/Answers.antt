@@ -1,4 +1,4 @@
-use Rattle.mtrace_replay.proofs.HeldLemmas.{held_until_taken}
+use Rattle.mtrace_replay.proofs.History.HeldLemmas.{held_until_taken}
 use Rattle.mtrace_replay.proofs.laws.held_until_taken.Goals as goal
 
 pub returns : goal.returns

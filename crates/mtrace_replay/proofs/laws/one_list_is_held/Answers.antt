@@ -1,4 +1,4 @@
-use Rattle.mtrace_replay.proofs.SortedLemmas.{one_list}
+use Rattle.mtrace_replay.proofs.History.SortedLemmas.{one_list}
 use Rattle.mtrace_replay.proofs.laws.one_list_is_held.Goals as goal
 
 pub returns : goal.returns

@@ -1,4 +1,4 @@
-use Rattle.mtrace_replay.proofs.SiteLemmas.OneList.{one_list}
+use Rattle.mtrace_replay.proofs.Told.SiteLemmas.OneList.{one_list}
 use Rattle.mtrace_replay.proofs.laws.one_list_of_sites.Goals as goal
 
 pub returns : goal.returns

@@ -1,5 +1,5 @@
 use Rattle.std.proofs.Common.{reverse}
-use Rattle.mtrace_replay.proofs.OneSizeLog.{one_size_serves, rounded_serves}
+use Rattle.mtrace_replay.proofs.Enough.OneSizeLog.{one_size_serves, rounded_serves}
 use Rattle.mtrace_replay.proofs.laws.one_size_serves_the_log.Goals as goal
 
 pub returns : goal.returns

@@ -2,8 +2,8 @@ use Rattle.std.proofs.Common.{ℕ, List, map, sym, ◌∙◌, subst}
 use Rattle.std.specs.List.Sorted.{IsStrictlyIncreasing}
 use Rattle.std.proofs.lemmas.List.{map-id}
 use Rattle.std.proofs.lemmas.Map.Keys.{sorted_from_strictly_increasing}
-use Rattle.mtrace_replay.proofs.SortedLemmas.{AreSorted, same_lists}
-use Rattle.mtrace_replay.proofs.TotalsLemmas.{measure_is_one}
+use Rattle.mtrace_replay.proofs.History.SortedLemmas.{AreSorted, same_lists}
+use Rattle.mtrace_replay.proofs.History.TotalsLemmas.{measure_is_one}
 use Rattle.mtrace_replay.proofs.laws.one_timeline.Goals as goal
 
 sorted : (told : List ℕ) → IsStrictlyIncreasing told → AreSorted (λ n. n) told

@@ -1,6 +1,6 @@
 use Rattle.std.proofs.Common.{◌≡◌, sym, ◌∙◌, arith}
 use Rattle.mtrace_replay.specs.Totals.{Measures}
-use Rattle.mtrace_replay.proofs.TotalsLemmas.{measure_is_one, one_greatest, not_later}
+use Rattle.mtrace_replay.proofs.History.TotalsLemmas.{measure_is_one, one_greatest, not_later}
 use Rattle.mtrace_replay.proofs.laws.one_totals.Goals as goal
 
 pub returns-clause-most : goal.returns-clause-most

@@ -1,9 +1,9 @@
 use Rattle.std.proofs.Common.{arith}
 use Rattle.mtrace_replay.specs.Started.{started}
 use Rattle.mtrace_replay.specs.Fit.{one_pool}
-use Rattle.mtrace_replay.proofs.StartLemmas.{all_pools_stand, started_room}
-use Rattle.mtrace_replay.proofs.TotalsLemmas.{started_free}
-use Rattle.mtrace_replay.proofs.EnoughRecords.{never_full, started_good}
+use Rattle.mtrace_replay.proofs.OnHeap.StartLemmas.{all_pools_stand, started_room}
+use Rattle.mtrace_replay.proofs.History.TotalsLemmas.{started_free}
+use Rattle.mtrace_replay.proofs.Enough.EnoughRecords.{never_full, started_good}
 use Rattle.mtrace_replay.proofs.laws.records_are_enough.Goals as goal
 
 pub returns : goal.returns

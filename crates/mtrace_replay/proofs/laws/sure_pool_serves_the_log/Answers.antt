@@ -6,10 +6,10 @@ use Rattle.tlsf_store.specs.Records.{most_records}
 use Rattle.tlsf_heap.specs.Sizing.{most_refusing, sure_records, sure_bytes, sure_pool}
 use Rattle.mtrace_replay.specs.Started.{started}
 use Rattle.mtrace_replay.specs.Fit.{one_pool}
-use Rattle.mtrace_replay.proofs.StartLemmas.{all_pools_stand, started_room, started_bytes}
-use Rattle.mtrace_replay.proofs.TotalsLemmas.{started_free}
-use Rattle.mtrace_replay.proofs.EnoughRecords.{started_good}
-use Rattle.mtrace_replay.proofs.FittedPool.{never_refused_here}
+use Rattle.mtrace_replay.proofs.OnHeap.StartLemmas.{all_pools_stand, started_room, started_bytes}
+use Rattle.mtrace_replay.proofs.History.TotalsLemmas.{started_free}
+use Rattle.mtrace_replay.proofs.Enough.EnoughRecords.{started_good}
+use Rattle.mtrace_replay.proofs.Enough.FittedPool.{never_refused_here}
 use Rattle.mtrace_replay.proofs.laws.sure_pool_serves_the_log.Goals as goal
 
 -- the sure pool has more bytes than may refuse

@@ -8,8 +8,8 @@ use Rattle.mtrace_replay.specs.History.{history, moments, notes, pending, AreHel
 use Rattle.mtrace_replay.specs.Totals.{is_refused, first_moments}
 use Rattle.mtrace_replay.specs.RunServed.{AreServedTotals}
 use Rattle.mtrace_replay.specs.ServedTimeline.{IsLedgerPoint}
-use Rattle.mtrace_replay.proofs.SortedLemmas.{one_list}
-use Rattle.mtrace_replay.proofs.UnrefusedLemmas.{plain, served_alike, notes_plain, first_plain, unplaced_all, held_unplaced, entries_unplaced_all, sums_alike, none_refused_before, points_alike}
+use Rattle.mtrace_replay.proofs.History.SortedLemmas.{one_list}
+use Rattle.mtrace_replay.proofs.Enough.UnrefusedLemmas.{plain, served_alike, notes_plain, first_plain, unplaced_all, held_unplaced, entries_unplaced_all, sums_alike, none_refused_before, points_alike}
 use Rattle.mtrace_replay.proofs.laws.unrefused_is_served.Goals as goal
 
 pub returns-clause-diagnostics : goal.returns-clause-diagnostics

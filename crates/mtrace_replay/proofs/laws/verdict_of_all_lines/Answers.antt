@@ -1,4 +1,4 @@
-use Rattle.mtrace_replay.proofs.VerdictLemmas.{told_verdict}
+use Rattle.mtrace_replay.proofs.Enough.VerdictLemmas.{told_verdict}
 use Rattle.mtrace_replay.proofs.laws.verdict_of_all_lines.Goals as goal
 
 pub returns : goal.returns

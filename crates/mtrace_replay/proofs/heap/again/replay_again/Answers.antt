@@ -2,8 +2,8 @@ use Rattle.std.proofs.Common.{arith, subst}
 use Rattle.mtrace_log.specs.Progress.{Progress}
 use Rattle.mtrace_log.specs.Shown.{ReaderState}
 use Rattle.mtrace_replay.specs.Replaying.{ReplaysUpTo}
-use Rattle.mtrace_replay.proofs.ReplayingLemmas.{no_line}
-use Rattle.mtrace_replay.proofs.AgainLemmas.{first_up_to, has_begun}
+use Rattle.mtrace_replay.proofs.Running.ReplayingLemmas.{no_line}
+use Rattle.mtrace_replay.proofs.Running.AgainLemmas.{first_up_to, has_begun}
 use Rattle.mtrace_replay.proofs.heap.again.replay_again.Goals as goal
 
 pub returns : goal.returns

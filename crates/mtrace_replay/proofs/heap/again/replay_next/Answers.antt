@@ -1,8 +1,8 @@
 use Rattle.std.proofs.Common.{arith, refl, sym, ◌∙◌, reverse, inl}
 use Rattle.mtrace_log.proofs.CallLemmas.{calls_more, calls_of_line, calls_to_end, calls_to_fault}
 use Rattle.mtrace_replay.specs.Replay.{StandsFor}
-use Rattle.mtrace_replay.proofs.ReplayingLemmas.{followed_on_line, replaying_end, replaying_fault}
-use Rattle.mtrace_replay.proofs.AgainLemmas.{ends_early, failed_in_piece}
+use Rattle.mtrace_replay.proofs.Running.ReplayingLemmas.{followed_on_line, replaying_end, replaying_fault}
+use Rattle.mtrace_replay.proofs.Running.AgainLemmas.{ends_early, failed_in_piece}
 use Rattle.mtrace_replay.proofs.heap.again.replay_next.Goals as goal
 
 pub returns-in-Ok-None-clause-next : goal.returns-in-Ok-None-clause-next

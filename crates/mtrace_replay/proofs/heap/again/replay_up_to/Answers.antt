@@ -2,7 +2,7 @@ use Rattle.std.proofs.Common.{arith, refl, ap, ◌∙◌}
 use Rattle.std.proofs.lemmas.Result.{err_from_is_err_and}
 use Rattle.mtrace_replay.specs.declared.heap.totals.Totals.{Totals}
 use Rattle.mtrace_replay.specs.Replay.{StandsFor}
-use Rattle.mtrace_replay.proofs.ReplayingLemmas.{followed_on_none, followed_on_further}
+use Rattle.mtrace_replay.proofs.Running.ReplayingLemmas.{followed_on_none, followed_on_further}
 use Rattle.mtrace_replay.proofs.heap.again.replay_up_to.Goals as goal
 
 pub loop-init : goal.loop-init

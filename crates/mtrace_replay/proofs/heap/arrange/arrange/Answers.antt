@@ -2,7 +2,7 @@ use Rattle.std.proofs.Common.{◌∙◌, sym, ap, subst, arith}
 use Rattle.std.proofs.lemmas.List.{take_all}
 use Rattle.mtrace_replay.specs.Key.{RiseFrom}
 use Rattle.mtrace_replay.specs.Arrange.{held_keys}
-use Rattle.mtrace_replay.proofs.ArrangeLemmas.{alone_rise, alone_alone}
+use Rattle.mtrace_replay.proofs.Index.ArrangeLemmas.{alone_rise, alone_alone}
 use Rattle.mtrace_replay.proofs.heap.arrange.arrange.Goals as goal
 
 pub space_out-requires-clause-rise : goal.space_out-requires-clause-rise

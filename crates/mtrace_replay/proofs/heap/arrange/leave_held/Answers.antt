@@ -1,5 +1,5 @@
 use Rattle.std.proofs.Common.{◌∙◌, sym, arith, is_some}
-use Rattle.mtrace_replay.proofs.ArrangeLemmas.{is_not, is_so, leaves_held, leaves_vacant}
+use Rattle.mtrace_replay.proofs.Index.ArrangeLemmas.{is_not, is_so, leaves_held, leaves_vacant}
 use Rattle.mtrace_replay.proofs.heap.arrange.leave_held.Goals as goal
 
 pub loop-at-preserved-then-is_vacant : goal.loop-at-preserved-then-is_vacant

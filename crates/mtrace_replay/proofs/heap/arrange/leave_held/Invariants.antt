@@ -1,5 +1,5 @@
 use Rattle.std.proofs.Common.{◌≡◌}
-use Rattle.mtrace_replay.proofs.ArrangeLemmas.{HeldStandFirst}
+use Rattle.mtrace_replay.proofs.Index.ArrangeLemmas.{HeldStandFirst}
 use Rattle.mtrace_replay.proofs.heap.arrange.leave_held.Given as goal
 
 abbrev pub invariant-loop-at : goal.invariant-loop-at

@@ -1,6 +1,6 @@
 use Rattle.std.proofs.Common.{arith, ap, ◌∙◌}
 use Rattle.mtrace_replay.specs.declared.heap.key.Key.{Key}
-use Rattle.mtrace_replay.proofs.ArrangeLemmas.{spreads_held, spreads_vacant}
+use Rattle.mtrace_replay.proofs.Index.ArrangeLemmas.{spreads_held, spreads_vacant}
 use Rattle.mtrace_replay.proofs.heap.arrange.space_out.Goals as goal
 
 pub loop-end-preserved-then-is_its_place : goal.loop-end-preserved-then-is_its_place

@@ -1,5 +1,5 @@
 use Rattle.std.proofs.Common.{◌≡◌}
-use Rattle.mtrace_replay.proofs.ArrangeLemmas.{Spreads}
+use Rattle.mtrace_replay.proofs.Index.ArrangeLemmas.{Spreads}
 use Rattle.mtrace_replay.proofs.heap.arrange.space_out.Given as goal
 
 abbrev pub invariant-loop-end : goal.invariant-loop-end

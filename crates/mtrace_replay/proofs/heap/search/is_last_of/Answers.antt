@@ -1,7 +1,7 @@
 use Rattle.std.proofs.Common.{◌≡◌, length, is_some, not, arith, sym, ap, ◌∙◌}
 use Rattle.std.proofs.Math.Bool.{not-not}
 use Rattle.std.proofs.lemmas.Bool.Decides.{nat_tests}
-use Rattle.mtrace_replay.proofs.SearchLemmas.{held_stands, last_stands, two_digits}
+use Rattle.mtrace_replay.proofs.Index.SearchLemmas.{held_stands, last_stands, two_digits}
 use Rattle.mtrace_replay.proofs.heap.search.is_last_of.Goals as goal
 
 pub returns-then-not-is_vacant-clause-stands : goal.returns-then-not-is_vacant-clause-stands

@@ -1,7 +1,7 @@
 use Rattle.std.proofs.Common.{◌≡◌, ◌-◌, ℕ, suc, None, arith, subst, inl, inr}
 use Rattle.std.specs.Prelude.{Result, IfOk, IfErr}
 use Rattle.mtrace_replay.specs.Search.{StandsAt, FitsAt}
-use Rattle.mtrace_replay.proofs.KeyLemmas.{fits_there, fits_above, fits_below}
+use Rattle.mtrace_replay.proofs.Index.KeyLemmas.{fits_there, fits_above, fits_below}
 use Rattle.mtrace_replay.proofs.heap.search.make_gap.Goals as goal
 
 pub returns-in-Ok-clause-fits : goal.returns-in-Ok-clause-fits

@@ -1,5 +1,5 @@
 use Rattle.std.proofs.Common.{arith}
-use Rattle.mtrace_replay.proofs.HoldingLemmas.{all_are_held}
+use Rattle.mtrace_replay.proofs.Index.HoldingLemmas.{all_are_held}
 use Rattle.mtrace_replay.proofs.heap.search.nearest_gap.Goals as goal
 
 pub unreachable-requires : goal.unreachable-requires

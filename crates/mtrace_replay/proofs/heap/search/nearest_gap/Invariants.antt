@@ -1,4 +1,4 @@
-use Rattle.mtrace_replay.proofs.SearchLemmas.{HeldAround}
+use Rattle.mtrace_replay.proofs.Index.SearchLemmas.{HeldAround}
 use Rattle.mtrace_replay.proofs.heap.search.nearest_gap.Given as goal
 
 abbrev pub invariant-loop-distance : goal.invariant-loop-distance

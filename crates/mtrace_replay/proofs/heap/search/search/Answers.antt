@@ -1,5 +1,5 @@
 use Rattle.std.proofs.Common.{sym}
-use Rattle.mtrace_replay.proofs.SearchLemmas.{goes}
+use Rattle.mtrace_replay.proofs.Index.SearchLemmas.{goes}
 use Rattle.mtrace_replay.proofs.heap.search.search.Goals as goal
 
 pub loop-left-preserved : goal.loop-left-preserved

@@ -1,4 +1,4 @@
-use Rattle.mtrace_replay.proofs.SearchLemmas.{Searching}
+use Rattle.mtrace_replay.proofs.Index.SearchLemmas.{Searching}
 use Rattle.mtrace_replay.proofs.heap.search.search.Given as goal
 
 abbrev pub invariant-loop-left : goal.invariant-loop-left

@@ -1,5 +1,5 @@
 use Rattle.std.proofs.Common.{rules}
-use Rattle.mtrace_replay.proofs.HeapSteps.{bare_added, bare_not_added}
+use Rattle.mtrace_replay.proofs.OnHeap.HeapSteps.{bare_added, bare_not_added}
 use Rattle.mtrace_replay.proofs.heap.start.add_pool.Goals as goal
 
 pub returns-in-Ok-clause-left : goal.returns-in-Ok-clause-left

@@ -2,7 +2,7 @@ use Rattle.std.proofs.Common.{◌≡◌, ◌*◌, ap, ◌∙◌, refl, arith}
 use Rattle.tlsf_heap.specs.Bare.{bare}
 use Rattle.tlsf_heap.specs.Pools.{add_pool}
 use Rattle.mtrace_replay.specs.Started.{started, with_pools, left_by}
-use Rattle.mtrace_replay.proofs.StartSteps.{with_pools-next}
+use Rattle.mtrace_replay.proofs.OnHeap.StartSteps.{with_pools-next}
 use Rattle.mtrace_replay.proofs.heap.start.add_pools.Goals as goal
 
 pub loop-left-init : goal.loop-left-init

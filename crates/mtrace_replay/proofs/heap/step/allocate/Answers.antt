@@ -9,13 +9,13 @@ use Rattle.mtrace_replay.specs.Holding.{Holding}
 use Rattle.mtrace_replay.specs.Moment.{give, none_for, doing, carried_out, one_diagnostic, asked_block}
 use Rattle.mtrace_replay.specs.Index.{AreInOrder, IsNewSlot, held_at, held_bytes}
 use Rattle.mtrace_replay.specs.Step.{all_given, Comes, AreLive}
-use Rattle.mtrace_replay.proofs.HeapSteps.{bare_served, bare_refused}
-use Rattle.mtrace_replay.proofs.AskedBlock.{asked_small, asked_records}
-use Rattle.mtrace_replay.proofs.HeldStayLive.{live_after_asked}
-use Rattle.mtrace_replay.proofs.SlotLemmas.{new_slot}
-use Rattle.mtrace_replay.proofs.HeldFew.{held_fits, held_room}
-use Rattle.mtrace_replay.proofs.LookLemmas.{look_on}
-use Rattle.mtrace_replay.proofs.StepLemmas.{asked_least, none_is, seen_held, replays_as, allocation_held, allocation_free, comes_unserved, comes_served, comes_refused}
+use Rattle.mtrace_replay.proofs.OnHeap.HeapSteps.{bare_served, bare_refused}
+use Rattle.mtrace_replay.proofs.OnHeap.AskedBlock.{asked_small, asked_records}
+use Rattle.mtrace_replay.proofs.OnHeap.HeldStayLive.{live_after_asked}
+use Rattle.mtrace_replay.proofs.OnHeap.SlotLemmas.{new_slot}
+use Rattle.mtrace_replay.proofs.OnHeap.HeldFew.{held_fits, held_room}
+use Rattle.mtrace_replay.proofs.Index.LookLemmas.{look_on}
+use Rattle.mtrace_replay.proofs.OnHeap.StepLemmas.{asked_least, none_is, seen_held, replays_as, allocation_held, allocation_free, comes_unserved, comes_served, comes_refused}
 use Rattle.mtrace_replay.proofs.heap.step.allocate.Goals as goal
 
 pub insert-requires : goal.insert-requires

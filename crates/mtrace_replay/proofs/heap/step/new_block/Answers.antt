@@ -1,7 +1,7 @@
 use Rattle.std.proofs.Common.{refl}
 use Rattle.std.specs.Prelude.{◌==◌}
 use Rattle.std.proofs.lemmas.Bool.{eq-eqb}
-use Rattle.mtrace_replay.proofs.AskedBlock.{live_asked}
+use Rattle.mtrace_replay.proofs.OnHeap.AskedBlock.{live_asked}
 use Rattle.mtrace_replay.proofs.heap.step.new_block.Goals as goal
 
 pub end_of_block-end-requires : goal.end_of_block-end-requires

@@ -9,13 +9,13 @@ use Rattle.tlsf_heap.specs.Realloc.{realloc}
 use Rattle.mtrace_replay.specs.declared.held.diagnostic.Diagnostic.{Diagnostic}
 use Rattle.mtrace_replay.specs.Moment.{move, doing, carried_out, without}
 use Rattle.mtrace_replay.specs.Step.{all_given, Comes}
-use Rattle.mtrace_replay.proofs.HeapSteps.{bare_moved, bare_not_moved}
-use Rattle.mtrace_replay.proofs.HeldStayLive.{live_after_realloc}
-use Rattle.mtrace_replay.proofs.SlotLemmas.{moved_slot}
-use Rattle.mtrace_replay.proofs.FreeAndRealloc.{moved_small, moved_records}
-use Rattle.mtrace_replay.proofs.LookLemmas.{looks_up_fewer}
-use Rattle.mtrace_replay.proofs.HeldFew.{held_few, held_fits}
-use Rattle.mtrace_replay.proofs.StepLemmas.{asked_least, comes_moved, comes_not_moved}
+use Rattle.mtrace_replay.proofs.OnHeap.HeapSteps.{bare_moved, bare_not_moved}
+use Rattle.mtrace_replay.proofs.OnHeap.HeldStayLive.{live_after_realloc}
+use Rattle.mtrace_replay.proofs.OnHeap.SlotLemmas.{moved_slot}
+use Rattle.mtrace_replay.proofs.OnHeap.FreeAndRealloc.{moved_small, moved_records}
+use Rattle.mtrace_replay.proofs.Index.LookLemmas.{looks_up_fewer}
+use Rattle.mtrace_replay.proofs.OnHeap.HeldFew.{held_few, held_fits}
+use Rattle.mtrace_replay.proofs.OnHeap.StepLemmas.{asked_least, comes_moved, comes_not_moved}
 use Rattle.mtrace_replay.proofs.heap.step.reallocate.Goals as goal
 
 pub replace-requires : goal.replace-requires

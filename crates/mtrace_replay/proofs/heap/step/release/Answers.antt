@@ -7,8 +7,8 @@ use Rattle.mtrace_replay.specs.Holding.{Holding}
 use Rattle.mtrace_replay.specs.Moment.{take, none_for, doing, carried_out}
 use Rattle.mtrace_replay.specs.Index.{held_at}
 use Rattle.mtrace_replay.specs.Step.{all_given, Comes, AreLive}
-use Rattle.mtrace_replay.proofs.LookLemmas.{look_on}
-use Rattle.mtrace_replay.proofs.StepLemmas.{replays_as, release_none, release_under, comes_unserved, comes_released, under_none, under_some, seen_block}
+use Rattle.mtrace_replay.proofs.Index.LookLemmas.{look_on}
+use Rattle.mtrace_replay.proofs.OnHeap.StepLemmas.{replays_as, release_none, release_under, comes_unserved, comes_released, under_none, under_some, seen_block}
 use Rattle.mtrace_replay.proofs.heap.step.release.Goals as goal
 
 pub returns-in_default : goal.returns-in_default

@@ -8,8 +8,8 @@ use Rattle.mtrace_replay.specs.Moment.{Plan, move, none_for, doing, allocation, 
 use Rattle.mtrace_replay.specs.Index.{held_at}
 use Rattle.mtrace_replay.specs.Step.{all_given, found, Comes, AreLive}
 use Rattle.std.proofs.lemmas.Result.{on_err_weaker}
-use Rattle.mtrace_replay.proofs.LookLemmas.{look_on, looks_up_fewer}
-use Rattle.mtrace_replay.proofs.StepLemmas.{replays_as, comes_unserved, comes_after_diagnostic, under_none, under_some, seen_block, renewal_allocates, renewal_under}
+use Rattle.mtrace_replay.proofs.Index.LookLemmas.{look_on, looks_up_fewer}
+use Rattle.mtrace_replay.proofs.OnHeap.StepLemmas.{replays_as, comes_unserved, comes_after_diagnostic, under_none, under_some, seen_block, renewal_allocates, renewal_under}
 use Rattle.mtrace_replay.proofs.heap.step.renew.Goals as goal
 
 pub returns-in_default-block : goal.returns-in_default-block

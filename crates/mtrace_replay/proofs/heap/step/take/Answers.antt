@@ -4,8 +4,8 @@ use Rattle.tlsf_heap.specs.Content.{blocks_of}
 use Rattle.tlsf_heap.specs.Free.{free, is_live}
 use Rattle.tlsf_heap.specs.Pointer.{Pointer}
 use Rattle.tlsf_heap.proofs.Good.StaysLive.{free_of_live}
-use Rattle.mtrace_replay.proofs.HeapSteps.{bare_freed}
-use Rattle.mtrace_replay.proofs.HeldStayLive.{live_after_free}
+use Rattle.mtrace_replay.proofs.OnHeap.HeapSteps.{bare_freed}
+use Rattle.mtrace_replay.proofs.OnHeap.HeldStayLive.{live_after_free}
 use Rattle.mtrace_replay.proofs.heap.step.take.Goals as goal
 
 pub unreachable-requires : goal.unreachable-requires

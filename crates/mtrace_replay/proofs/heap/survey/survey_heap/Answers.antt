@@ -5,7 +5,7 @@ use Rattle.tlsf_heap.specs.Content.{Content}
 use Rattle.tlsf_heap.specs.Counted.{range_of}
 use Rattle.mtrace_replay.specs.Rows.{rows_at}
 use Rattle.mtrace_replay.specs.Survey.{SurveysRows}
-use Rattle.mtrace_replay.proofs.RowLemmas.{by_base, just_rows, next_of, survey_is}
+use Rattle.mtrace_replay.proofs.OnHeap.RowLemmas.{by_base, just_rows, next_of, survey_is}
 use Rattle.mtrace_replay.proofs.heap.survey.survey_heap.Goals as goal
 
 pub loop-range-preserved : goal.loop-range-preserved

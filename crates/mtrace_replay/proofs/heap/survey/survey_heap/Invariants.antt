@@ -3,7 +3,7 @@ use Rattle.tlsf_heap.specs.declared.row.Row.{Row}
 use Rattle.tlsf_heap.specs.Pools.{most_records}
 use Rattle.tlsf_heap.specs.Counted.{range_of}
 use Rattle.mtrace_replay.specs.Survey.{SurveysRows}
-use Rattle.mtrace_replay.proofs.RowLemmas.{by_base, just_rows}
+use Rattle.mtrace_replay.proofs.OnHeap.RowLemmas.{by_base, just_rows}
 use Rattle.mtrace_replay.proofs.heap.survey.survey_heap.Given as goal
 
 -- the rows of the pools so far, and of the rest, are all

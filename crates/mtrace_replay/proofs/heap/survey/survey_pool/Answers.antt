@@ -1,7 +1,7 @@
 use Rattle.std.proofs.Common.{List, length, ap, arith}
 use Rattle.tlsf_heap.specs.declared.row.Row.{Row}
 use Rattle.mtrace_replay.specs.Rows.{or_none}
-use Rattle.mtrace_replay.proofs.RowLemmas.{rows_few}
+use Rattle.mtrace_replay.proofs.OnHeap.RowLemmas.{rows_few}
 use Rattle.mtrace_replay.proofs.heap.survey.survey_pool.Goals as goal
 
 pub survey_rows-requires-clause-few : goal.survey_rows-requires-clause-few

@@ -1,6 +1,6 @@
 use Rattle.std.proofs.Common.{◌<◌, arith, ap, subst, ◌∙◌}
 use Rattle.mtrace_replay.specs.declared.heap.totals.Totals.{Totals}
-use Rattle.mtrace_replay.proofs.TriedLemmas.{tried_served, tried_refused, none_begun}
+use Rattle.mtrace_replay.proofs.Running.TriedLemmas.{tried_served, tried_refused, none_begun}
 use Rattle.mtrace_replay.proofs.heap.tried.is_served.Goals as goal
 
 pub loop-preserved : goal.loop-preserved

@@ -3,7 +3,7 @@ use Rattle.mtrace_log.specs.Output.{PutsAll, PutsPart, Puts}
 use Rattle.mtrace_log.proofs.Writing.{puts_then, fails_early, puts_exit}
 use Rattle.mtrace_replay.specs.Texts.{pair_line, row_text}
 use Rattle.mtrace_replay.specs.Rows.{rows_at}
-use Rattle.mtrace_replay.proofs.RowLemmas.{rows_text-is}
+use Rattle.mtrace_replay.proofs.OnHeap.RowLemmas.{rows_text-is}
 use Rattle.mtrace_replay.proofs.heap.walk.put_pool.Goals as goal
 
 pub returns-in_err-put_all : goal.returns-in_err-put_all

@@ -7,7 +7,7 @@ use Rattle.tlsf_heap.specs.Content.{Content}
 use Rattle.tlsf_heap.specs.Counted.{range_of}
 use Rattle.mtrace_replay.specs.Texts.{rows_text}
 use Rattle.mtrace_replay.specs.Rows.{rows_at}
-use Rattle.mtrace_replay.proofs.RowLemmas.{by_base, next_of, walk_is}
+use Rattle.mtrace_replay.proofs.OnHeap.RowLemmas.{by_base, next_of, walk_is}
 use Rattle.mtrace_replay.proofs.heap.walk.put_walk.Goals as goal
 
 pub loop-range-preserved : goal.loop-range-preserved

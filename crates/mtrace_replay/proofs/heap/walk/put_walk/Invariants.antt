@@ -2,7 +2,7 @@ use Rattle.std.proofs.Common.{◌≡◌, flat_map, map, drop}
 use Rattle.mtrace_log.proofs.Writing.{IsPutting}
 use Rattle.tlsf_heap.specs.Counted.{range_of}
 use Rattle.mtrace_replay.specs.Texts.{rows_text}
-use Rattle.mtrace_replay.proofs.RowLemmas.{by_base}
+use Rattle.mtrace_replay.proofs.OnHeap.RowLemmas.{by_base}
 use Rattle.mtrace_replay.proofs.heap.walk.put_walk.Given as goal
 
 -- the pools so far are put, and those of the rest are left

@@ -3,8 +3,8 @@ use Rattle.std.proofs.Math.ListN.{length-map}
 use Rattle.std.specs.List.{AllByRecursion, sum_by}
 use Rattle.mtrace_replay.specs.Sites.{Site}
 use Rattle.mtrace_replay.specs.Entry.{Entry}
-use Rattle.mtrace_replay.proofs.SiteLemmas.Gathered.{gather_small}
-use Rattle.mtrace_replay.proofs.SiteLemmas.Sorting.{small_sites, part_sum}
+use Rattle.mtrace_replay.proofs.Told.SiteLemmas.Gathered.{gather_small}
+use Rattle.mtrace_replay.proofs.Told.SiteLemmas.Sorting.{small_sites, part_sum}
 use Rattle.mtrace_replay.proofs.held.grouping.gather_sites.Goals as goal
 
 pub join-requires-clause-blocks : goal.join-requires-clause-blocks

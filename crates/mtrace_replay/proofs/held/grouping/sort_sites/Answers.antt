@@ -1,7 +1,7 @@
 use Rattle.std.proofs.Common.{rules}
 use Rattle.mtrace_replay.specs.Sites.{Site}
-use Rattle.mtrace_replay.proofs.SiteLemmas.Exact.{site_total}
-use Rattle.mtrace_replay.proofs.SiteLemmas.Sorting.{sorted-from_sort_by}
+use Rattle.mtrace_replay.proofs.Told.SiteLemmas.Exact.{site_total}
+use Rattle.mtrace_replay.proofs.Told.SiteLemmas.Sorting.{sorted-from_sort_by}
 use Rattle.mtrace_replay.proofs.held.grouping.sort_sites.Goals as goal
 
 pub returns : goal.returns

@@ -2,7 +2,7 @@
 use Rattle.std.proofs.Common.{refl, drop, ◌+◌, flat_map}
 use Rattle.mtrace_log.proofs.Writing.{putting_more, putting_fails, puts_exit}
 use Rattle.mtrace_replay.specs.Texts.{caller_text}
-use Rattle.mtrace_replay.proofs.TextLemmas.{texts-next}
+use Rattle.mtrace_replay.proofs.Told.TextLemmas.{texts-next}
 use Rattle.mtrace_replay.proofs.held.sections.put_caller_lines.Goals as goal
 
 pub loop-caller-preserved : goal.loop-caller-preserved

@@ -1,7 +1,7 @@
 use Rattle.std.proofs.Common.{refl, drop, ◌+◌, flat_map}
 use Rattle.mtrace_log.proofs.Writing.{putting_more, putting_fails, puts_exit}
 use Rattle.mtrace_replay.specs.Texts.{site_text}
-use Rattle.mtrace_replay.proofs.TextLemmas.{texts-next}
+use Rattle.mtrace_replay.proofs.Told.TextLemmas.{texts-next}
 use Rattle.mtrace_replay.proofs.held.sections.put_sites.Goals as goal
 
 pub loop-site-preserved : goal.loop-site-preserved

@@ -1,6 +1,6 @@
 use Rattle.std.proofs.Common.{◌≡◌, ◌+◌, ap, ◌∙◌, arith, vec_len}
 use Rattle.mtrace_replay.specs.Timeline.{end_of_part}
-use Rattle.mtrace_replay.proofs.ToldLines.{told_by_part, counts_of_part, ends_rise, told_all}
+use Rattle.mtrace_replay.proofs.Told.ToldLines.{told_by_part, counts_of_part, ends_rise, told_all}
 use Rattle.mtrace_replay.proofs.held.told.tell_lines.Goals as goal
 
 pub loop-part-preserved : goal.loop-part-preserved

@@ -1,6 +1,6 @@
 use Rattle.std.proofs.Common.{◌≡◌, ◌+◌, ◌<◌, ◌≤◌, vec_len, vec_capacity}
 use Rattle.mtrace_replay.specs.Timeline.{end_of_part}
-use Rattle.mtrace_replay.proofs.ToldLines.{AreToldUpTo}
+use Rattle.mtrace_replay.proofs.Told.ToldLines.{AreToldUpTo}
 use Rattle.mtrace_replay.proofs.held.told.tell_lines.Given as goal
 
 -- what is told up to the end of the parts so far: one number for each, and 0, and the peak's where it was told

@@ -1,8 +1,8 @@
 use Rattle.std.proofs.Common.{arith, refl, sym, ◌∙◌, reverse, inl, inr}
 use Rattle.mtrace_log.proofs.CallLemmas.{calls_more, calls_of_line, calls_to_end, calls_to_fault}
 use Rattle.mtrace_replay.specs.Served.{IsServed}
-use Rattle.mtrace_replay.proofs.ReplayingLemmas.{followed_on_line, followed_end, followed_fault}
-use Rattle.mtrace_replay.proofs.AgainLemmas.{ends_early, failed_in_piece}
+use Rattle.mtrace_replay.proofs.Running.ReplayingLemmas.{followed_on_line, followed_end, followed_fault}
+use Rattle.mtrace_replay.proofs.Running.AgainLemmas.{ends_early, failed_in_piece}
 use Rattle.mtrace_replay.proofs.no_heap.again.follow_next.Goals as goal
 
 pub returns-in-Ok-None-clause-next : goal.returns-in-Ok-None-clause-next

@@ -3,7 +3,7 @@ use Rattle.std.specs.Prelude.{Err}
 use Rattle.std.proofs.lemmas.Result.{err_from_is_err_and}
 use Rattle.mtrace_replay.specs.declared.no_heap.replay.LedgerTotals.{LedgerTotals}
 use Rattle.mtrace_replay.specs.Served.{IsServed}
-use Rattle.mtrace_replay.proofs.ReplayingLemmas.{followed_on_none, followed_on_further}
+use Rattle.mtrace_replay.proofs.Running.ReplayingLemmas.{followed_on_none, followed_on_further}
 use Rattle.mtrace_replay.proofs.no_heap.again.follow_up_to.Goals as goal
 
 pub loop-init : goal.loop-init

@@ -4,7 +4,7 @@ use Rattle.std.specs.Option.{option_copied}
 use Rattle.mtrace_replay.specs.declared.no_heap.count.Count.{Count}
 use Rattle.mtrace_replay.specs.Calls.{has_no_call, caller_of}
 use Rattle.mtrace_replay.specs.Shares.{count_at, with_row}
-use Rattle.mtrace_replay.proofs.RowsBySlot.{one_before}
+use Rattle.mtrace_replay.proofs.Served.RowsBySlot.{one_before}
 use Rattle.mtrace_replay.proofs.no_heap.ledger.gather_callers.Goals as goal
 
 pub loop-left-preserved : goal.loop-left-preserved

@@ -2,7 +2,7 @@
 use Rattle.std.proofs.Common.{◌≡◌, ◌≤◌, suc, length, map, drop, reverse, Some}
 use Rattle.mtrace_replay.specs.Calls.{has_no_call, caller_of}
 use Rattle.mtrace_replay.specs.Shares.{count_at, rows_by}
-use Rattle.mtrace_replay.proofs.RowsBySlot.{Gathers}
+use Rattle.mtrace_replay.proofs.Served.RowsBySlot.{Gathers}
 use Rattle.mtrace_replay.proofs.no_heap.ledger.gather_callers.Given as goal
 
 abbrev pub invariant-loop-left : goal.invariant-loop-left

@@ -3,7 +3,7 @@ use Rattle.std.proofs.Common.{◌-◌, reverse, ap, ◌∙◌, arith}
 use Rattle.std.specs.Option.{option_copied}
 use Rattle.mtrace_replay.specs.declared.held.amount.Amount.{Amount}
 use Rattle.mtrace_replay.specs.Shares.{amount_at, has_no_block, site_at, with_site}
-use Rattle.mtrace_replay.proofs.RowsBySlot.{one_before}
+use Rattle.mtrace_replay.proofs.Served.RowsBySlot.{one_before}
 use Rattle.mtrace_replay.proofs.no_heap.ledger.gather_sites.Goals as goal
 
 pub loop-left-preserved : goal.loop-left-preserved

@@ -1,7 +1,7 @@
 -- The sites so far are those of the locations that are passed.
 use Rattle.std.proofs.Common.{◌≡◌, ◌≤◌, suc, length, map, drop, reverse, Some}
 use Rattle.mtrace_replay.specs.Shares.{amount_at, sites_by}
-use Rattle.mtrace_replay.proofs.RowsBySlot.{Gathers}
+use Rattle.mtrace_replay.proofs.Served.RowsBySlot.{Gathers}
 use Rattle.mtrace_replay.proofs.no_heap.ledger.gather_sites.Given as goal
 
 abbrev pub invariant-loop-left : goal.invariant-loop-left

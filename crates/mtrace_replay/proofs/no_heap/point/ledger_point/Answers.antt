@@ -3,7 +3,7 @@ use Rattle.std.proofs.lemmas.List.{length-map}
 use Rattle.mtrace_replay.specs.Texts.{total_size}
 use Rattle.mtrace_replay.specs.Served.{unplaced}
 use Rattle.mtrace_replay.specs.declared.no_heap.replay.LedgerTotals.{LedgerTotals}
-use Rattle.mtrace_replay.proofs.ServedLemmas.{entries_unplaced}
+use Rattle.mtrace_replay.proofs.Served.ServedLemmas.{entries_unplaced}
 use Rattle.mtrace_replay.proofs.no_heap.point.ledger_point.Goals as goal
 
 pub returns-clause-point : goal.returns-clause-point

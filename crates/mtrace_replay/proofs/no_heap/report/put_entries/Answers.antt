@@ -8,7 +8,7 @@ use Rattle.mtrace_log.proofs.Writing.{putting_more, putting_fails, puts_exit}
 use Rattle.mtrace_replay.specs.Entry.{Entry}
 use Rattle.mtrace_replay.specs.Texts.{entry_text}
 use Rattle.mtrace_replay.specs.Ledger.{held_at}
-use Rattle.mtrace_replay.proofs.SortedLemmas.{is_found}
+use Rattle.mtrace_replay.proofs.History.SortedLemmas.{is_found}
 use Rattle.mtrace_replay.proofs.no_heap.report.put_entries.Goals as goal
 
 -- the entry of a number

@@ -2,7 +2,7 @@ use Rattle.std.proofs.Common.{ℕ, List, ◌++◌, sym, subst, ◌∙◌, flat_m
 use Rattle.mtrace_log.specs.Output.{PutsPart, Puts}
 use Rattle.mtrace_log.proofs.Writing.{puts_on, puts_then, fails_on, fails_early, puts_exit}
 use Rattle.mtrace_replay.specs.Texts.{entry_text, total_text, leaks_report}
-use Rattle.mtrace_replay.proofs.TextLemmas.{heading, leaks_report-some, total_text-is}
+use Rattle.mtrace_replay.proofs.Told.TextLemmas.{heading, leaks_report-some, total_text-is}
 use Rattle.mtrace_replay.proofs.no_heap.report.put_held.Goals as goal
 
 pub returns-in_err-put_all : goal.returns-in_err-put_all

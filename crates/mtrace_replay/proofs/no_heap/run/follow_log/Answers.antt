@@ -3,8 +3,8 @@ use Rattle.mtrace_log.specs.declared.call.Call.TheVariants.{Took, Flushed}
 use Rattle.mtrace_log.proofs.TraceLemmas.{moved_then_append, failed_after}
 use Rattle.mtrace_replay.specs.Prepared.{IsOf}
 use Rattle.mtrace_replay.specs.Served.{IsServed}
-use Rattle.mtrace_replay.proofs.RunLemmas.{flush_asked}
-use Rattle.mtrace_replay.proofs.ServedRunLemmas.{has_served, stops_served_at_read, stops_served_at_write, stops_for_memory, served_write, served_all, served_nothing, served_memory}
+use Rattle.mtrace_replay.proofs.Running.RunLemmas.{flush_asked}
+use Rattle.mtrace_replay.proofs.Served.ServedRunLemmas.{has_served, stops_served_at_read, stops_served_at_write, stops_for_memory, served_write, served_all, served_nothing, served_memory}
 use Rattle.mtrace_replay.proofs.no_heap.run.follow_log.Goals as goal
 
 -- the log has ended, and all was written

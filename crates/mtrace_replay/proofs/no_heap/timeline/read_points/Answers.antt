@@ -16,10 +16,10 @@ use Rattle.mtrace_replay.specs.Replaying.{HasGivenSo}
 use Rattle.mtrace_replay.specs.Served.{IsServed}
 use Rattle.mtrace_replay.specs.ServedTimeline.{IsPointOfLines}
 use Rattle.mtrace_replay.specs.Texts.{greatest}
-use Rattle.mtrace_replay.proofs.ReplayingLemmas.{followed_start}
-use Rattle.mtrace_replay.proofs.AgainLemmas.{read_first, other_result}
-use Rattle.mtrace_replay.proofs.Points.{HasGathered, greatest_taken, up_to_next, gathered_more, lines_more, within_more}
-use Rattle.mtrace_replay.proofs.TriedLemmas.{fails_again}
+use Rattle.mtrace_replay.proofs.Running.ReplayingLemmas.{followed_start}
+use Rattle.mtrace_replay.proofs.Running.AgainLemmas.{read_first, other_result}
+use Rattle.mtrace_replay.proofs.Running.Points.{HasGathered, greatest_taken, up_to_next, gathered_more, lines_more, within_more}
+use Rattle.mtrace_replay.proofs.Running.TriedLemmas.{fails_again}
 use Rattle.mtrace_replay.proofs.no_heap.timeline.read_points.Goals as goal
 
 pub loop-number-init : goal.loop-number-init

@@ -5,7 +5,7 @@ use Rattle.mtrace_replay.specs.Served.{IsServed}
 use Rattle.mtrace_replay.specs.ServedTimeline.{IsPointOfLines, ledger_lines_of}
 use Rattle.mtrace_replay.specs.Replaying.{HasGivenSo}
 use Rattle.mtrace_replay.specs.Texts.{greatest}
-use Rattle.mtrace_replay.proofs.Points.{HasGathered}
+use Rattle.mtrace_replay.proofs.Running.Points.{HasGathered}
 use Rattle.mtrace_replay.proofs.no_heap.timeline.read_points.Given as goal
 
 -- the lines up to the last number were read and followed, and there is a point for each number

@@ -4,7 +4,7 @@ use Rattle.std.proofs.lemmas.List.{length-reverse}
 use Rattle.mtrace_replay.specs.declared.no_heap.replay.LedgerTotals.{LedgerTotals}
 use Rattle.mtrace_replay.specs.Totals.{IsPeak}
 use Rattle.mtrace_replay.specs.Served.{served_history}
-use Rattle.mtrace_replay.proofs.RunsAgain.{not_bad}
+use Rattle.mtrace_replay.proofs.Running.RunsAgain.{not_bad}
 use Rattle.mtrace_replay.proofs.no_heap.timeline.run_ledger_timeline.Goals as goal
 
 pub returns : goal.returns

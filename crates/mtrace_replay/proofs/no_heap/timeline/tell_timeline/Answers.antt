@@ -4,9 +4,9 @@ use Rattle.mtrace_replay.specs.declared.no_heap.point.LedgerPoint.{LedgerPoint}
 use Rattle.mtrace_replay.specs.ServedTimeline.{HasLedgerPoints}
 use Rattle.mtrace_replay.specs.Texts.{ledger_timeline_text}
 use Rattle.mtrace_replay.specs.Timeline.{AreTold}
-use Rattle.mtrace_replay.proofs.AgainLemmas.{other_result}
-use Rattle.mtrace_replay.proofs.RunsAgain.{follows_told}
-use Rattle.mtrace_replay.proofs.ServedTimelineLemmas.{never_memory, follows_stopped, tells_points, fails_before_last}
+use Rattle.mtrace_replay.proofs.Running.AgainLemmas.{other_result}
+use Rattle.mtrace_replay.proofs.Running.RunsAgain.{follows_told}
+use Rattle.mtrace_replay.proofs.Served.ServedTimelineLemmas.{never_memory, follows_stopped, tells_points, fails_before_last}
 use Rattle.mtrace_replay.proofs.no_heap.timeline.tell_timeline.Goals as goal
 
 pub returns-in_default-clause-told : goal.returns-in_default-clause-told

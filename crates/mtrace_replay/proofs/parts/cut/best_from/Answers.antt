@@ -3,8 +3,8 @@ use Rattle.mtrace_replay.specs.declared.parts.span.Span.{Span}
 use Rattle.mtrace_replay.specs.Cuts.{IsSmall, IsBest}
 use Rattle.std.proofs.lemmas.Bool.{ltb-true}
 use Rattle.std.proofs.lemmas.List.{get_or_default}
-use Rattle.mtrace_replay.proofs.MappedLemmas.{no_span}
-use Rattle.mtrace_replay.proofs.CutLemmas.{IsBestSoFar, none_so_far, some_so_far, passed_over, tried, all_tried, small_joined, small_lesser}
+use Rattle.mtrace_replay.proofs.Index.MappedLemmas.{no_span}
+use Rattle.mtrace_replay.proofs.BySize.CutLemmas.{IsBestSoFar, none_so_far, some_so_far, passed_over, tried, all_tried, small_joined, small_lesser}
 use Rattle.mtrace_replay.proofs.parts.cut.best_from.Goals.{then-is_unused_from, else-is_unused_from}
 use Rattle.mtrace_replay.proofs.parts.cut.best_from.Goals as goal
 

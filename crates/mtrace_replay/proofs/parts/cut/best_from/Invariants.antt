@@ -2,7 +2,7 @@ use Rattle.std.proofs.Common.{ℕ, suc}
 use Rattle.std.specs.List.{All}
 use Rattle.mtrace_replay.specs.Parts.{Part}
 use Rattle.mtrace_replay.specs.Cuts.{IsSmall, ArePartsIn, AreBest}
-use Rattle.mtrace_replay.proofs.CutLemmas.{IsBestSoFar}
+use Rattle.mtrace_replay.proofs.BySize.CutLemmas.{IsBestSoFar}
 use Rattle.mtrace_replay.proofs.parts.cut.best_from.Given as goal
 
 -- the best cut so far

@@ -1,5 +1,5 @@
 use Rattle.std.proofs.Common.{length, ◌≤◌, sym, subst, arith}
-use Rattle.mtrace_replay.proofs.CutLemmas.{empty_best, empty_none}
+use Rattle.mtrace_replay.proofs.BySize.CutLemmas.{empty_best, empty_none}
 use Rattle.mtrace_replay.proofs.parts.cut.empty_from.Goals as goal
 
 pub returns-then-is_unused_from-clause-best : goal.returns-then-is_unused_from-clause-best

@@ -3,7 +3,7 @@ use Rattle.std.specs.List.{All}
 use Rattle.std.proofs.lemmas.List.Elements.{All-push}
 use Rattle.mtrace_replay.specs.declared.parts.cut.Cut.{Cut}
 use Rattle.mtrace_replay.specs.Cuts.{IsSmall, IsBest}
-use Rattle.mtrace_replay.proofs.CutLemmas.{pushed}
+use Rattle.mtrace_replay.proofs.BySize.CutLemmas.{pushed}
 use Rattle.mtrace_replay.proofs.parts.cut.first_row.Goals as goal
 
 pub loop-first-preserved : goal.loop-first-preserved

@@ -1,7 +1,7 @@
 use Rattle.std.proofs.Common.{◌≡◌, suc, ◌≤◌, ◌+◌, Some, None, sym, subst, arith}
 use Rattle.std.specs.List.{All}
 use Rattle.mtrace_replay.specs.Cuts.{IsSmall, IsBest, AreBest}
-use Rattle.mtrace_replay.proofs.CutLemmas.{some_cut, smaller}
+use Rattle.mtrace_replay.proofs.BySize.CutLemmas.{some_cut, smaller}
 use Rattle.mtrace_replay.proofs.parts.cut.least_cut.Goals as goal
 
 pub next_row-requires : goal.next_row-requires

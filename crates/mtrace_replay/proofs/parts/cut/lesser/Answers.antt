@@ -1,7 +1,7 @@
 use Rattle.std.proofs.Common.{Some, sym, ap, ◌∙◌, subst}
 use Rattle.std.specs.Ordering.{is_gt}
 use Rattle.mtrace_replay.specs.Cuts.{IsLesser}
-use Rattle.mtrace_replay.proofs.CutLemmas.{lesser_of_none, lesser_alone, lesser_first, lesser_second}
+use Rattle.mtrace_replay.proofs.BySize.CutLemmas.{lesser_of_none, lesser_alone, lesser_first, lesser_second}
 use Rattle.mtrace_replay.proofs.parts.cut.lesser.Goals as goal
 
 pub returns-in_default : goal.returns-in_default

@@ -2,11 +2,11 @@ use Rattle.std.proofs.Common.{◌∙◌, inl}
 use Rattle.mtrace_log.specs.declared.call.Call.TheVariants.{Took, Flushed}
 use Rattle.mtrace_log.proofs.TraceLemmas.{moved_then_append, failed_after}
 use Rattle.mtrace_replay.specs.CountedReplay.{counted_rules}
-use Rattle.mtrace_replay.proofs.RunLemmas.{flush_asked}
+use Rattle.mtrace_replay.proofs.Running.RunLemmas.{flush_asked}
 use Rattle.mtrace_replay.specs.declared.no_heap.report.LedgerReport.TheVariants.{Nothing}
 use Rattle.mtrace_replay.specs.declared.no_heap.prepared.Prepared.TheVariants as prepared
-use Rattle.mtrace_replay.proofs.ServedRunLemmas.{served_write, served_all, stops_served_at_read, stops_served_at_write, stops_for_memory}
-use Rattle.mtrace_replay.proofs.CountedRunLemmas.{has_counted, counted_all}
+use Rattle.mtrace_replay.proofs.Served.ServedRunLemmas.{served_write, served_all, stops_served_at_read, stops_served_at_write, stops_for_memory}
+use Rattle.mtrace_replay.proofs.BySize.CountedRunLemmas.{has_counted, counted_all}
 use Rattle.mtrace_replay.proofs.parts.follow.follow_counted.Goals as goal
 
 -- the log has ended, and all was written

@@ -1,6 +1,6 @@
 use Rattle.std.proofs.Common.{arith}
 use Rattle.std.proofs.lemmas.Bool.{le-leb}
-use Rattle.mtrace_replay.proofs.RangeLemmas.{range_is}
+use Rattle.mtrace_replay.proofs.BySize.RangeLemmas.{range_is}
 use Rattle.mtrace_replay.proofs.parts.range.range_of.Goals as goal
 
 pub returns-else-end-from : goal.returns-else-end-from

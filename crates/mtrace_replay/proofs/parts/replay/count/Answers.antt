@@ -2,7 +2,7 @@ use Rattle.std.proofs.Common.{◌∷◌, None, sym, subst, nat_eq}
 use Rattle.std.specs.Prelude.{Some, if◌then◌else◌}
 use Rattle.std.specs.HashMap.{get}
 use Rattle.mtrace_replay.specs.Spans.{AreCountedOf, range_released}
-use Rattle.mtrace_replay.proofs.CountedLemmas.{followed_unserved, followed_served, followed_few}
+use Rattle.mtrace_replay.proofs.BySize.CountedLemmas.{followed_unserved, followed_served, followed_few}
 use Rattle.mtrace_replay.proofs.parts.replay.count.Goals as goal
 
 pub returns-then-not-is_served-clause-counted : goal.returns-then-not-is_served-clause-counted

@@ -1,7 +1,7 @@
 use Rattle.std.proofs.Common.{◌≡◌, suc, ◌+◌, ◌<◌, ◌∷◌, drop, get_or, ap, ◌∙◌, arith}
 use Rattle.std.proofs.Math.Seq.{drop-cons}
 use Rattle.mtrace_replay.specs.Parts.{size_ranges}
-use Rattle.mtrace_replay.proofs.PartsTextLemmas.{part_more, cut_more}
+use Rattle.mtrace_replay.proofs.BySize.PartsTextLemmas.{part_more, cut_more}
 use Rattle.mtrace_replay.proofs.parts.run.parts_of.Goals as goal
 
 pub loop-last-preserved : goal.loop-last-preserved

@@ -1,6 +1,6 @@
 use Rattle.std.proofs.Common.{inr, refl, arith}
 use Rattle.std.specs.Prelude.{Ok, Err}
-use Rattle.mtrace_replay.proofs.PartsRun.{not_bad_heaps}
+use Rattle.mtrace_replay.proofs.BySize.PartsRun.{not_bad_heaps}
 use Rattle.mtrace_replay.proofs.parts.run.run_fit_heaps.Goals as goal
 
 pub returns-in-Ok-follow_counted : goal.returns-in-Ok-follow_counted

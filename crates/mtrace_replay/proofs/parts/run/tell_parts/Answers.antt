@@ -6,7 +6,7 @@ use Rattle.mtrace_replay.specs.Parts.{TellsHeaps, no_parts_text, parts_text, pea
 use Rattle.mtrace_replay.specs.Spans.{AreCounted, AreCountedOf}
 use Rattle.mtrace_replay.specs.Cuts.{ArePartsIn}
 use Rattle.mtrace_replay.specs.PartsText.{part_in}
-use Rattle.mtrace_replay.proofs.PartsRun.{its_part, in_spans, told, tells_parts, follows}
+use Rattle.mtrace_replay.proofs.BySize.PartsRun.{its_part, in_spans, told, tells_parts, follows}
 use Rattle.mtrace_replay.proofs.parts.run.tell_parts.Goals as goal
 
 pub returns-in_default : goal.returns-in_default

@@ -2,7 +2,7 @@ use Rattle.std.proofs.Common.{◌≡◌, suc, ◌+◌, ◌^◌, ◌<◌, get_or,
 use Rattle.std.specs.Prelude.{slice_set}
 use Rattle.mtrace_replay.specs.Spans.{with_block}
 use Rattle.mtrace_replay.specs.declared.parts.span.Span.{Span}
-use Rattle.mtrace_replay.proofs.MappedLemmas.{no_span, mapped, mapped_all, mapped_next, mapped_more}
+use Rattle.mtrace_replay.proofs.Index.MappedLemmas.{no_span, mapped, mapped_all, mapped_next, mapped_more}
 use Rattle.mtrace_replay.proofs.parts.spans.add_block.Goals as goal
 
 pub with_block-requires : goal.with_block-requires

@@ -1,6 +1,6 @@
 use Rattle.std.proofs.Common.{◌≡◌}
 use Rattle.mtrace_replay.specs.Spans.{with_block}
-use Rattle.mtrace_replay.proofs.MappedLemmas.{mapped}
+use Rattle.mtrace_replay.proofs.Index.MappedLemmas.{mapped}
 use Rattle.mtrace_replay.proofs.parts.spans.add_block.Given as goal
 
 -- those so far have the block

@@ -2,7 +2,7 @@ use Rattle.std.proofs.Common.{inl, inr, refl, subst, arith}
 use Rattle.std.specs.List.{Contains}
 use Rattle.std.proofs.lemmas.Bool.{cases_lt}
 use Rattle.mtrace_replay.specs.Spans.{blank}
-use Rattle.mtrace_replay.proofs.SpansLemmas.{more_kept, more_there, more_blank}
+use Rattle.mtrace_replay.proofs.BySize.SpansLemmas.{more_kept, more_there, more_blank}
 use Rattle.mtrace_replay.proofs.parts.spans.push_from.Goals as goal
 
 pub loop-last-preserved : goal.loop-last-preserved

@@ -1,7 +1,7 @@
 use Rattle.std.proofs.Common.{Some, ◌≡◌, suc, ◌+◌, get_or, length, arith, ap, ◌∙◌}
 use Rattle.std.specs.Prelude.{slice_set}
 use Rattle.mtrace_replay.specs.Spans.{released}
-use Rattle.mtrace_replay.proofs.MappedLemmas.{no_span, mapped, mapped_all, mapped_next, mapped_more}
+use Rattle.mtrace_replay.proofs.Index.MappedLemmas.{no_span, mapped, mapped_all, mapped_next, mapped_more}
 use Rattle.mtrace_replay.proofs.parts.spans.remove_block.Goals as goal
 
 pub returns : goal.returns

@@ -1,6 +1,6 @@
 use Rattle.std.proofs.Common.{Some, ◌≡◌}
 use Rattle.mtrace_replay.specs.Spans.{released}
-use Rattle.mtrace_replay.proofs.MappedLemmas.{mapped}
+use Rattle.mtrace_replay.proofs.Index.MappedLemmas.{mapped}
 use Rattle.mtrace_replay.proofs.parts.spans.remove_block.Given as goal
 
 -- those so far don't have the block

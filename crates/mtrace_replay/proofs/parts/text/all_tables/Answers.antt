@@ -1,6 +1,6 @@
 use Rattle.std.proofs.Common.{◌<◌, ◌-◌, length, sym, ◌∙◌, arith}
 use Rattle.mtrace_replay.specs.Parts.{records_bytes}
-use Rattle.mtrace_replay.proofs.PartsTextLemmas.{none_there, no_part}
+use Rattle.mtrace_replay.proofs.BySize.PartsTextLemmas.{none_there, no_part}
 use Rattle.mtrace_replay.proofs.parts.text.all_tables.Goals as goal
 
 pub returns-in_err-sum : goal.returns-in_err-sum

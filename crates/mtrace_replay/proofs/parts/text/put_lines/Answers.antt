@@ -5,7 +5,7 @@ use Rattle.mtrace_log.proofs.Writing.{putting_more, putting_fails, puts_exit}
 use Rattle.mtrace_replay.specs.declared.parts.text.PartOf.{PartOf}
 use Rattle.mtrace_replay.specs.Parts.{part_line}
 use Rattle.mtrace_replay.specs.PartsText.{part_in}
-use Rattle.mtrace_replay.proofs.TextLemmas.{texts-next}
+use Rattle.mtrace_replay.proofs.Told.TextLemmas.{texts-next}
 use Rattle.mtrace_replay.proofs.parts.text.put_lines.Goals as goal
 
 abbrev line_of : PartOf → List ℕ

@@ -6,7 +6,7 @@ use Rattle.mtrace_replay.specs.declared.parts.text.PartOf.{PartOf}
 use Rattle.mtrace_replay.specs.Texts.{number_line, size_line}
 use Rattle.mtrace_replay.specs.Parts.{pool_bytes, records_bytes, sum_over, part_line, parts_text, peak_line_text}
 use Rattle.mtrace_replay.specs.PartsText.{part_in}
-use Rattle.mtrace_replay.proofs.PartsTextLemmas.{lines_same}
+use Rattle.mtrace_replay.proofs.BySize.PartsTextLemmas.{lines_same}
 use Rattle.mtrace_replay.proofs.parts.text.put_parts.Goals as goal
 
 abbrev front_of : ℕ → ℕ → List PartOf → List ℕ

@@ -4,8 +4,8 @@ use Rattle.mtrace_replay.specs.declared.runs.fitted.Fitted.{Fitted}
 use Rattle.mtrace_replay.specs.Fit.{enough_records, step_of, first_number, fitted}
 use Rattle.mtrace_replay.specs.Texts.{greatest_line, most_line, fitted_lines, untried_lines, refused_line}
 use Rattle.mtrace_replay.specs.RunFit.{TriesRanges, TellsFit, HasBegun}
-use Rattle.mtrace_replay.proofs.TriedLemmas.{nothing_begun}
-use Rattle.mtrace_replay.proofs.FitLemmas.{tells_untried, tells_fitted}
+use Rattle.mtrace_replay.proofs.Running.TriedLemmas.{nothing_begun}
+use Rattle.mtrace_replay.proofs.Running.FitLemmas.{tells_untried, tells_fitted}
 use Rattle.mtrace_replay.proofs.runs.fit.fit_text.Goals as goal
 
 pub returns-then-totals-gt0 : goal.returns-then-totals-gt0

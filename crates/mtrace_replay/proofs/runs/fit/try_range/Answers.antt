@@ -3,8 +3,8 @@ use Rattle.std.specs.List.{range_with_len}
 use Rattle.mtrace_replay.specs.Fit.{one_pool, fitted, Verdict}
 use Rattle.mtrace_replay.specs.RunFit.{AreVerdicts, IsTried}
 use Rattle.mtrace_log.specs.Shown.{Bytes}
-use Rattle.mtrace_replay.proofs.FitLemmas.{one_tried, one_pool-good, units_times, within_greatest, some_units}
-use Rattle.mtrace_replay.proofs.TriedLemmas.{begun-then}
+use Rattle.mtrace_replay.proofs.Running.FitLemmas.{one_tried, one_pool-good, units_times, within_greatest, some_units}
+use Rattle.mtrace_replay.proofs.Running.TriedLemmas.{begun-then}
 use Rattle.mtrace_replay.proofs.runs.fit.try_range.Goals as goal
 
 pub try_size-requires-clause-good : goal.try_size-requires-clause-good

@@ -1,7 +1,7 @@
 use Rattle.std.proofs.Common.{◌∙◌, arith}
 use Rattle.std.proofs.lemmas.Grind.{common_steps}
 use Rattle.mtrace_replay.specs.Fit.{one_pool}
-use Rattle.mtrace_replay.proofs.TriedLemmas.{begun_once, fails_again, on_ok, on_err}
+use Rattle.mtrace_replay.proofs.Running.TriedLemmas.{begun_once, fails_again, on_ok, on_err}
 use Rattle.mtrace_replay.proofs.runs.fit.try_size.Goals as goal
 
 pub returns : goal.returns

@@ -8,8 +8,8 @@ use Rattle.mtrace_replay.specs.declared.runs.fitted.Fitted.{Fitted}
 use Rattle.mtrace_replay.specs.Fit.{Verdict, doubled, first_number, last_number, multiples, range, ranges, least_size, fitted}
 use Rattle.mtrace_log.specs.Shown.{Bytes}
 use Rattle.mtrace_replay.specs.RunFit.{AreVerdicts, TriesRanges}
-use Rattle.mtrace_replay.proofs.FitLemmas.{more_verdicts, least_behind, doubled_more, no_range}
-use Rattle.mtrace_replay.proofs.TriedLemmas.{begun-then, nothing_begun}
+use Rattle.mtrace_replay.proofs.Running.FitLemmas.{more_verdicts, least_behind, doubled_more, no_range}
+use Rattle.mtrace_replay.proofs.Running.TriedLemmas.{begun-then, nothing_begun}
 use Rattle.mtrace_replay.proofs.runs.fit.try_sizes.Goals as goal
 
 some_is : {A : Type 0} (found : Option A) → is_some found ≡ true → IsSome found

@@ -7,7 +7,7 @@ use Rattle.mtrace_replay.specs.Run.{has_some}
 use Rattle.mtrace_log.specs.declared.call.Call.TheVariants.{Gave, Took, Failed}
 use Rattle.mtrace_log.proofs.TraceLemmas.{moved_none, moved_append, moved_then_append}
 use Rattle.mtrace_log.proofs.CallLemmas.{calls_more, calls_of_line, calls_to_end, calls_to_fault}
-use Rattle.mtrace_replay.proofs.FollowingLemmas.{IsFollowing, following_start, following_line, following_end, following_fault, following_write, following_memory}
+use Rattle.mtrace_replay.proofs.Running.FollowingLemmas.{IsFollowing, following_start, following_line, following_end, following_fault, following_write, following_memory}
 use Rattle.mtrace_replay.proofs.runs.following.follow_lines.Goals as goal
 
 pub loop-number-init : goal.loop-number-init

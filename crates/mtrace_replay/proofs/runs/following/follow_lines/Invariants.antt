@@ -1,7 +1,7 @@
 use Rattle.std.proofs.Common.{◌≡◌, ◌-◌, ◌^◌, []}
 use Rattle.mtrace_log.specs.Trace.{HasTaken}
 use Rattle.mtrace_log.specs.Progress.{CallsFor}
-use Rattle.mtrace_replay.proofs.FollowingLemmas.{IsFollowing}
+use Rattle.mtrace_replay.proofs.Running.FollowingLemmas.{IsFollowing}
 use Rattle.mtrace_replay.proofs.runs.following.follow_lines.Given as goal
 
 -- the lines are followed, and as many were as were read. The reader gave pieces, and perhaps told its end. The writer took pieces

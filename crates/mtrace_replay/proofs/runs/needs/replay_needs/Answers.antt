@@ -4,8 +4,8 @@ use Rattle.mtrace_log.proofs.TraceLemmas.{moved_then_append, failed_after}
 use Rattle.mtrace_replay.specs.declared.runs.report.Report.TheVariants.{Nothing}
 use Rattle.mtrace_replay.specs.Started.{started}
 use Rattle.mtrace_replay.specs.Needs.{AreNeeds}
-use Rattle.mtrace_replay.proofs.RunLemmas.{report_all, report_write, flush_asked, has_replayed, stops_at_read, stops_at_write}
-use Rattle.mtrace_replay.proofs.NeedsLemmas.{needs_none, followed_alone, stopped_alone, ends_with_needs}
+use Rattle.mtrace_replay.proofs.Running.RunLemmas.{report_all, report_write, flush_asked, has_replayed, stops_at_read, stops_at_write}
+use Rattle.mtrace_replay.proofs.Running.NeedsLemmas.{needs_none, followed_alone, stopped_alone, ends_with_needs}
 use Rattle.mtrace_replay.proofs.runs.needs.replay_needs.Goals as goal
 
 -- memory was never refused

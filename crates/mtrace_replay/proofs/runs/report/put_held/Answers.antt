@@ -4,7 +4,7 @@ use Rattle.mtrace_log.proofs.Writing.{puts_on, puts_then, fails_on, fails_early,
 use Rattle.mtrace_replay.specs.Texts.{entry_text, total_text, leaks_report}
 use Rattle.mtrace_replay.specs.Entry.{Entry}
 use Rattle.mtrace_replay.specs.Replay.{entries}
-use Rattle.mtrace_replay.proofs.TextLemmas.{heading, leaks_report-some, total_text-is}
+use Rattle.mtrace_replay.proofs.Told.TextLemmas.{heading, leaks_report-some, total_text-is}
 use Rattle.mtrace_replay.proofs.runs.report.put_held.Goals as goal
 
 pub returns-in_err-put_all : goal.returns-in_err-put_all

@@ -3,7 +3,7 @@ use Rattle.mtrace_log.specs.Output.{Puts}
 use Rattle.mtrace_replay.specs.declared.runs.report.Report.{Report}
 use Rattle.mtrace_replay.specs.Replay.{entries}
 use Rattle.mtrace_replay.specs.Texts.{report_text}
-use Rattle.mtrace_replay.proofs.RowLemmas.{peak_is}
+use Rattle.mtrace_replay.proofs.OnHeap.RowLemmas.{peak_is}
 use Rattle.mtrace_replay.proofs.runs.report.put_report.Goals as goal
 
 pub returns-in-Peak : goal.returns-in-Peak

@@ -2,7 +2,7 @@ use Rattle.std.proofs.Common.{ℕ, List, subst, ◌∙◌, drop, ◌+◌}
 use Rattle.mtrace_log.specs.Output.{PutsAll, PutsPart}
 use Rattle.mtrace_log.proofs.Writing.{putting_more, putting_fails, puts_exit}
 use Rattle.mtrace_replay.specs.Texts.{diagnostic_text, diagnostics_text}
-use Rattle.mtrace_replay.proofs.TextLemmas.{texts-next}
+use Rattle.mtrace_replay.proofs.Told.TextLemmas.{texts-next}
 use Rattle.mtrace_replay.proofs.runs.run.put_diagnostics.Goals as goal
 
 pub loop-diagnostic-preserved : goal.loop-diagnostic-preserved

@@ -4,7 +4,7 @@ use Rattle.mtrace_replay.specs.declared.runs.report.Report.{Report}
 use Rattle.mtrace_replay.specs.Run.{end_text}
 use Rattle.mtrace_log.specs.declared.call.Call.TheVariants.{Took, Flushed}
 use Rattle.mtrace_log.proofs.TraceLemmas.{moved_then_append, failed_after}
-use Rattle.mtrace_replay.proofs.RunLemmas.{report_all, ends_at, report_write, flush_asked, has_replayed, records_are, stops_at_read, stops_at_write}
+use Rattle.mtrace_replay.proofs.Running.RunLemmas.{report_all, ends_at, report_write, flush_asked, has_replayed, records_are, stops_at_read, stops_at_write}
 use Rattle.mtrace_replay.proofs.runs.run.replay_log.Goals as goal
 
 -- the log has ended, and all was written

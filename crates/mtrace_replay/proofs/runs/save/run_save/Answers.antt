@@ -5,7 +5,7 @@ use Rattle.mtrace_replay.specs.declared.runs.status.Status.{Status}
 use Rattle.mtrace_replay.specs.declared.runs.status.RunFault.{RunFault}
 use Rattle.mtrace_replay.specs.declared.runs.status.RunFault.TheVariants.{Image}
 use Rattle.mtrace_replay.specs.Saving.{PutsAndFlushes, EndsWithImage}
-use Rattle.mtrace_replay.proofs.RunLemmas.{replays_by}
+use Rattle.mtrace_replay.proofs.Running.RunLemmas.{replays_by}
 use Rattle.mtrace_replay.proofs.runs.save.run_save.Goals as goal
 
 same_status : (one other : Status) → (let first : Result Status RunFault = Ok one in first ≡ Ok other) → one ≡ other

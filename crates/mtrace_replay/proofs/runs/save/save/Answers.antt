@@ -1,5 +1,5 @@
 use Rattle.mtrace_log.proofs.Writing.{puts_done}
-use Rattle.mtrace_replay.proofs.SaveLemmas.{put_failed, flushed_then}
+use Rattle.mtrace_replay.proofs.Running.SaveLemmas.{put_failed, flushed_then}
 use Rattle.mtrace_replay.proofs.runs.save.save.Goals as goal
 
 pub returns-then-is_err : goal.returns-then-is_err

@@ -1,7 +1,7 @@
 use Rattle.std.proofs.Common.{rules, refl}
 use Rattle.std.specs.Prelude.{Ok}
 use Rattle.mtrace_replay.specs.RunSites.{SitesFollow}
-use Rattle.mtrace_replay.proofs.RunsAgain.{again_undone}
+use Rattle.mtrace_replay.proofs.Running.RunsAgain.{again_undone}
 use Rattle.mtrace_replay.proofs.runs.sites.run_sites.Goals as goal
 
 pub returns-in-Err-BadSettings : goal.returns-in-Err-BadSettings

@@ -1,7 +1,7 @@
 use Rattle.std.proofs.Common.{◌≡◌, map, drop, length}
 use Rattle.mtrace_replay.specs.PartsText.{part_in}
 use Rattle.mtrace_replay.specs.SizeParts.{parts_for}
-use Rattle.mtrace_replay.proofs.SizePartsLemmas.{and_rest}
+use Rattle.mtrace_replay.proofs.Running.SizePartsLemmas.{and_rest}
 use Rattle.mtrace_replay.proofs.runs.size_parts.parts_for.Given as goal
 
 -- the parts so far, and then those for the rest, are those for all

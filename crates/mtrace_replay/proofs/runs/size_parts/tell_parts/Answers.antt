@@ -4,7 +4,7 @@ use Rattle.mtrace_replay.specs.Texts.{size_line}
 use Rattle.mtrace_replay.specs.Parts.{pool_bytes, records_bytes, sum_over}
 use Rattle.mtrace_replay.specs.PartsText.{part_in}
 use Rattle.mtrace_replay.specs.SizeParts.{sized_parts_text}
-use Rattle.mtrace_replay.proofs.PartsTextLemmas.{lines_same}
+use Rattle.mtrace_replay.proofs.BySize.PartsTextLemmas.{lines_same}
 use Rattle.mtrace_replay.proofs.runs.size_parts.tell_parts.Goals as goal
 
 pub returns-clause-told : goal.returns-clause-told

@@ -3,7 +3,7 @@ use Rattle.std.proofs.lemmas.List.{get_or_default}
 use Rattle.mtrace_log.specs.Output.{PutsAll, PutsPart}
 use Rattle.mtrace_log.proofs.Writing.{putting_more, putting_fails, puts_exit}
 use Rattle.mtrace_replay.specs.Texts.{point_text}
-use Rattle.mtrace_replay.proofs.TextLemmas.{texts-next}
+use Rattle.mtrace_replay.proofs.Told.TextLemmas.{texts-next}
 use Rattle.mtrace_replay.proofs.runs.timeline.put_points.Goals as goal
 
 pub loop-point-preserved : goal.loop-point-preserved

@@ -9,9 +9,9 @@ use Rattle.mtrace_replay.specs.Replay.{Replayed, StandsFor}
 use Rattle.mtrace_log.specs.Shown.{Bytes}
 use Rattle.mtrace_replay.specs.Again.{HasReadFirst}
 use Rattle.mtrace_replay.specs.Texts.{greatest}
-use Rattle.mtrace_replay.proofs.AgainLemmas.{read_first}
-use Rattle.mtrace_replay.proofs.Points.{Gathers, greatest_taken, up_to_next, gathers_more, lines_more, within_more}
-use Rattle.mtrace_replay.proofs.TriedLemmas.{fails_again}
+use Rattle.mtrace_replay.proofs.Running.AgainLemmas.{read_first}
+use Rattle.mtrace_replay.proofs.Running.Points.{Gathers, greatest_taken, up_to_next, gathers_more, lines_more, within_more}
+use Rattle.mtrace_replay.proofs.Running.TriedLemmas.{fails_again}
 use Rattle.mtrace_replay.proofs.runs.timeline.read_points.Goals as goal
 
 pub replay_up_to-requires-clause-ahead : goal.replay_up_to-requires-clause-ahead

@@ -6,7 +6,7 @@ use Rattle.mtrace_replay.specs.Replay.{StandsFor}
 use Rattle.mtrace_replay.specs.Replaying.{HasGivenSo}
 use Rattle.mtrace_replay.specs.Texts.{greatest}
 use Rattle.mtrace_replay.specs.Timeline.{lines_of}
-use Rattle.mtrace_replay.proofs.Points.{Gathers}
+use Rattle.mtrace_replay.proofs.Running.Points.{Gathers}
 use Rattle.mtrace_replay.proofs.runs.timeline.read_points.Given as goal
 
 -- the lines up to the last number were read and replayed, and there is a point for each number

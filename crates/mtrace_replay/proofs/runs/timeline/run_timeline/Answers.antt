@@ -1,7 +1,7 @@
 use Rattle.std.proofs.Common.{rules, arith, refl}
 use Rattle.std.specs.Prelude.{Ok}
 use Rattle.mtrace_replay.specs.RunTimeline.{TimelineFollows}
-use Rattle.mtrace_replay.proofs.RunsAgain.{again_undone, not_bad}
+use Rattle.mtrace_replay.proofs.Running.RunsAgain.{again_undone, not_bad}
 use Rattle.mtrace_replay.proofs.runs.timeline.run_timeline.Goals as goal
 
 pub returns-in-Err-BadSettings : goal.returns-in-Err-BadSettings

@@ -4,8 +4,8 @@ use Rattle.mtrace_replay.specs.declared.heap.point.Point.{Point}
 use Rattle.mtrace_replay.specs.RunTimeline.{HasPoints}
 use Rattle.mtrace_replay.specs.Texts.{timeline_text}
 use Rattle.mtrace_replay.specs.Timeline.{AreTold}
-use Rattle.mtrace_replay.proofs.RunsAgain.{follows_told}
-use Rattle.mtrace_replay.proofs.TimelineLemmas.{tells_timeline, fails_before}
+use Rattle.mtrace_replay.proofs.Running.RunsAgain.{follows_told}
+use Rattle.mtrace_replay.proofs.Running.TimelineLemmas.{tells_timeline, fails_before}
 use Rattle.mtrace_replay.proofs.runs.timeline.tell_timeline.Goals as goal
 
 pub returns-in_default-clause-told : goal.returns-in_default-clause-told

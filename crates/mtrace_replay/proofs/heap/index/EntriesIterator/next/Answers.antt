@@ -2,7 +2,7 @@ use Rattle.std.proofs.Common.{rules, arith, ◌+◌, ◌<◌, ◌∷◌, map, dr
 use Rattle.mtrace_replay.specs.Holding.{Holding}
 use Rattle.mtrace_replay.specs.Keys.{Kept, HasRow, row_at}
 use Rattle.mtrace_replay.specs.Key.{all_held}
-use Rattle.mtrace_replay.proofs.HoldingLemmas.{slot_there, next_held, next_vacant}
+use Rattle.mtrace_replay.proofs.Index.HoldingLemmas.{slot_there, next_held, next_vacant}
 use Rattle.mtrace_replay.proofs.heap.index.EntriesIterator.next.Goals as goal
 
 pub row-requires : goal.row-requires

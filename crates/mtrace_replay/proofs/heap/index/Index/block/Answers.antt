@@ -5,7 +5,7 @@ use Rattle.mtrace_replay.specs.Holding.{Holding}
 use Rattle.mtrace_replay.specs.Keys.{Rows}
 use Rattle.mtrace_replay.specs.Key.{held_under}
 use Rattle.mtrace_replay.specs.Index.{Indexed, held_at}
-use Rattle.mtrace_replay.proofs.IndexLemmas.{held_there, none_there, found_key, found_fits}
+use Rattle.mtrace_replay.proofs.Index.IndexLemmas.{held_there, none_there, found_key, found_fits}
 use Rattle.mtrace_replay.proofs.heap.index.Index.block.Goals as goal
 
 same_block : (rows : Rows) (address : ℕ) (block : Option Pointer) → block ≡ option_map (λ (holding : Holding). holding.ptr) (option_map (held_under address rows) block)

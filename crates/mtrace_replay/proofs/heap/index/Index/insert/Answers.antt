@@ -6,7 +6,7 @@ use Rattle.mtrace_replay.specs.declared.heap.key.Key.{Key}
 use Rattle.mtrace_replay.specs.Holding.{Holding}
 use Rattle.mtrace_replay.specs.Search.{StandsAt, FitsAt, IsVacantAt}
 use Rattle.mtrace_replay.specs.Index.{Indexed, IsFound, IsNewSlot, held_at}
-use Rattle.mtrace_replay.proofs.IndexLemmas.{vacant_there, enters, puts_keeps, puts_held}
+use Rattle.mtrace_replay.proofs.Index.IndexLemmas.{vacant_there, enters, puts_keeps, puts_held}
 use Rattle.mtrace_replay.proofs.heap.index.Index.insert.Goals as goal
 
 pub make_gap-gap-requires-clause-vacant : goal.make_gap-gap-requires-clause-vacant

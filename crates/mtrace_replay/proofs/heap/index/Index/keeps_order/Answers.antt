@@ -1,6 +1,6 @@
 use Rattle.std.proofs.Common.{subst}
 use Rattle.mtrace_replay.specs.Index.{AreInOrder}
-use Rattle.mtrace_replay.proofs.IndexLemmas.{index_in_order}
+use Rattle.mtrace_replay.proofs.Index.IndexLemmas.{index_in_order}
 use Rattle.mtrace_replay.proofs.heap.index.Index.keeps_order.Goals as goal
 
 pub returns : goal.returns

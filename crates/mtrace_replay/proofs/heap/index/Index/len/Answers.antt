@@ -1,5 +1,5 @@
 use Rattle.std.proofs.Common.{◌<◌, ◌^◌, arith, rules}
-use Rattle.mtrace_replay.proofs.HoldingLemmas.{held_within}
+use Rattle.mtrace_replay.proofs.Index.HoldingLemmas.{held_within}
 use Rattle.mtrace_replay.proofs.heap.index.Index.len.Goals as goal
 
 pub returns : goal.returns

@@ -7,7 +7,7 @@ use Rattle.mtrace_replay.specs.declared.heap.key.Key.{Key}
 use Rattle.mtrace_replay.specs.Keys.{Rows}
 use Rattle.mtrace_replay.specs.Key.{holding_of}
 use Rattle.mtrace_replay.specs.Index.{Indexed, held_at, held_bytes}
-use Rattle.mtrace_replay.proofs.IndexLemmas.{row_there, held_there, held_fewer, held_less, vacates, puts_keeps, puts_held, puts_count, puts_sum, none_there, none_removed, found_key, found_fits}
+use Rattle.mtrace_replay.proofs.Index.IndexLemmas.{row_there, held_there, held_fewer, held_less, vacates, puts_keeps, puts_held, puts_count, puts_sum, none_there, none_removed, found_key, found_fits}
 use Rattle.mtrace_replay.proofs.heap.index.Index.remove.Goals as goal
 
 -- one block is held under the key, or none

@@ -2,7 +2,7 @@ use Rattle.std.proofs.Common.{sym, ap, subst, ◌∙◌}
 use Rattle.mtrace_replay.specs.Keys.{Kept}
 use Rattle.mtrace_replay.specs.Key.{all_held}
 use Rattle.mtrace_replay.specs.Index.{Indexed, IsIndex}
-use Rattle.mtrace_replay.proofs.IndexLemmas.{arranged_held, arranged_keeps}
+use Rattle.mtrace_replay.proofs.Index.IndexLemmas.{arranged_held, arranged_keeps}
 use Rattle.mtrace_replay.proofs.heap.index.Index.settle.Goals as goal
 
 pub invariant_of-self-then-moved-keys-2 : goal.invariant_of-self-then-moved-keys-2

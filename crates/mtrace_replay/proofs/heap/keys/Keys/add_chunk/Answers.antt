@@ -1,6 +1,6 @@
 use Rattle.std.proofs.Common.{arith, rules, ap}
 use Rattle.mtrace_replay.specs.Keys.{Kept}
-use Rattle.mtrace_replay.proofs.KeysLemmas.{rows_are, added_has, added_keys}
+use Rattle.mtrace_replay.proofs.Index.KeysLemmas.{rows_are, added_has, added_keys}
 use Rattle.mtrace_replay.proofs.heap.keys.Keys.add_chunk.Goals as goal
 
 pub push_reserved-requires : goal.push_reserved-requires

@@ -1,6 +1,6 @@
 use Rattle.std.proofs.Common.{arith}
 use Rattle.std.proofs.lemmas.Bool.Decides.{nat_tests}
-use Rattle.mtrace_replay.proofs.KeysLemmas.{covers}
+use Rattle.mtrace_replay.proofs.Index.KeysLemmas.{covers}
 use Rattle.mtrace_replay.proofs.heap.keys.Keys.has_rows.Goals as goal
 
 pub returns-clause-has : goal.returns-clause-has

@@ -1,4 +1,4 @@
-use Rattle.mtrace_replay.proofs.KeysLemmas.{key_read}
+use Rattle.mtrace_replay.proofs.Index.KeysLemmas.{key_read}
 use Rattle.mtrace_replay.proofs.heap.keys.Keys.key.Goals as goal
 
 pub returns : goal.returns

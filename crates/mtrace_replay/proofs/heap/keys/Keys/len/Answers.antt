@@ -1,6 +1,6 @@
 use Rattle.std.proofs.Common.{length, sym, ap, ◌∙◌}
 use Rattle.mtrace_replay.specs.Keys.{Kept}
-use Rattle.mtrace_replay.proofs.KeysLemmas.{keys_length}
+use Rattle.mtrace_replay.proofs.Index.KeysLemmas.{keys_length}
 use Rattle.mtrace_replay.proofs.heap.keys.Keys.len.Goals as goal
 
 pub returns-clause-len : goal.returns-clause-len

@@ -2,7 +2,7 @@ use Rattle.std.proofs.Common.{◌<◌, length, arith, ap, ◌∙◌}
 use Rattle.std.proofs.lemmas.List.{length-set}
 use Rattle.std.specs.List.{remove}
 use Rattle.mtrace_replay.specs.declared.heap.key.Key.{Key}
-use Rattle.mtrace_replay.proofs.GapLemmas.{gap_moves}
+use Rattle.mtrace_replay.proofs.Index.GapLemmas.{gap_moves}
 use Rattle.mtrace_replay.proofs.heap.keys.Keys.move_gap.Goals as goal
 
 pub loop-hole-preserved : goal.loop-hole-preserved

@@ -1,7 +1,7 @@
 use Rattle.std.proofs.Common.{arith, ap, length, ◌∙◌}
 use Rattle.std.specs.List.{insert, remove}
 use Rattle.mtrace_replay.specs.declared.heap.key.Key.{Key}
-use Rattle.mtrace_replay.proofs.GapLemmas.{set_is_put}
+use Rattle.mtrace_replay.proofs.Index.GapLemmas.{set_is_put}
 use Rattle.mtrace_replay.proofs.heap.keys.Keys.put.Goals as goal
 
 pub returns-clause-keys : goal.returns-clause-keys

@@ -1,6 +1,6 @@
 use Rattle.std.proofs.Common.{arith, ap, ◌∙◌}
 use Rattle.mtrace_replay.specs.Keys.{Kept}
-use Rattle.mtrace_replay.proofs.KeysLemmas.{rows_are, keys_length}
+use Rattle.mtrace_replay.proofs.Index.KeysLemmas.{rows_are, keys_length}
 use Rattle.mtrace_replay.proofs.heap.keys.Keys.resize.Goals as goal
 
 pub invariant_of-self : goal.invariant_of-self

@@ -1,5 +1,5 @@
 use Rattle.std.proofs.Common.{arith, slice_index_or, ap, sym, ◌∙◌}
-use Rattle.mtrace_replay.proofs.KeysLemmas.{row_read, rows_are}
+use Rattle.mtrace_replay.proofs.Index.KeysLemmas.{row_read, rows_are}
 use Rattle.mtrace_replay.proofs.heap.keys.Keys.row.Goals as goal
 
 pub index-requires : goal.index-requires

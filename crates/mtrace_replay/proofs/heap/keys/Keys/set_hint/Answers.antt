@@ -1,6 +1,6 @@
 use Rattle.std.proofs.Common.{◌<◌, ◌/◌, length, refl, arith, ap₂}
 use Rattle.mtrace_replay.specs.Keys.{Kept}
-use Rattle.mtrace_replay.proofs.KeysLemmas.{keys_stay, rows_stay}
+use Rattle.mtrace_replay.proofs.Index.KeysLemmas.{keys_stay, rows_stay}
 use Rattle.mtrace_replay.proofs.heap.keys.Keys.set_hint.Goals as goal
 
 pub returns-then-number-len : goal.returns-then-number-len

@@ -1,5 +1,5 @@
 use Rattle.std.proofs.Common.{◌/◌, refl, arith}
-use Rattle.mtrace_replay.proofs.KeysLemmas.{key_written, rows_stay, len_is}
+use Rattle.mtrace_replay.proofs.Index.KeysLemmas.{key_written, rows_stay, len_is}
 use Rattle.mtrace_replay.proofs.heap.keys.Keys.set_key.Goals as goal
 
 pub returns-clause-keys : goal.returns-clause-keys

@@ -1,6 +1,6 @@
 use Rattle.std.proofs.Common.{◌<◌, ◌/◌, length, set, refl, arith, ap, ◌∙◌}
 use Rattle.mtrace_replay.specs.Keys.{Kept}
-use Rattle.mtrace_replay.proofs.KeysLemmas.{rows_are, row_written, keys_stay, sets_row}
+use Rattle.mtrace_replay.proofs.Index.KeysLemmas.{rows_are, row_written, keys_stay, sets_row}
 use Rattle.mtrace_replay.proofs.heap.keys.Keys.set_row.Goals as goal
 
 pub index_mut-requires : goal.index_mut-requires

@@ -6,11 +6,11 @@ use Rattle.mtrace_replay.specs.Totals.{AreTotals}
 use Rattle.mtrace_replay.specs.declared.heap.totals.Totals.{Totals}
 use Rattle.mtrace_replay.specs.Index.{Indexed}
 use Rattle.mtrace_replay.specs.Step.{all_given, AreLive}
-use Rattle.mtrace_replay.proofs.Moments.{moments-none}
-use Rattle.mtrace_replay.proofs.FoundLemmas.{none_held}
-use Rattle.mtrace_replay.proofs.HeldStayLive.{none_live}
-use Rattle.mtrace_replay.proofs.StartLemmas.{started_records, started_room}
-use Rattle.mtrace_replay.proofs.OneLineMore.{all_zero, totals_none}
+use Rattle.mtrace_replay.proofs.History.Moments.{moments-none}
+use Rattle.mtrace_replay.proofs.History.FoundLemmas.{none_held}
+use Rattle.mtrace_replay.proofs.OnHeap.HeldStayLive.{none_live}
+use Rattle.mtrace_replay.proofs.OnHeap.StartLemmas.{started_records, started_room}
+use Rattle.mtrace_replay.proofs.OnHeap.OneLineMore.{all_zero, totals_none}
 use Rattle.mtrace_replay.proofs.heap.replay.Replay.create.Goals as goal
 
 pub invariant_of-result : goal.invariant_of-result

@@ -9,10 +9,10 @@ use Rattle.mtrace_replay.specs.Moment.{ReadLine}
 use Rattle.mtrace_replay.specs.Replay.{Replayed, StandsFor, added_diagnostics}
 use Rattle.mtrace_replay.specs.Step.{given_of, all_given, found}
 use Rattle.mtrace_replay.specs.Totals.{is_refusal}
-use Rattle.mtrace_replay.proofs.FoundLemmas.{addresses_given, sizes_given}
-use Rattle.mtrace_replay.proofs.DiagnosticLemmas.{diagnostics_few}
-use Rattle.mtrace_replay.proofs.HeldFew.{held_few}
-use Rattle.mtrace_replay.proofs.OneLineMore.{served_within, refused_within, stands_for_line, diagnostics_of_line}
+use Rattle.mtrace_replay.proofs.History.FoundLemmas.{addresses_given, sizes_given}
+use Rattle.mtrace_replay.proofs.Told.DiagnosticLemmas.{diagnostics_few}
+use Rattle.mtrace_replay.proofs.OnHeap.HeldFew.{held_few}
+use Rattle.mtrace_replay.proofs.OnHeap.OneLineMore.{served_within, refused_within, stands_for_line, diagnostics_of_line}
 use Rattle.mtrace_replay.proofs.heap.replay.Replay.feed_lent.Goals as goal
 
 pub invariant_of-self : goal.invariant_of-self

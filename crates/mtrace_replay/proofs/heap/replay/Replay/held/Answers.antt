@@ -2,7 +2,7 @@ use Rattle.std.proofs.Common.{◌≤◌, length, sym, subst, ap, ◌∙◌, arit
 use Rattle.std.proofs.lemmas.List.{length-map}
 use Rattle.mtrace_replay.specs.Holding.{Holding}
 use Rattle.mtrace_replay.specs.Replay.{Replayed, entries}
-use Rattle.mtrace_replay.proofs.FoundLemmas.{entries_given}
+use Rattle.mtrace_replay.proofs.History.FoundLemmas.{entries_given}
 use Rattle.mtrace_replay.proofs.heap.replay.Replay.held.Goals as goal
 
 pub returns : goal.returns

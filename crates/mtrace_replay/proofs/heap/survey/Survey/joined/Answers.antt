@@ -1,4 +1,4 @@
-use Rattle.mtrace_replay.proofs.RowLemmas.{rows_joined}
+use Rattle.mtrace_replay.proofs.OnHeap.RowLemmas.{rows_joined}
 use Rattle.mtrace_replay.proofs.heap.survey.Survey.joined.Goals as goal
 
 pub returns-clause-joined : goal.returns-clause-joined

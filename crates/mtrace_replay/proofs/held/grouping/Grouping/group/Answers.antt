@@ -6,8 +6,8 @@ use Rattle.std.proofs.lemmas.List.Sorted.{length_permutation, sum_by-IsPermutati
 use Rattle.mtrace_replay.specs.Sites.{Site, origin_cmp}
 use Rattle.mtrace_replay.specs.Gather.{Grouped, lent_origin}
 use Rattle.mtrace_replay.specs.Entry.{Entry}
-use Rattle.mtrace_replay.proofs.SiteLemmas.Sorting.{ordered_from_sorted}
-use Rattle.mtrace_replay.proofs.SiteLemmas.Exact.{sites_are}
+use Rattle.mtrace_replay.proofs.Told.SiteLemmas.Sorting.{ordered_from_sorted}
+use Rattle.mtrace_replay.proofs.Told.SiteLemmas.Exact.{sites_are}
 use Rattle.mtrace_replay.proofs.held.grouping.Grouping.group.Goals as goal
 
 abbrev now : Bor Entry → Entry

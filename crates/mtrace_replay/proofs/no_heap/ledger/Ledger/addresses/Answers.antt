@@ -1,7 +1,7 @@
 -- The keys in order are the addresses.
 use Rattle.std.proofs.Common.{◌∙◌, ap}
-use Rattle.mtrace_replay.proofs.LedgerLemmas.{addresses_of}
-use Rattle.mtrace_replay.proofs.EntryOrder.{keys_in_order}
+use Rattle.mtrace_replay.proofs.Served.LedgerLemmas.{addresses_of}
+use Rattle.mtrace_replay.proofs.Served.EntryOrder.{keys_in_order}
 use Rattle.mtrace_replay.specs.Ledger.{LedgerState}
 use Rattle.mtrace_replay.proofs.no_heap.ledger.Ledger.addresses.Goals as goal
 

@@ -1,7 +1,7 @@
 -- The sum is that of the map's values.
 use Rattle.std.proofs.Common.{◌∙◌, sym, ap}
 use Rattle.mtrace_replay.specs.Texts.{total_size}
-use Rattle.mtrace_replay.proofs.LedgerLemmas.{total_all}
+use Rattle.mtrace_replay.proofs.Served.LedgerLemmas.{total_all}
 use Rattle.mtrace_replay.specs.Ledger.{LedgerState}
 use Rattle.mtrace_replay.proofs.no_heap.ledger.Ledger.bytes.Goals as goal
 

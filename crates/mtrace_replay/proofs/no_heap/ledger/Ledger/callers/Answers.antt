@@ -6,9 +6,9 @@ use Rattle.mtrace_replay.specs.Calls.{Caller, has_no_call, caller_of}
 use Rattle.mtrace_replay.specs.Callers.{AreCounted}
 use Rattle.mtrace_replay.specs.Shares.{count_at}
 use Rattle.mtrace_replay.specs.Ledger.{LedgerState}
-use Rattle.mtrace_replay.proofs.CallersBySlot.{called_of, callers_of-some}
-use Rattle.mtrace_replay.proofs.RowsBySlot.{one_row}
-use Rattle.mtrace_replay.proofs.SiteLemmas.CallerOrder.{are_callers}
+use Rattle.mtrace_replay.proofs.Served.CallersBySlot.{called_of, callers_of-some}
+use Rattle.mtrace_replay.proofs.Served.RowsBySlot.{one_row}
+use Rattle.mtrace_replay.proofs.Told.SiteLemmas.CallerOrder.{are_callers}
 use Rattle.mtrace_replay.proofs.no_heap.ledger.Ledger.callers.Goals as goal
 
 pub returns : goal.returns

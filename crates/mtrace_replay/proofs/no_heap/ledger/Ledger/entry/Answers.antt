@@ -2,7 +2,7 @@
 use Rattle.std.proofs.Common.{◌∙◌, sym, ap, Some, option_map}
 use Rattle.std.specs.Option.{option_copied}
 use Rattle.mtrace_replay.specs.Ledger.{entry_of, held_at}
-use Rattle.mtrace_replay.proofs.LedgerLemmas.{found}
+use Rattle.mtrace_replay.proofs.Served.LedgerLemmas.{found}
 use Rattle.mtrace_replay.specs.Ledger.{LedgerState}
 use Rattle.mtrace_replay.proofs.no_heap.ledger.Ledger.entry.Goals as goal
 

@@ -7,10 +7,10 @@ use Rattle.mtrace_replay.specs.declared.no_heap.count.Count.{Count}
 use Rattle.mtrace_replay.specs.Calls.{count_more}
 use Rattle.mtrace_replay.specs.Shares.{amount_more, now_at, count_at, Changes, Counts}
 use Rattle.mtrace_replay.specs.Ledger.{LedgerState, IsLedger, AreShared, AreCalled, held_at, slot_of}
-use Rattle.mtrace_replay.proofs.LedgerLemmas.{changes_at, still_keeps, same_view, on_err}
-use Rattle.mtrace_replay.proofs.LedgerPeak.{state_of, same_state, keeps_now, shared_now, called_now, few_more, peak_stays, rest_of, counted_there, counted, few_blocks, few_bytes}
-use Rattle.mtrace_replay.proofs.SharesLemmas.{shared-longer, called-longer}
-use Rattle.mtrace_replay.proofs.CallersBySlot.{called-more, more_called}
+use Rattle.mtrace_replay.proofs.Served.LedgerLemmas.{changes_at, still_keeps, same_view, on_err}
+use Rattle.mtrace_replay.proofs.Served.LedgerPeak.{state_of, same_state, keeps_now, shared_now, called_now, few_more, peak_stays, rest_of, counted_there, counted, few_blocks, few_bytes}
+use Rattle.mtrace_replay.proofs.Served.SharesLemmas.{shared-longer, called-longer}
+use Rattle.mtrace_replay.proofs.Served.CallersBySlot.{called-more, more_called}
 use Rattle.mtrace_replay.proofs.no_heap.ledger.Ledger.hold.Goals as goal
 
 pub invariant_of-self : goal.invariant_of-self

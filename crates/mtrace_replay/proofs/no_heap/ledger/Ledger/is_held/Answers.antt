@@ -2,7 +2,7 @@
 use Rattle.std.proofs.Common.{ap, ◌∙◌, refl}
 use Rattle.std.specs.Prelude.{nat_eq}
 use Rattle.std.specs.Map.{lookup}
-use Rattle.mtrace_replay.proofs.LedgerLemmas.{tells}
+use Rattle.mtrace_replay.proofs.Served.LedgerLemmas.{tells}
 use Rattle.mtrace_replay.specs.Ledger.{LedgerState}
 use Rattle.mtrace_replay.proofs.no_heap.ledger.Ledger.is_held.Goals as goal
 

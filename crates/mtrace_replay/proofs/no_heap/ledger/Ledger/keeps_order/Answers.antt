@@ -1,7 +1,7 @@
 -- The entries are in order, and no address comes twice.
 use Rattle.std.proofs.Common.{ap, subst}
 use Rattle.std.specs.List.Sorted.{IsStrictlyIncreasing}
-use Rattle.mtrace_replay.proofs.LedgerLemmas.{ordered, addresses_of}
+use Rattle.mtrace_replay.proofs.Served.LedgerLemmas.{ordered, addresses_of}
 use Rattle.mtrace_replay.specs.Ledger.{LedgerState}
 use Rattle.mtrace_replay.proofs.no_heap.ledger.Ledger.keeps_order.Goals as goal
 

@@ -1,6 +1,6 @@
 -- There are as many entries as the map has.
 use Rattle.std.proofs.Common.{◌∙◌, sym, ap, length}
-use Rattle.mtrace_replay.proofs.LedgerLemmas.{length_all}
+use Rattle.mtrace_replay.proofs.Served.LedgerLemmas.{length_all}
 use Rattle.mtrace_replay.specs.Ledger.{LedgerState}
 use Rattle.mtrace_replay.proofs.no_heap.ledger.Ledger.len.Goals as goal
 

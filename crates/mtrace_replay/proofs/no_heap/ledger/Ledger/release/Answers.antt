@@ -6,10 +6,10 @@ use Rattle.mtrace_replay.specs.Locations.{location_of}
 use Rattle.mtrace_replay.specs.Calls.{CountsMore, CountsReleased}
 use Rattle.mtrace_replay.specs.Shares.{amount_less, now_at, count_at, Changes, CountsOne}
 use Rattle.mtrace_replay.specs.Ledger.{LedgerState, entry_of}
-use Rattle.mtrace_replay.proofs.LedgerLemmas.{tells, tells_what, changes_at, is_within, less, kept_there}
-use Rattle.mtrace_replay.proofs.LedgerPeak.{peak_stays}
-use Rattle.mtrace_replay.proofs.CallersBySlot.{called_of, some_calls, some_in_all, called-less, released}
-use Rattle.mtrace_replay.proofs.SharesLemmas.{some_there, shared-less, shared-same, slot_there}
+use Rattle.mtrace_replay.proofs.Served.LedgerLemmas.{tells, tells_what, changes_at, is_within, less, kept_there}
+use Rattle.mtrace_replay.proofs.Served.LedgerPeak.{peak_stays}
+use Rattle.mtrace_replay.proofs.Served.CallersBySlot.{called_of, some_calls, some_in_all, called-less, released}
+use Rattle.mtrace_replay.proofs.Served.SharesLemmas.{some_there, shared-less, shared-same, slot_there}
 use Rattle.mtrace_replay.proofs.no_heap.ledger.Ledger.release.Goals as goal
 
 pub returns-in_default-clause-was : goal.returns-in_default-clause-was

@@ -4,11 +4,11 @@ use Rattle.std.specs.Map.{values_of}
 use Rattle.mtrace_replay.specs.Ledger.{LedgerState}
 use Rattle.mtrace_replay.specs.Sites.{AreTallied}
 use Rattle.mtrace_replay.specs.Shares.{marked_at, now_at, origins, has_no_block, site_at, sites_of}
-use Rattle.mtrace_replay.proofs.LedgerPeak.{state_of, callers_stay}
-use Rattle.mtrace_replay.proofs.CallersBySlot.{called_of}
-use Rattle.mtrace_replay.proofs.SharesLemmas.{shared-marked, called-kept}
-use Rattle.mtrace_replay.proofs.RowsBySlot.{rows_by-same}
-use Rattle.mtrace_replay.proofs.SitesBySlot.{tallied}
+use Rattle.mtrace_replay.proofs.Served.LedgerPeak.{state_of, callers_stay}
+use Rattle.mtrace_replay.proofs.Served.CallersBySlot.{called_of}
+use Rattle.mtrace_replay.proofs.Served.SharesLemmas.{shared-marked, called-kept}
+use Rattle.mtrace_replay.proofs.Served.RowsBySlot.{rows_by-same}
+use Rattle.mtrace_replay.proofs.Served.SitesBySlot.{tallied}
 use Rattle.mtrace_replay.proofs.no_heap.ledger.Ledger.set_mark.Goals as goal
 
 pub invariant_of-self : goal.invariant_of-self

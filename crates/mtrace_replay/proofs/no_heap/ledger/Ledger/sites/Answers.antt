@@ -8,9 +8,9 @@ use Rattle.mtrace_replay.specs.declared.no_heap.shares.When.{When}
 use Rattle.mtrace_replay.specs.declared.no_heap.shares.When.TheVariants.{Peak, End}
 use Rattle.mtrace_replay.specs.Shares.{ByLocation, amount_at, origins, sites_of}
 use Rattle.mtrace_replay.specs.Ledger.{LedgerState, AreEntries}
-use Rattle.mtrace_replay.proofs.LedgerPeak.{state_of}
-use Rattle.mtrace_replay.proofs.SiteLemmas.Exact.{are_sites}
-use Rattle.mtrace_replay.proofs.SitesBySlot.{sites_by-some, tallied}
+use Rattle.mtrace_replay.proofs.Served.LedgerPeak.{state_of}
+use Rattle.mtrace_replay.proofs.Told.SiteLemmas.Exact.{are_sites}
+use Rattle.mtrace_replay.proofs.Served.SitesBySlot.{sites_by-some, tallied}
 use Rattle.mtrace_replay.proofs.no_heap.ledger.Ledger.sites.Goals as goal
 
 -- the sites by slot count and sum the entries that are meant

@@ -3,7 +3,7 @@ use Rattle.std.proofs.Common.{◌≡◌, ◌∙◌, sym, ap, subst, Some}
 use Rattle.std.specs.Prelude.{slice_get, map, nat_eq}
 use Rattle.std.specs.Cmp.Lexicographic.{pointwise}
 use Rattle.mtrace_replay.specs.Locations.{bytes_of}
-use Rattle.mtrace_replay.proofs.LocationsLemmas.{stands, stands_there, extends_insert}
+use Rattle.mtrace_replay.proofs.Served.LocationsLemmas.{stands, stands_there, extends_insert}
 use Rattle.mtrace_replay.proofs.no_heap.locations.Locations.number_of.Goals as goal
 
 pub returns-in-Some-clause-found : goal.returns-in-Some-clause-found

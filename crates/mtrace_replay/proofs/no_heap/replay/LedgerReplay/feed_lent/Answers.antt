@@ -7,7 +7,7 @@ use Rattle.mtrace_replay.specs.History.{held_after}
 use Rattle.mtrace_replay.specs.Totals.{is_served}
 use Rattle.mtrace_replay.specs.Moment.{plan, half, is_new}
 use Rattle.mtrace_replay.specs.Served.{CountsAct, served_moments, all_served, found_in, Standing, IsServed, added_served}
-use Rattle.mtrace_replay.proofs.ServedLemmas.{held_on, called_on, served_on, told_on, raised}
+use Rattle.mtrace_replay.proofs.Served.ServedLemmas.{held_on, called_on, served_on, told_on, raised}
 use Rattle.mtrace_replay.proofs.no_heap.replay.LedgerReplay.feed_lent.Goals as goal
 
 one_where : (b : Bool) → bool_byte b ≡ (if b then 1 else 0)

@@ -2,7 +2,7 @@
 use Rattle.std.proofs.Common.{[], sym, subst}
 use Rattle.mtrace_replay.specs.Ledger.{LedgerState}
 use Rattle.mtrace_replay.specs.Served.{IsServed}
-use Rattle.mtrace_replay.proofs.ServedLemmas.{none_yet, none_served}
+use Rattle.mtrace_replay.proofs.Served.ServedLemmas.{none_yet, none_served}
 use Rattle.mtrace_replay.proofs.no_heap.replay.LedgerReplay.new.Goals as goal
 
 pub returns : goal.returns

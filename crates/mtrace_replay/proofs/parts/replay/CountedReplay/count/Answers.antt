@@ -2,7 +2,7 @@ use Rattle.std.proofs.Common.{◌∷◌, suc, None, Some, sym, ◌∙◌, subst}
 use Rattle.std.specs.Prelude.{if◌then◌else◌}
 use Rattle.mtrace_replay.specs.declared.parts.replay.CountedReplay.{CountedReplay}
 use Rattle.mtrace_replay.specs.Spans.{AreCountedOf, AreFew}
-use Rattle.mtrace_replay.proofs.CountedLemmas.{none_again}
+use Rattle.mtrace_replay.proofs.BySize.CountedLemmas.{none_again}
 use Rattle.mtrace_replay.proofs.parts.replay.CountedReplay.count.Goals.{in-None, in-Some+in_ok-has_class-in-Some}
 use Rattle.mtrace_replay.proofs.parts.replay.CountedReplay.count.Goals as goal
 

@@ -3,7 +3,7 @@ use Rattle.std.specs.Prelude.{Result, Ok, Err, OnOk, nat_lt}
 use Rattle.mtrace_replay.specs.Served.{Standing, IsServed}
 use Rattle.mtrace_replay.specs.Spans.{AreFew, released_by}
 use Rattle.mtrace_replay.specs.declared.no_heap.replay.LedgerTotals.{LedgerTotals}
-use Rattle.mtrace_replay.proofs.CountedLemmas.{served_more}
+use Rattle.mtrace_replay.proofs.BySize.CountedLemmas.{served_more}
 use Rattle.mtrace_replay.proofs.parts.replay.CountedReplay.feed_lent.Goals as goal
 
 -- what holds holds where there is no error

@@ -3,7 +3,7 @@ use Rattle.std.specs.List.{All}
 use Rattle.std.specs.HashMap.{get}
 use Rattle.mtrace_replay.specs.declared.parts.span.Span.{Span}
 use Rattle.mtrace_replay.specs.Spans.{range_released}
-use Rattle.mtrace_replay.proofs.SpansLemmas.{few_released}
+use Rattle.mtrace_replay.proofs.BySize.SpansLemmas.{few_released}
 use Rattle.mtrace_replay.proofs.parts.spans.Spans.follow.Goals as goal
 
 pub hold-requires : goal.hold-requires

@@ -4,7 +4,7 @@ use Rattle.std.specs.Map.{lookup}
 use Rattle.std.specs.List.{Contains}
 use Rattle.std.proofs.lemmas.Bool.{cases_lt}
 use Rattle.mtrace_replay.specs.Spans.{blank}
-use Rattle.mtrace_replay.proofs.SpansLemmas.{counted_none}
+use Rattle.mtrace_replay.proofs.BySize.SpansLemmas.{counted_none}
 use Rattle.mtrace_replay.proofs.parts.spans.Spans.new.Goals as goal
 
 pub loop-first-preserved : goal.loop-first-preserved

@@ -1,7 +1,7 @@
 use Rattle.std.proofs.Common.{ap, sym, ◌∙◌, Some, None, ◌+◌}
 use Rattle.std.specs.Option.{option_or}
 use Rattle.mtrace_replay.specs.declared.runs.fitted.Fitted.{Fitted}
-use Rattle.mtrace_replay.proofs.FitLemmas.{fitted-yes, fitted-no}
+use Rattle.mtrace_replay.proofs.Running.FitLemmas.{fitted-yes, fitted-no}
 use Rattle.mtrace_replay.proofs.runs.fitted.Fitted.with.Goals as goal
 
 pub returns-then-serves-clause-fitted : goal.returns-then-serves-clause-fitted

@@ -3,7 +3,7 @@ use Rattle.std.specs.Prelude.{if◌then◌else◌, nat_lt, max}
 use Rattle.mtrace_replay.specs.declared.heap.totals.Totals.{Totals}
 use Rattle.mtrace_replay.specs.Asked.{class_asked, greater_class}
 use Rattle.mtrace_replay.specs.Needs.{BehindExchange}
-use Rattle.mtrace_replay.proofs.NeedsLemmas.{needs_more}
+use Rattle.mtrace_replay.proofs.Running.NeedsLemmas.{needs_more}
 use Rattle.mtrace_replay.proofs.runs.needs.NeedsReplayLineReplay.take_line.Goals as goal
 
 pub returns : goal.returns

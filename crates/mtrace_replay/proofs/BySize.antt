@@ -1,0 +1,9 @@
+-- Heaps by size: spans that are counted, and cuts of them.
+pub mod PartsRows
+pub mod RangeLemmas
+pub mod SpansLemmas
+pub mod CountedLemmas
+pub mod CutLemmas
+pub mod CountedRunLemmas
+pub mod PartsTextLemmas
+pub mod PartsRun

@@ -1,0 +1,10 @@
+-- Which pools and records are enough for a log.
+pub mod EnoughBlocks
+pub mod EnoughRecords
+pub mod FittedPool
+pub mod HeldBytes
+pub mod OneSizeLog
+pub mod OneSizeRows
+pub mod SurePool
+pub mod UnrefusedLemmas
+pub mod VerdictLemmas

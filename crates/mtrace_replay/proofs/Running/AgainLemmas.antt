@@ -1,0 +1,87 @@
+-- The first lines of a log, read and replayed.
+use Rattle.std.proofs.Common.{◌≡◌, ◌<◌, ◌≤◌, ◌∷◌, ℕ, List, length, refl, sym, ap, subst, arith, ◌⊎◌, inl, inr}
+use Rattle.std.specs.Prelude.{Result, Ok, Err, IsErrOf}
+use Rattle.mtrace_log.specs.Progress.{Progress, Stage, Reading, Ended, Faulted, to_come, greatest_number, most_asked}
+use Rattle.mtrace_log.specs.Shown.{ReaderState}
+use Rattle.mtrace_log.specs.declared.call.Call.TheVariants.{Gave, Began}
+use Rattle.mtrace_log.proofs.TraceLemmas.{moved_none}
+use Rattle.mtrace_log.specs.Trace.{HasGivenAll}
+use Rattle.mtrace_log.specs.HasRead.{HasRead, HasReadAll, HasReadSo}
+use Rattle.mtrace_log.specs.Event.{Event}
+use Rattle.mtrace_log.specs.declared.event.LineFault.{LineFault}
+use Rattle.mtrace_replay.specs.declared.heap.settings.Settings.{Settings}
+use Rattle.mtrace_replay.specs.Replay.{Replayed, StandsFor}
+use Rattle.mtrace_replay.specs.Run.{with_unused, FailedInPiece, IsPastLastNumber}
+use Rattle.mtrace_replay.specs.Again.{HasReadFirst, HasReplayedFirst, StopsEarly, ReplaysFirst, begun_again}
+use Rattle.mtrace_replay.specs.Replaying.{IsFollowed, IsReplaying, ReplaysUpTo}
+use Rattle.mtrace_replay.proofs.Running.ReplayingLemmas.{used_to_end, no_line, replaying_start}
+
+-- what was read so far
+pub read_first : (Stands : List (Result Event LineFault) → Type 0) (progress : Progress) (start now : ReaderState) → (so_far : IsFollowed Stands progress start now)
+    → length progress.held ≤ most_asked → HasReadFirst progress.count start.left now.left so_far.lines
+read_first Stands progress start now so_far few = record { count = sym so_far.count; unused = progress.held; few = few; read = by_stage progress.stage refl so_far.read }
+  where
+    by_stage : (stage : Stage) → progress.stage ≡ stage → HasReadSo stage start.left (to_come progress now.left) so_far.lines
+        → HasRead start.left (to_come progress now.left) so_far.lines ⊎ HasReadAll start.left now.left so_far.lines
+    by_stage Reading is read = inl read
+    by_stage Ended is read = inr (used_to_end progress.held start.left now.left so_far.lines read)
+    by_stage (Faulted fault) is read = absurd (so_far.no_fault fault is)
+
+-- as many lines as were wanted
+pub first_at_most : (many : ℕ) (settings : Settings) (progress : Progress) (replay : Replayed) (start now : ReaderState)
+    → (so_far : IsReplaying settings progress replay start now) → progress.count ≡ many
+    → length progress.held ≤ most_asked → HasReplayedFirst many settings replay start.left now.left
+first_at_most many settings progress replay start now so_far all few = record {
+  lines = so_far.lines;
+  read = subst (λ n. HasReadFirst n start.left now.left so_far.lines) all (read_first (StandsFor replay settings) progress start now so_far few);
+  stands = so_far.stands;
+}
+
+-- the text had no more lines
+pub ends_early : (many : ℕ) (Stands : List (Result Event LineFault) → Type 0) (progress : Progress) (start before after : ReaderState)
+    → (so_far : IsFollowed Stands progress start before) → progress.count < many → HasReadAll start.left after.left so_far.lines → HasGivenAll start.calls after.calls
+    → StopsEarly many start after
+ends_early many Stands progress start before after so_far fewer all told =
+    inr (record { lines = so_far.lines; fewer = omega (arith, so_far.count, fewer); read = all; told = told })
+
+-- before the last number a fault is the reader's
+pub failed_in_piece : (start reader : ReaderState) (lines : List (Result Event LineFault)) → length lines < greatest_number
+    → FailedInPiece start reader lines ⊎ ((unused : List ℕ) × IsPastLastNumber start (with_unused unused reader) lines)
+    → FailedInPiece start reader lines
+failed_in_piece start reader lines few (inl failed) = failed
+failed_in_piece start reader lines few (inr (unused, past)) = absurd (omega (arith, few, past.count))
+
+-- a reader that began again
+pub has_begun : (reader_old reader_middle : ReaderState) → reader_middle.left ≡ reader_old.whole → reader_middle.whole ≡ reader_old.whole → reader_middle.calls ≡ Began ∷ reader_old.calls
+    → reader_middle ≡ begun_again reader_old
+has_begun reader_old reader_middle left_is whole_is calls_are = λ i. record { left = left_is i; whole = whole_is i; calls = calls_are i }
+
+-- the lines up to one, from the first on, are the first lines
+pub first_up_to : {E : Type 0} (many : ℕ) (result : Result (Unit {0}) E) (new : Progress) (replay_old replay_new : Replayed) (reader_old reader_new : ReaderState)
+    → many ≤ greatest_number → length new.held ≤ most_asked → ReplaysUpTo many result no_line new replay_old replay_new (begun_again reader_old) reader_new
+    → ReplaysFirst many result replay_old replay_new reader_old reader_new
+first_up_to many (Ok done) new replay_old replay_new reader_old reader_new within few up =
+    let start = begun_again reader_old in
+    let none = moved_none Gave start.calls in
+    record {
+      done = λ settings stands.
+          first_at_most many settings new replay_new start reader_new (up.replaying settings start (replaying_start settings replay_old start stands)).now up.reached few;
+      not_failed = (up.gave start (none, inl none)).1;
+      read = tt;
+      whole = up.whole;
+      records = up.records;
+    }
+first_up_to many (Err failed) new replay_old replay_new reader_old reader_new within few up = record {
+  done = tt;
+  not_failed = tt;
+  read = λ settings stands.
+      let start = begun_again reader_old in
+      let none = moved_none Gave start.calls in
+      inr (up.stops settings start many (replaying_start settings replay_old start stands) (none, inl none) (omega arith) within);
+  whole = up.whole;
+  records = up.records;
+}
+
+-- an error is the same, whatever would have been answered else
+pub other_result : {T U E : Type 0} (fault other : E) → IsErrOf {T = T} (Err fault) other → IsErrOf {T = U} (Err fault) other
+other_result fault other is = (let same : fault ≡ other = cc in ap Err same)

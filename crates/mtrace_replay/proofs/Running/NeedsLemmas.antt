@@ -1,0 +1,149 @@
+-- What lines need of a pool, with one line more, and at the end of a run.
+use Rattle.std.proofs.Common.{◌≡◌, ◌||◌, ℕ, ◌+◌, ◌≤◌, Bool, Option, None, List, [], ◌∷◌, length, refl, sym, ap, ◌∙◌, subst, arith}
+use Rattle.std.specs.Prelude.{Some, sum_by, max, nat_lt, if◌then◌else◌}
+use Rattle.tlsf_heap.specs.Pools.{most_records}
+use Rattle.tlsf_class.specs.Classes.{unit}
+use Rattle.mtrace_log.specs.Shown.{ReaderState, WriterState}
+use Rattle.mtrace_log.specs.Output.{Wrote}
+use Rattle.mtrace_replay.specs.declared.heap.settings.Settings.{Settings}
+use Rattle.mtrace_replay.specs.declared.runs.needs.Needs.{Needs}
+use Rattle.mtrace_replay.specs.declared.runs.needs.NeedsReplay.{NeedsReplay}
+use Rattle.mtrace_replay.specs.declared.runs.report.Report.TheVariants.{Nothing}
+use Rattle.mtrace_replay.specs.declared.runs.status.Status.{Status}
+use Rattle.mtrace_replay.specs.declared.runs.status.Status.TheVariants.{Clean, Found}
+use Rattle.mtrace_replay.specs.Started.{started}
+use Rattle.mtrace_replay.specs.Moment.{ReadLine, Given, Moment, half}
+use Rattle.mtrace_replay.specs.History.{next_moment, moments, held, pending, content_after}
+use Rattle.mtrace_replay.specs.Totals.{blocks_in, bytes_in, rounded_bytes_in, is_served, Measures, IsMost}
+use Rattle.mtrace_replay.specs.Asked.{bytes_asked, class_asked, greater_class}
+use Rattle.mtrace_replay.specs.Replay.{Replayed, StandsFor, entries, added_diagnostics, heap_rules}
+use Rattle.mtrace_replay.specs.Following.{HasFollowed, StopsWriting}
+use Rattle.mtrace_replay.specs.Run.{end_text, has_some}
+use Rattle.mtrace_replay.specs.Needs.{of_one, block_bytes, Exchanges, BehindExchange, AreNeeds, needs_rules, EndsWithNeeds}
+use Rattle.mtrace_replay.proofs.History.TotalsLemmas.{measure_is_one, none_measured, most_none, most_goes_on}
+use Rattle.mtrace_replay.proofs.OnHeap.HeldFew.{rounded_few}
+use Rattle.mtrace_replay.proofs.History.GivenSize.{given_size, given_vacant}
+use Rattle.mtrace_replay.proofs.History.HeldSums.{freed_of, sum-freed, sum-changes, blocks_summed, bytes_summed, rounded_summed}
+use Rattle.mtrace_replay.proofs.History.TotalsStep.{served_more}
+use Rattle.mtrace_replay.proofs.Running.RunLemmas.{has_replayed, ends_at}
+
+-- what no line needs
+pub needs_none : (settings : Settings) → AreNeeds (started settings) [] (record { most = 0; rounded = 0; most_rounded = 0; class_size = Some unit })
+unfolding moments
+needs_none settings = record {
+  most = (0, most_none blocks_in refl);
+  rounded = none_measured rounded_bytes_in refl;
+  most_rounded = (0, most_none rounded_bytes_in refl);
+  class = refl;
+}
+
+-- one line more
+module _ (old new : Replayed) (settings : Settings) (past : List ReadLine) (line : ReadLine) (before : StandsFor old settings past) (after : StandsFor new settings (line ∷ past))
+    (needs more : Needs) (are : AreNeeds (started settings) past needs) where
+  abbrev ms : List Moment
+  ms = moments (started settings) past
+
+  abbrev now : Moment
+  now = next_moment (started settings) line past ms
+
+  -- what the line frees
+  abbrev freed : Option Given
+  freed = freed_of now.taken old.given
+
+  -- a sum over what is held goes on so
+  changes : (f : Given → ℕ) → sum_by f new.given + of_one f freed ≡ of_one f now.given + sum_by f old.given
+  unfolding moments
+  changes f = sum-changes ms now (given_vacant (length past) line (pending past) (held ms) (content_after (started settings) ms)) old.given new.given before.held after.held f
+
+  freed_within : (f : Given → ℕ) → of_one f freed ≤ sum_by f old.given
+  unfolding moments
+  freed_within f = sum-freed ms now (given_vacant (length past) line (pending past) (held ms) (content_after (started settings) ms)) old.given new.given before.held after.held f
+
+  measured : (measure : List Given → ℕ) (n : ℕ) → Measures measure ms n → n ≡ measure old.given
+  measured measure n is = measure_is_one measure ms n (measure old.given) is (record { all = old.given; held = before.held; measured = refl })
+
+  measured_now : (measure : List Given → ℕ) (n : ℕ) → Measures measure (now ∷ ms) n → n ≡ measure new.given
+  unfolding moments
+  measured_now measure n is = measure_is_one measure (now ∷ ms) n (measure new.given) is (record { all = new.given; held = after.held; measured = refl })
+
+  blocks_were : old.totals.live_blocks ≡ sum_by (λ (given : Given). 1) old.given
+  blocks_were = measured blocks_in old.totals.live_blocks before.totals.live_blocks ∙ blocks_summed old.given
+
+  bytes_were : old.totals.live_bytes ≡ sum_by (λ (given : Given). given.entry.size) old.given
+  bytes_were = measured bytes_in old.totals.live_bytes before.totals.live_bytes ∙ bytes_summed old.given
+
+  exchanges : Exchanges (bytes_asked line) old.totals new.totals freed now.given
+  unfolding moments
+  exchanges = record {
+    served = served_more now ms old.totals.served new.totals.served before.totals.served after.totals.served;
+    size = by_given now.given refl;
+    blocks = omega (arith, changes (λ given. 1), blocks_were, measured_now blocks_in new.totals.live_blocks after.totals.live_blocks, blocks_summed new.given);
+    bytes = omega (arith, changes (λ given. given.entry.size), bytes_were, measured_now bytes_in new.totals.live_bytes after.totals.live_bytes, bytes_summed new.given);
+    within_blocks = omega (arith, blocks_were, freed_within (λ given. 1));
+    within_bytes = omega (arith, bytes_were, freed_within (λ given. given.entry.size));
+  }
+    where
+      by_given : (gave : Option Given) → now.given ≡ gave → of_one (λ given. given.entry.size) gave ≡ of_one (λ given. bytes_asked line) gave
+      by_given None none = refl
+      by_given (Some given) gave = given_size (length past) line (pending past) (held ms) (content_after (started settings) ms) given gave
+
+  module _ (few : length old.given ≤ most_records) (behind : BehindExchange (bytes_asked line) old.totals new.totals needs.rounded more.rounded) where
+    rounded_now : Measures rounded_bytes_in (now ∷ ms) more.rounded
+    unfolding moments
+    rounded_now =
+        let were = measured rounded_bytes_in needs.rounded are.rounded in
+        record {
+          all = new.given;
+          held = after.held;
+          measured = behind freed now.given (rounded_bytes_in new.given) exchanges (omega (arith, were, rounded_few old.given, few))
+              (omega (arith, changes block_bytes, were, rounded_summed old.given, rounded_summed new.given));
+        }
+
+    pub needs_more : more.most ≡ max needs.most new.totals.live_blocks → more.most_rounded ≡ max needs.most_rounded more.rounded
+        → more.class_size ≡ (if nat_lt old.totals.served new.totals.served then greater_class needs.class_size (class_asked line) else needs.class_size) → AreNeeds (started settings) (line ∷ past) more
+    unfolding moments
+    needs_more most_is most_rounded class_is = record {
+      most = subst (IsMost blocks_in (now ∷ ms)) (sym most_is) (most_goes_on blocks_in now ms needs.most new.totals.live_blocks after.totals.live_blocks are.most);
+      rounded = rounded_now;
+      most_rounded = subst (IsMost rounded_bytes_in (now ∷ ms)) (sym most_rounded) (most_goes_on rounded_bytes_in now ms needs.most_rounded more.rounded rounded_now are.most_rounded);
+      class = class_is
+          ∙ ap (λ b. if b then greater_class needs.class_size (class_asked line) else needs.class_size) exchanges.served
+          ∙ ap (λ size. if is_served now then greater_class size (class_asked line) else size) are.class;
+    }
+
+module _ (settings : Settings) (replay : NeedsReplay) (reader_old reader_new : ReaderState) (writer_old writer_new : WriterState) where
+  -- where the lines were followed with what they need, the replay followed them
+  abbrev pub followed_alone : (has_diagnostics : Bool) → HasFollowed (needs_rules.Stands settings replay) (added_diagnostics settings) has_diagnostics reader_old reader_new writer_old writer_new
+      → HasFollowed (heap_rules.Stands settings replay.replay) (added_diagnostics settings) has_diagnostics reader_old reader_new writer_old writer_new
+  followed_alone has_diagnostics done = record {
+    lines = done.lines;
+    read = done.read;
+    stands = done.stands.0;
+    wrote = done.wrote;
+    has_diagnostics_is = done.has_diagnostics_is;
+  }
+
+  pub stopped_alone : StopsWriting (needs_rules.Stands settings replay) (added_diagnostics settings) reader_old reader_new writer_old writer_new
+      → StopsWriting (heap_rules.Stands settings replay.replay) (added_diagnostics settings) reader_old reader_new writer_old writer_new
+  stopped_alone stops = record {
+    lines = stops.lines;
+    unused = stops.unused;
+    read = stops.read;
+    stands = stops.stands.0;
+    begun = stops.begun;
+  }
+
+-- all was written of a run without a report
+pub ends_with_needs : (settings : Settings) (replay : NeedsReplay) (end : Replayed) (has_diagnostics : Bool) (status : Status) (reader_old reader_new : ReaderState) (writer_old writer_middle writer_new : WriterState)
+    → HasFollowed (needs_rules.Stands settings replay) (added_diagnostics settings) has_diagnostics reader_old reader_new writer_old writer_middle
+    → Wrote writer_middle writer_new (end_text Nothing replay.replay)
+    → status ≡ (if has_diagnostics || (has_some (half replay.replay.totals.lines replay.replay.pending) || has_some (entries replay.replay)) then Found else Clean)
+    → end ≡ replay.replay → EndsWithNeeds settings status (record { replay = end; needs = replay.needs }) reader_old reader_new writer_old writer_new
+unfolding has_replayed ends_at
+ends_with_needs settings replay end has_diagnostics status reader_old reader_new writer_old writer_middle writer_new done wrote is kept =
+    let alone = followed_alone settings replay reader_old reader_new writer_old writer_middle has_diagnostics done in
+    record {
+      ends = ends_at settings replay.replay end has_diagnostics status reader_old reader_new writer_old writer_middle writer_new
+          (has_replayed settings replay.replay has_diagnostics reader_old reader_new writer_old writer_middle alone) wrote is kept done.stands.0.1;
+      needs = done.stands.1;
+    }

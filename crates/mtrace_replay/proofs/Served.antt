@@ -1,0 +1,14 @@
+-- Logs that are followed without a heap, and who asked.
+pub mod CallerRows
+pub mod CallersBySlot
+pub mod CallsLemmas
+pub mod RowsBySlot
+pub mod SharesLemmas
+pub mod SitesBySlot
+pub mod EntryOrder
+pub mod LedgerLemmas
+pub mod LedgerPeak
+pub mod LocationsLemmas
+pub mod ServedLemmas
+pub mod ServedRunLemmas
+pub mod ServedTimelineLemmas

@@ -1,0 +1,214 @@
+-- A run without a heap under way, and how it goes on and ends.
+use Rattle.std.proofs.Common.{◌≡◌, ℕ, Bool, ◌||◌, List, [], ◌∷◌, ◌++◌, length, map, refl, sym, ap, ◌∙◌, subst, reverse, inl, inr, append_assoc, if◌then◌else◌}
+use Rattle.std.proofs.lemmas.List.{length-reverse, length-map}
+use Rattle.mtrace_log.specs.Shown.{Bytes, ReaderState, WriterState}
+use Rattle.mtrace_log.specs.HasRead.{HasReadAll}
+use Rattle.mtrace_log.specs.Output.{Wrote, Begins}
+use Rattle.mtrace_log.proofs.Writing.{Wrote-append, Begins-after}
+use Rattle.mtrace_replay.specs.declared.runs.status.Status.{Status}
+use Rattle.mtrace_replay.specs.declared.runs.status.Status.TheVariants.{Clean, Found}
+use Rattle.mtrace_replay.specs.declared.no_heap.report.LedgerReport.{LedgerReport}
+use Rattle.mtrace_replay.specs.declared.no_heap.report.LedgerReport.TheVariants as report
+use Rattle.mtrace_replay.specs.declared.no_heap.prepared.Prepared.{Prepared}
+use Rattle.mtrace_replay.specs.declared.no_heap.prepared.Prepared.TheVariants as prepared
+use Rattle.mtrace_replay.specs.Prepared.{IsOf, AreHeldSites, HasNamed, held_text, prepared_text}
+use Rattle.mtrace_replay.specs.Entry.{Entry}
+use Rattle.mtrace_replay.specs.Sites.{Site, AreSites}
+use Rattle.mtrace_replay.specs.Totals.{bytes_in, first_moments}
+use Rattle.mtrace_replay.proofs.History.TotalsLemmas.{measure_is_one}
+use Rattle.mtrace_replay.specs.Moment.{ReadLine, Given, half}
+use Rattle.mtrace_replay.specs.History.{held, notes, pending, entries_of}
+use Rattle.mtrace_replay.specs.Texts.{diagnostics_text, leaks_report, both_sections, clean_or_found, total_size}
+use Rattle.mtrace_replay.specs.Run.{has_some}
+use Rattle.mtrace_replay.specs.Served.{unplaced, served_moment, served_moments, served_history, added_served, Standing, IsServed, totals_of}
+use Rattle.mtrace_replay.specs.RunServed.{served_notes, whole_served, AreServedTotals, TellsServedSites, TellsServed, ReportsServed, EndsServed, StopsServedAtRead, StopsServedAtWrite, StopsForMemory, served_end, HasServed}
+use Rattle.mtrace_replay.specs.LineReplay.{noted}
+use Rattle.mtrace_replay.specs.Following.{noted_text, HasFollowed, StopsReading, StopsWriting, StopsWanting}
+use Rattle.mtrace_replay.proofs.Running.ReplayingLemmas.{prepend_nothing}
+use Rattle.mtrace_replay.proofs.Told.DiagnosticLemmas.{diagnostics_text-append}
+use Rattle.mtrace_replay.proofs.Running.RunLemmas.{status-is}
+use Rattle.mtrace_replay.proofs.Served.ServedLemmas.{length-served, entries_unplaced}
+
+pub no_moment : served_history [] ≡ []
+unfolding served_moments
+no_moment = refl
+
+one_moment : (line : ReadLine) (past : List ReadLine) → served_moments (line ∷ past) ≡ served_moment (length past) line (pending past) (held (served_moments past)) ∷ served_moments past
+unfolding served_moments
+one_moment line past = refl
+
+-- the diagnostics of lines, one after the other, are those of their history
+pub noted_is : (past : List ReadLine) → noted added_served past ≡ notes (served_moments past)
+noted_is [] = sym (ap notes no_moment)
+noted_is (line ∷ past) = ap (λ all. all ++ added_served line past) (noted_is past) ∙ sym (ap notes (one_moment line past))
+
+pub noted_text_is : (lines : List ReadLine) → noted_text added_served (reverse lines) ≡ served_notes lines
+noted_text_is lines = ap diagnostics_text (noted_is (reverse lines))
+
+module _ (reader_old reader_new : ReaderState) (writer_old writer_new : WriterState) where
+  -- all lines were followed
+  unfoldable pub has_served : (Stands : List ReadLine → Type 0) (replay : Standing) (has_diagnostics : Bool) → ((past : List ReadLine) → Stands past → IsServed replay past)
+      → (done : HasFollowed Stands added_served has_diagnostics reader_old reader_new writer_old writer_new) → HasServed replay has_diagnostics reader_old reader_new writer_old writer_new
+  has_served Stands replay has_diagnostics served done = record {
+    lines = done.lines;
+    read = done.read;
+    stands = served (reverse done.lines) done.stands;
+    wrote = subst (λ (text : List ℕ). Wrote writer_old writer_new text) (noted_text_is done.lines) done.wrote;
+    has_diagnostics_is = done.has_diagnostics_is ∙ ap has_some (noted_is (reverse done.lines));
+  }
+
+  -- the reader failed, or a line past the last number would come
+  pub stops_served_at_read : StopsReading added_served reader_old reader_new writer_old writer_new → StopsServedAtRead reader_old reader_new writer_old writer_new
+  stops_served_at_read stops = record {
+    lines = stops.lines;
+    reason = stops.reason;
+    wrote = subst (λ (text : List ℕ). Wrote writer_old writer_new text) (noted_text_is stops.lines) stops.wrote;
+  }
+
+  -- the writer failed at a line's diagnostics
+  pub stops_served_at_write : (report : LedgerReport) (Stands : List ReadLine → Type 0) → StopsWriting Stands added_served reader_old reader_new writer_old writer_new → StopsServedAtWrite report reader_old reader_new writer_old writer_new
+  stops_served_at_write report Stands stops = record {
+    lines = stops.lines;
+    unused = stops.unused;
+    begun = inl (stops.read, subst (λ (text : List ℕ). Begins writer_old writer_new text) (noted_text_is stops.lines) stops.begun);
+  }
+
+  -- memory was refused at a line
+  pub stops_for_memory : StopsWanting added_served reader_old reader_new writer_old writer_new → StopsForMemory reader_old reader_new writer_old writer_new
+  stops_for_memory stops = record {
+    lines = stops.lines;
+    unused = stops.unused;
+    reason = inl (stops.line, stops.read);
+    wrote = subst (λ (text : List ℕ). Wrote writer_old writer_new text) (noted_text_is stops.lines) stops.wrote;
+  }
+
+-- what comes behind the diagnostics of the lines: that of the end, and a text
+abbrev pub last_text : List ReadLine → List ℕ → List ℕ
+last_text lines text = diagnostics_text (half (length lines) (pending (reverse lines))) ++ text
+
+pub whole_is : (lines : List ReadLine) (text : List ℕ) → whole_served lines text ≡ served_notes lines ++ last_text lines text
+whole_is lines text =
+    let last = half (length lines) (pending (reverse lines)) in
+    ap (λ front. front ++ text) (diagnostics_text-append (notes (served_history lines)) last) ∙ append_assoc (served_notes lines) (diagnostics_text last) text
+
+module _ (replay : Standing) (lines : List ReadLine) (stands : IsServed replay (reverse lines)) where
+  abbrev given_of : List Given
+  given_of = map unplaced replay.all
+
+  pub half_is : half replay.lines replay.pending ≡ half (length lines) (pending (reverse lines))
+  half_is = ap (λ n. half n replay.pending) (stands.lines_are ∙ length-reverse lines) ∙ ap (half (length lines)) stands.pending_is
+
+  -- what a replay that stands for the lines writes at the end
+  pub end_is : (text : List ℕ) → served_end replay text ≡ last_text lines text
+  end_is text = ap (λ last. diagnostics_text last ++ text) half_is
+
+  pub summed : AreServedTotals (served_history lines) (totals_of replay)
+  summed = record {
+    lines = stands.lines_are ∙ sym (length-served (reverse lines));
+    served = stands.served_are;
+    live_bytes = record { all = given_of; held = stands.held; measured = ap total_size (sym (entries_unplaced replay.all)) };
+    live_blocks = record { all = given_of; held = stands.held; measured = sym (length-map replay.all unplaced) };
+    peak = stands.peak;
+  }
+
+  -- what was held at the peak
+  abbrev peak_all : List Given
+  peak_all = stands.at_peak.blocks.all
+
+  peak_bytes_are : replay.peak_bytes ≡ total_size (entries_of peak_all)
+  peak_bytes_are =
+      measure_is_one bytes_in (first_moments replay.peak_line (served_history lines)) replay.peak_bytes (bytes_in peak_all) stands.peak.reached
+      (record { all = peak_all; held = stands.at_peak.blocks.held; measured = refl })
+
+  sections_are : (peak end : List Site) → both_sections replay.peak_line replay.peak_blocks replay.peak_bytes peak (length replay.all) (total_size replay.all) end
+      ≡ both_sections replay.peak_line (length peak_all) (total_size (entries_of peak_all)) peak (length given_of) (total_size (entries_of given_of)) end
+  sections_are peak end =
+      ap (λ n. both_sections replay.peak_line n replay.peak_bytes peak (length replay.all) (total_size replay.all) end) stands.at_peak.blocks.measured
+      ∙ ap (λ n. both_sections replay.peak_line (length peak_all) n peak (length replay.all) (total_size replay.all) end) peak_bytes_are
+      ∙ ap (λ n. both_sections replay.peak_line (length peak_all) (total_size (entries_of peak_all)) peak n (total_size replay.all) end) (sym (length-map replay.all unplaced))
+      ∙ ap (λ (all : List Entry). both_sections replay.peak_line (length peak_all) (total_size (entries_of peak_all)) peak (length given_of) (total_size all) end) (sym (entries_unplaced replay.all))
+
+  held_tells : (peak end : List Site) → AreHeldSites replay peak end → TellsServedSites lines (held_text replay peak end)
+  held_tells peak end named = record {
+    totals = totals_of replay;
+    summed = summed;
+    at_peak = record { all = peak_all; held = stands.at_peak.blocks.held; sites = peak; are = named.0 (entries_of peak_all) (stands.at_peak.sites peak_all stands.at_peak.blocks.held) };
+    at_end = record { all = given_of; held = stands.held; sites = end; are = subst (λ (all : List Entry). AreSites all end) (sym (entries_unplaced replay.all)) named.1 };
+    text_is = sections_are peak end;
+  }
+
+  -- the text of a report for which memory was taken
+  pub prepared_tells : (report : LedgerReport) (prepared : Prepared) → IsOf report prepared → HasNamed replay prepared → TellsServed report lines (prepared_text replay prepared)
+  prepared_tells report.Held (prepared.Held addresses) is named = record { all = given_of; held = stands.held; text_is = ap leaks_report (sym (entries_unplaced replay.all)) }
+  prepared_tells report.Sums prepared.Sums is named = record { totals = totals_of replay; summed = summed; text_is = refl }
+  prepared_tells report.Sites (prepared.Sites peak end) is named = held_tells peak.items end.items named
+  prepared_tells report.Callers (prepared.Callers peak end callers) is named = record {
+    held = held_text replay peak.items end.items;
+    tells = held_tells peak.items end.items named.0;
+    total = replay.called.total;
+    callers = callers.items;
+    calls_are = record { total_is = stands.called.total; callers_are = named.1 _ _ stands.called };
+    text_is = refl;
+  }
+  prepared_tells report.Nothing prepared.Nothing is named = refl
+  prepared_tells report prepared is named = absurd is
+
+module _ (report : LedgerReport) (replay : Standing) (has_diagnostics : Bool) (reader_old reader_new : ReaderState) (writer_old writer_middle writer_new : WriterState)
+    (done : HasServed replay has_diagnostics reader_old reader_new writer_old writer_middle) (prepared : Prepared) (is_of : IsOf report prepared) (named : HasNamed replay prepared) where
+  abbrev its_text : List ℕ
+  its_text = prepared_text replay prepared
+
+  -- the writer failed at the end
+  pub served_write : Begins writer_middle writer_new (served_end replay its_text) → StopsServedAtWrite report reader_old reader_new writer_old writer_new
+  served_write begins = record {
+    lines = done.lines;
+    unused = [];
+    begun = inr (record {
+      read = subst (λ (after : Bytes). HasReadAll reader_old.left after done.lines) (sym (prepend_nothing reader_new.left)) done.read;
+      text = its_text;
+      tells = prepared_tells replay done.lines done.stands report prepared is_of named;
+      begun = subst (λ (text : List ℕ). Begins writer_old writer_new text) (sym (whole_is done.lines its_text))
+          (Begins-after writer_old writer_middle writer_new (served_notes done.lines) (last_text done.lines its_text) done.wrote
+          (subst (λ (text : List ℕ). Begins writer_middle writer_new text) (end_is replay done.lines done.stands its_text) begins));
+    });
+  }
+
+  -- all was written
+  unfoldable pub served_all : (status : Status) → Wrote writer_middle writer_new (served_end replay its_text)
+      → status ≡ (if has_diagnostics || (has_some (half replay.lines replay.pending) || has_some replay.all) then Found else Clean)
+      → ReportsServed report status reader_old reader_new writer_old writer_new
+  served_all status wrote is =
+      let last = half (length done.lines) (pending (reverse done.lines)) in
+      record {
+        lines = done.lines;
+        read = done.read;
+        text = its_text;
+        tells = prepared_tells replay done.lines done.stands report prepared is_of named;
+        wrote = subst (λ (text : List ℕ). Wrote writer_old writer_new text) (sym (whole_is done.lines its_text))
+            (Wrote-append writer_old writer_middle writer_new (served_notes done.lines) (last_text done.lines its_text) done.wrote
+            (subst (λ (text : List ℕ). Wrote writer_middle writer_new text) (end_is replay done.lines done.stands its_text) wrote));
+        all = given_of replay done.lines done.stands;
+        held = done.stands.held;
+        status_is = is
+            ∙ ap (λ b. if b || (has_some (half replay.lines replay.pending) || has_some replay.all) then Found else Clean) done.has_diagnostics_is
+            ∙ ap (λ more. if has_some (notes (served_history done.lines)) || (has_some more || has_some replay.all) then Found else Clean) (half_is replay done.lines done.stands)
+            ∙ status-is (notes (served_history done.lines)) last replay.all
+            ∙ ap (clean_or_found (notes (served_history done.lines) ++ last)) (sym (entries_unplaced replay.all));
+      }
+
+-- a run without a report has ended, with this replay
+pub served_nothing : (replay : Standing) (has_diagnostics : Bool) (reader_old reader_new : ReaderState) (writer_old writer_middle writer_new : WriterState)
+    (done : HasServed replay has_diagnostics reader_old reader_new writer_old writer_middle) (prepared : Prepared) (is_of : IsOf report.Nothing prepared) (named : HasNamed replay prepared) (status : Status)
+    → Wrote writer_middle writer_new (served_end replay (prepared_text replay prepared))
+    → status ≡ (if has_diagnostics || (has_some (half replay.lines replay.pending) || has_some replay.all) then Found else Clean)
+    → EndsServed status replay reader_old reader_new writer_old writer_new
+unfolding served_all
+served_nothing replay has_diagnostics reader_old reader_new writer_old writer_middle writer_new done prepared is_of named status wrote is = record {
+  reports = served_all report.Nothing replay has_diagnostics reader_old reader_new writer_old writer_middle writer_new done prepared is_of named status wrote is;
+  stands = done.stands;
+}
+
+-- memory was refused behind the last line
+pub served_memory : (replay : Standing) (has_diagnostics : Bool) (reader_old reader_new : ReaderState) (writer_old writer_middle : WriterState)
+    → HasServed replay has_diagnostics reader_old reader_new writer_old writer_middle → StopsForMemory reader_old reader_new writer_old writer_middle
+served_memory replay has_diagnostics reader_old reader_new writer_old writer_middle done = record { lines = done.lines; unused = []; reason = inr done.read; wrote = done.wrote }
