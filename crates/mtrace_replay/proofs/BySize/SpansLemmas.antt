@@ -4,22 +4,21 @@ use Rattle.std.specs.Prelude.{◌==◌, max, count_by, is_some, option_map, opti
 use Rattle.std.specs.Option.{IfSome}
 use Rattle.std.specs.List.{All, Contains, list_all}
 use Rattle.std.proofs.lemmas.List.Elements.{All-map, All-push, Contains-append_left, Contains-append_right}
-use Rattle.std.proofs.lemmas.Map.Keys.{sorted_from_strictly_increasing, IsStrictlyIncreasing-from_sorted}
 use Rattle.std.proofs.lemmas.Bool.{false≢true}
 use Rattle.mtrace_replay.specs.declared.parts.span.Span.{Span}
 use Rattle.mtrace_replay.specs.declared.parts.spans.Block.{Block}
 use Rattle.mtrace_replay.specs.Moment.{ReadLine, Given, Moment, plan}
-use Rattle.mtrace_replay.specs.History.{held, held_after, given_or, pending, unless_taken, AreHeld}
+use Rattle.mtrace_replay.specs.History.{held, given_or, pending, unless_taken, AreHeld}
 use Rattle.mtrace_replay.specs.Step.{found}
 use Rattle.mtrace_replay.specs.Totals.{is_served, Measures, IsMost}
 use Rattle.mtrace_replay.specs.Asked.{class_asked}
 use Rattle.mtrace_replay.specs.Served.{served_moment, served_moments}
 use Rattle.mtrace_replay.specs.Parts.{size_ranges, range_of, is_in, blocks_of, served_classes, largest}
 use Rattle.mtrace_replay.specs.Spans.{has_range, with_block, hits, released, Agrees, range_held, IsSpan, AreAll, AreCounted, released_by, address_asked, range_released, unless_released, IsPlaced, blank, IsBlank, given_all}
-use Rattle.mtrace_replay.proofs.History.SortedLemmas.{addresses}
-use Rattle.mtrace_replay.proofs.History.FoundLemmas.{found_is_held, held_as_found}
+use Rattle.mtrace_replay.proofs.History.FoundLemmas.{found_is_held}
+use Rattle.mtrace_replay.proofs.History.HeldSums.{held_behind}
 use Rattle.mtrace_replay.proofs.History.TotalsLemmas.{none_measured, most_none, most_goes_on}
-use Rattle.mtrace_replay.proofs.History.HeldCounts.{Rise, put, one_if, rest_of, found-put, rise-put, rise-rest, found-rest, count-put, count-without}
+use Rattle.mtrace_replay.proofs.History.HeldCounts.{put, one_if, rest_of, count-put, count-without}
 use Rattle.mtrace_replay.proofs.History.LineChange.{IsChange, line_change}
 
 module _ (asked : ℕ → Option ℕ) (span : Span) where
@@ -91,29 +90,16 @@ module _ (past : List ReadLine) (line : ReadLine) where
 
   -- what is held behind the line, in order
   module _ (all : List Given) (are : AreHeld all (served_moments past)) where
-    rise : Rise all
-    rise = sorted_from_strictly_increasing (addresses all) are.in_order
-
-    finds : (q : ℕ) → found all q ≡ before q
-    finds = found_is_held all (served_moments past) are
-
-    finds-rest : (q : ℕ) → found (rest_of taken all) q ≡ unless_taken its.taken q (before q)
-    finds-rest q = found-rest taken all rise q ∙ ap (unless_taken taken q) (finds q) ∙ sym (changes.taken q)
-
-    held_on : (all_now : List Given) → Rise all_now → ((q : ℕ) → found all_now q ≡ held_after its before q) → AreHeld all_now (served_moments (line ∷ past))
-    unfolding served_moments
-    held_on all_now rises same = held_as_found all_now (served_moments (line ∷ past)) (IsStrictlyIncreasing-from_sorted (addresses all_now) rises) same
-
     -- nothing is given
     held_without : its.given ≡ None → AreHeld (rest_of taken all) (served_moments (line ∷ past))
-    held_without none = held_on (rest_of taken all) (rise-rest taken all rise) (λ q. finds-rest q ∙ sym (ap (λ (o : Option Given). given_or o q (unless_taken its.taken q (before q))) none))
+    unfolding served_moments
+    held_without none = held_behind (served_moments past) its taken changes.taken all are None none (λ given is. absurd (cc))
 
     -- a block is given
     held_with : (given : Given) → its.given ≡ Some given → unless_taken its.taken given.entry.addr (before given.entry.addr) ≡ None → AreHeld (put given (rest_of taken all)) (served_moments (line ∷ past))
-    held_with given gave vacant = held_on (put given (rest_of taken all))
-        (rise-put given (rest_of taken all) (rise-rest taken all rise) (finds-rest given.entry.addr ∙ vacant))
-        (λ q. found-put given (rest_of taken all) q ∙ ap (cond (given.entry.addr == q) (Some given)) (finds-rest q)
-        ∙ sym (ap (λ (o : Option Given). given_or o q (unless_taken its.taken q (before q))) gave))
+    unfolding served_moments
+    held_with given gave vacant = held_behind (served_moments past) its taken changes.taken all are (Some given) gave
+        (λ other is. subst (λ (g : Given). unless_taken its.taken g.entry.addr (before g.entry.addr) ≡ None) (let same : given ≡ other = cc in same) vacant)
 
   module _ (ranges : ℕ → Option ℕ) (ranges_are : (asked : ℕ → Option ℕ) → Agrees asked past → (address : ℕ) → ranges address ≡ range_held asked before address)
       (span : Span) (is : IsSpan past span) where
@@ -132,7 +118,7 @@ module _ (past : List ReadLine) (line : ReadLine) where
         → left.live ≡ blocks_of asked span.first span.last (rest_of taken all)
     left_counts asked agrees all are counted =
         ap (λ range. (released range span).live) (same_range taken)
-        ∙ count-rest asked span before taken all (finds all are) counted
+        ∙ count-rest asked span before taken all (found_is_held all (served_moments past) are) counted
       where
         same_range : (o : Option ℕ) → range_released ranges o ≡ range_released (range_held asked before) o
         same_range None = refl

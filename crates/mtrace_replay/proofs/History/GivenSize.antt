@@ -1,53 +1,15 @@
 -- A line that is served is given a block for as many bytes as it asks for, at an address that isn't held then.
-use Rattle.std.proofs.Common.{◌≡◌, ◌⊎◌, inl, inr, cond, ℕ, suc, Bool, true, false, not, is_some, Option, Some, None, Result, Ok, Err, refl, sym, ap, ◌∙◌}
-use Rattle.std.specs.Prelude.{◌==◌, ◌&&◌, if◌then◌else◌}
+use Rattle.std.proofs.Common.{◌≡◌, ◌⊎◌, inl, inr, cond, ℕ, suc, Bool, true, false, Option, Some, None, Result, Ok, Err, refl, sym, ap, ◌∙◌}
+use Rattle.std.specs.Prelude.{◌==◌}
 use Rattle.std.proofs.lemmas.Bool.{eq-eqb}
-use Rattle.mtrace_log.specs.declared.event.Event.TheVariants.{Alloc, Free, New, Aligned}
-use Rattle.mtrace_log.specs.declared.event.LineFault.TheVariants as fault
 use Rattle.tlsf_heap.specs.declared.refusal.Refusal.{Refusal}
 use Rattle.mtrace_replay.specs.Entry.{Entry}
-use Rattle.mtrace_replay.specs.declared.held.diagnostic.Kind.TheVariants.{AlreadyHeld}
 use Rattle.mtrace_replay.specs.Started.{Bare}
-use Rattle.mtrace_replay.specs.Moment.{ReadLine, Given, Act, idle, give, take, move, plan, none_for, doing, allocation, release, reallocation, renewal, answered, moved, done, moment}
+use Rattle.mtrace_replay.specs.Moment.{ReadLine, Given, Act, idle, give, take, move, plan, answered, moved, done, moment}
 use Rattle.mtrace_replay.specs.History.{unless_taken}
 use Rattle.mtrace_replay.specs.Asked.{bytes_asked}
+use Rattle.mtrace_replay.proofs.History.PlanLemmas.{AsksFor, is_planned}
 use Rattle.mtrace_replay.proofs.History.HeldLemmas.{moment_gives}
-
--- what an act asks for has this many bytes
-abbrev AsksFor : ℕ → Act → Type 0
-AsksFor size idle = Unit {0}
-AsksFor size (give entry align) = entry.size ≡ size
-AsksFor size (take address place) = Unit {0}
-AsksFor size (move old place entry) = entry.size ≡ size
-
-allocation_asks : (entry : Entry) (align : Option ℕ) (here : Option Given) → AsksFor entry.size (allocation entry align here).act
-allocation_asks entry align None = refl
-allocation_asks entry align (Some given) = tt
-
-release_asks : (size number address : ℕ) (here : Option Given) → AsksFor size (release number address here).act
-release_asks size number address None = tt
-release_asks size number address (Some given) = tt
-
-reallocation_asks : (entry : Entry) (old : ℕ) (there here : Option Given) → AsksFor entry.size (reallocation entry old there here).act
-reallocation_asks entry old None here = allocation_asks entry None here
-reallocation_asks entry old (Some from) here = by_test (not (entry.addr == old) && is_some here)
-  where
-    by_test : (test : Bool) → AsksFor entry.size (if test then none_for entry.line (AlreadyHeld entry.addr) else doing (move old from.place entry)).act
-    by_test true = tt
-    by_test false = refl
-
-renewal_asks : (entry : Entry) (pending : Option ℕ) (held : ℕ → Option Given) → AsksFor entry.size (renewal entry pending held).act
-renewal_asks entry None held = tt
-renewal_asks entry (Some old) held = reallocation_asks entry old (held old) (held entry.addr)
-
-act_asks : (number : ℕ) (line : ReadLine) (pending : Option ℕ) (held : ℕ → Option Given) → AsksFor (bytes_asked line) (plan number line pending held).act
-act_asks number (Err fault.TooLong) pending held = tt
-act_asks number (Err fault.NotALine) pending held = tt
-act_asks number (Ok (Alloc at (Some address) size)) pending held = allocation_asks (record { addr = address; size = size; line = number; at = at }) None (held address)
-act_asks number (Ok (Free at address)) pending held = release_asks 0 number address (held address)
-act_asks number (Ok (New at address size)) pending held = renewal_asks (record { addr = address; size = size; line = number; at = at }) pending held
-act_asks number (Ok (Aligned at address align size)) pending held = allocation_asks (record { addr = address; size = size; line = number; at = at }) (Some align) (held address)
-act_asks number (Ok _) pending held = tt
 
 -- what is given is the entry that a block is asked for
 of_entry : (size : ℕ) (entry : Entry) (place : ℕ) (given : Given) → entry.size ≡ size → Some (record { entry = entry; place = place }) ≡ Some given → given.entry.size ≡ size
@@ -71,7 +33,7 @@ done_size size (move old place entry) content given asks gave = moved_size size 
 
 module _ (count : ℕ) (line : ReadLine) (pending : Option ℕ) (before : ℕ → Option Given) (content : Bare) (given : Given) (gave : (moment count line pending before content).given ≡ Some given) where
   pub given_size : given.entry.size ≡ bytes_asked line
-  given_size = done_size (bytes_asked line) (plan (suc count) line pending before).act content given (act_asks (suc count) line pending before) gave
+  given_size = done_size (bytes_asked line) (plan (suc count) line pending before).act content given (is_planned (suc count) before line pending).asks gave
 
   -- its address isn't held once what the line takes is taken
   pub given_vacant : unless_taken (moment count line pending before content).taken given.entry.addr (before given.entry.addr) ≡ None

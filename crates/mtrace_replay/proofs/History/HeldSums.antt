@@ -19,27 +19,32 @@ abbrev pub freed_of : Option ℕ → List Given → Option Given
 freed_of None all = None
 freed_of (Some address) all = found all address
 
-module _ (before : List Moment) (now : Moment) (vacant : (given : Given) → now.given ≡ Some given → unless_taken now.taken given.entry.addr (held before given.entry.addr) ≡ None)
-    (all new : List Given) (are : AreHeld all before) (are_now : AreHeld new (now ∷ before)) where
+-- what is taken may be told otherwise, where that says the same of what is held
+module _ (before : List Moment) (now : Moment) (taken : Option ℕ) (takes : (q : ℕ) → unless_taken now.taken q (held before q) ≡ unless_taken taken q (held before q))
+    (all : List Given) (are : AreHeld all before) where
   rises : Rise all
   rises = sorted_from_strictly_increasing (addresses all) are.in_order
 
-  finds : (q : ℕ) → found (rest_of now.taken all) q ≡ unless_taken now.taken q (held before q)
-  finds q = found-rest now.taken all rises q ∙ ap (unless_taken now.taken q) (found_is_held all before are q)
+  finds : (q : ℕ) → found (rest_of taken all) q ≡ unless_taken now.taken q (held before q)
+  finds q = found-rest taken all rises q ∙ ap (unless_taken taken q) (found_is_held all before are q) ∙ sym (takes q)
 
-  by_given : (gave : Option Given) → now.given ≡ gave → AreHeld (with_given gave (rest_of now.taken all)) (now ∷ before)
-  by_given None none = held_as_found (rest_of now.taken all) (now ∷ before) (IsStrictlyIncreasing-from_sorted (addresses (rest_of now.taken all)) (rise-rest now.taken all rises))
+  -- what is held behind the moment, by what it gives, at an address that isn't held then
+  pub held_behind : (gave : Option Given) → now.given ≡ gave → ((given : Given) → gave ≡ Some given → unless_taken now.taken given.entry.addr (held before given.entry.addr) ≡ None)
+      → AreHeld (with_given gave (rest_of taken all)) (now ∷ before)
+  held_behind None none vacant = held_as_found (rest_of taken all) (now ∷ before) (IsStrictlyIncreasing-from_sorted (addresses (rest_of taken all)) (rise-rest taken all rises))
       (λ q. finds q ∙ sym (ap (λ (o : Option Given). given_or o q (unless_taken now.taken q (held before q))) none))
-  by_given (Some given) gave =
-      let rest = rest_of now.taken all in
+  held_behind (Some given) gave vacant =
+      let rest = rest_of taken all in
       held_as_found (put given rest) (now ∷ before)
-      (IsStrictlyIncreasing-from_sorted (addresses (put given rest)) (rise-put given rest (rise-rest now.taken all rises) (finds given.entry.addr ∙ vacant given gave)))
+      (IsStrictlyIncreasing-from_sorted (addresses (put given rest)) (rise-put given rest (rise-rest taken all rises) (finds given.entry.addr ∙ vacant given refl)))
       (λ q. found-put given rest q ∙ ap (cond (given.entry.addr == q) (Some given)) (finds q)
       ∙ sym (ap (λ (o : Option Given). given_or o q (unless_taken now.taken q (held before q))) gave))
 
+module _ (before : List Moment) (now : Moment) (vacant : (given : Given) → now.given ≡ Some given → unless_taken now.taken given.entry.addr (held before given.entry.addr) ≡ None)
+    (all new : List Given) (are : AreHeld all before) (are_now : AreHeld new (now ∷ before)) where
   -- what is held now is what was, without what is taken, and with what is given
   held_now : new ≡ with_given now.given (rest_of now.taken all)
-  held_now = one_list (now ∷ before) new (with_given now.given (rest_of now.taken all)) are_now (by_given now.given refl)
+  held_now = one_list (now ∷ before) new (with_given now.given (rest_of now.taken all)) are_now (held_behind before now now.taken (λ q. refl) all are now.given refl vacant)
 
   module _ (f : Given → ℕ) where
     sum-given : (gave : Option Given) (es : List Given) → sum_by f (with_given gave es) ≡ of_one f gave + sum_by f es

@@ -23,9 +23,8 @@ use mtrace_log::{Event, LentLocation, LineFault, Sink, Source};
 use std::alloc::{AllocError, Global};
 use tlsf_heap::Heap;
 
-/// The bytes of the blocks held behind a line, where `more` are those of the blocks held before it and of the block that it
-/// is given. The blocks held before it that are left are this many, of this many bytes as asked for: all but the one that it
-/// frees, if any.
+/// The bytes of the blocks held behind a line. `more` are those of the blocks held before it and of the block that it is given.
+/// Of the blocks held before it, `blocks` are left, of `bytes` bytes as asked for: all of them, or all but the one that it frees.
 fn less_freed(more: u64, blocks: u64, bytes: u64, old: Totals) -> u64
     ensures { (freed : Option Given) (exact : ℕ) → blocks + of_one (λ given. 1) freed ≡ old.live_blocks → bytes + of_one (λ given. given.entry.size) freed ≡ old.live_bytes
         → exact + of_one block_bytes freed ≡ more → result ≡ exact }
@@ -36,8 +35,8 @@ fn less_freed(more: u64, blocks: u64, bytes: u64, old: Totals) -> u64
     more.saturating_sub(rounded_bytes(old.live_bytes.saturating_sub(bytes)))
 }
 
-/// The bytes of the blocks held behind a line that asks for this many bytes, by those before it and by the sums of both. No
-/// look-up finds the block that the line frees: its size is told by the sums.
+/// The bytes of the blocks held behind a line that asks for `size` bytes, where those held before it had `rounded`. The block that
+/// the line frees isn't looked up: the sums before and after the line tell its size.
 fn rounded_after(rounded: u64, size: u64, old: Totals, new: Totals) -> u64
     ensures { BehindExchange size old new rounded result }
 {
