@@ -1,12 +1,13 @@
 //! What a log needs of a pool, gathered beside its replay.
 
-ghost use Rattle.std.specs.Prelude.{◌≡◌, ℕ, ◌+◌, max, nat_lt, IfOk, Option, Some, if◌then◌else◌};
-ghost use Rattle.tlsf_class.specs.Classes.{unit};
+ghost use Rattle.std.specs.Prelude.{◌≡◌, ℕ, ◌+◌, max, nat_lt, IfOk, Option, [], if◌then◌else◌};
 ghost use Rattle.tlsf_heap.specs.Sizing.{class_size};
 ghost use Rattle.mtrace_replay.specs.Moment.{Given, asked_size};
 ghost use Rattle.mtrace_replay.specs.Asked.{greater_class};
 ghost use Rattle.mtrace_replay.specs.Run.{Runs};
-ghost use Rattle.mtrace_replay.specs.Needs.{of_one, block_bytes, BehindExchange, status_with, EndsWithNeeds};
+ghost use Rattle.mtrace_replay.specs.Started.{started};
+ghost use Rattle.mtrace_replay.specs.declared.heap.settings.Settings.{Settings};
+ghost use Rattle.mtrace_replay.specs.Needs.{of_one, block_bytes, BehindExchange, AreNeeds, status_with, EndsWithNeeds};
 
 use crate::heap::asked::Asked;
 use crate::heap::replay::{Replay, ReplayFault};
@@ -65,7 +66,7 @@ pub(crate) struct Needs {
 impl Needs {
     /// What no line needs.
     fn none() -> Needs
-        ensures { result ≡ record { most = 0; rounded = 0; most_rounded = 0; class_size = Some unit } }
+        ensures { (settings : Settings) → AreNeeds (started settings) [] result }
     {
         Needs {
             most: 0,

@@ -1,18 +1,15 @@
-use Rattle.std.proofs.Common.{rules, [], refl, sym, subst, ◌∙◌}
+use Rattle.std.proofs.Common.{rules, refl, ◌∙◌}
 use Rattle.mtrace_log.specs.declared.call.Call.TheVariants.{Took, Flushed}
 use Rattle.mtrace_log.proofs.TraceLemmas.{moved_then_append, failed_after}
 use Rattle.mtrace_replay.specs.declared.runs.report.Report.TheVariants.{Nothing}
-use Rattle.mtrace_replay.specs.Started.{started}
-use Rattle.mtrace_replay.specs.Needs.{AreNeeds}
 use Rattle.mtrace_replay.proofs.Running.RunLemmas.{report_all, report_write, flush_asked, has_replayed, stops_at_read, stops_at_write}
-use Rattle.mtrace_replay.proofs.Running.NeedsLemmas.{needs_none, followed_alone, stopped_alone, ends_with_needs}
+use Rattle.mtrace_replay.proofs.Running.NeedsLemmas.{followed_alone, stopped_alone, ends_with_needs}
 use Rattle.mtrace_replay.proofs.runs.needs.replay_needs.Goals as goal
 
 -- memory was never refused
 pub finish-requires : goal.finish-requires
 finish-requires g c =
-    let none = subst (AreNeeds (started c.args.settings) []) (sym c.none.ensures) (needs_none c.args.settings) in
-    record { works = (c.in-Ok-follow_lines.ensures.done c.args.settings ((c.in-Ok.ensures.made, c.in-Ok.ensures.records), none)).stands.0.0.works }
+    record { works = (c.in-Ok-follow_lines.ensures.done c.args.settings ((c.in-Ok.ensures.made, c.in-Ok.ensures.records), c.none.ensures c.args.settings)).stands.0.0.works }
 
 -- the log has ended, and all was written
 pub returns-in-Ok-finish-clause-ran : goal.returns-in-Ok-finish-clause-ran
@@ -21,8 +18,7 @@ returns-in-Ok-finish-clause-ran g c =
     let writes = g.W.Sink.shown in
     let settings = c.args.settings in
     let replay = c.follow_lines.new.replay in
-    let none = subst (AreNeeds (started settings) []) (sym c.none.ensures) (needs_none settings) in
-    let followed = c.in-Ok-follow_lines.ensures.done settings ((c.in-Ok.ensures.made, c.in-Ok.ensures.records), none) in
+    let followed = c.in-Ok-follow_lines.ensures.done settings ((c.in-Ok.ensures.made, c.in-Ok.ensures.records), c.none.ensures c.args.settings) in
     let more = c.in-Ok-follow_lines.has_diagnostics in
     let done = has_replayed settings replay.replay more (reads c.args.reader.now) (reads c.follow_lines.new.reader) (writes c.args.writer.now) (writes c.follow_lines.new.writer)
     (followed_alone settings replay (reads c.args.reader.now) (reads c.follow_lines.new.reader) (writes c.args.writer.now) (writes c.follow_lines.new.writer) more followed) in
@@ -43,8 +39,7 @@ returns-in-Ok-finish-clause-last g c =
     let writes = g.W.Sink.shown in
     let settings = c.args.settings in
     let replay = c.follow_lines.new.replay in
-    let none = subst (AreNeeds (started settings) []) (sym c.none.ensures) (needs_none settings) in
-    let followed = c.in-Ok-follow_lines.ensures.done settings ((c.in-Ok.ensures.made, c.in-Ok.ensures.records), none) in
+    let followed = c.in-Ok-follow_lines.ensures.done settings ((c.in-Ok.ensures.made, c.in-Ok.ensures.records), c.none.ensures c.args.settings) in
     ends_with_needs settings replay c.finish.new.replay c.in-Ok-follow_lines.has_diagnostics c.in-Ok-finish.status (reads c.args.reader.now) (reads c.follow_lines.new.reader)
     (writes c.args.writer.now) (writes c.follow_lines.new.writer) (writes c.finish.new.writer) followed c.in-Ok-finish.ensures.all c.in-Ok-finish.ensures.status (c.in-Ok-finish.ensures.kept refl)
 
@@ -55,8 +50,7 @@ returns-in-Ok-follow_lines-clause-ran g c =
     let writes = g.W.Sink.shown in
     let settings = c.args.settings in
     let replay = c.follow_lines.new.replay in
-    let none = subst (AreNeeds (started settings) []) (sym c.none.ensures) (needs_none settings) in
-    let followed = c.in-Ok-follow_lines.ensures.done settings ((c.in-Ok.ensures.made, c.in-Ok.ensures.records), none) in
+    let followed = c.in-Ok-follow_lines.ensures.done settings ((c.in-Ok.ensures.made, c.in-Ok.ensures.records), c.none.ensures c.args.settings) in
     let more = c.in-Ok-follow_lines.has_diagnostics in
     let done = has_replayed settings replay.replay more (reads c.args.reader.now) (reads c.follow_lines.new.reader) (writes c.args.writer.now) (writes c.follow_lines.new.writer)
     (followed_alone settings replay (reads c.args.reader.now) (reads c.follow_lines.new.reader) (writes c.args.writer.now) (writes c.follow_lines.new.writer) more followed) in
@@ -76,9 +70,8 @@ pub returns-clause-ran : goal.returns-clause-ran
 returns-clause-ran g c =
     let reads = g.R.Source.shown in
     let writes = g.W.Sink.shown in
-    let none = subst (AreNeeds (started c.args.settings) []) (sym c.none.ensures) (needs_none c.args.settings) in
     let stops = stops_at_read c.args.settings (reads c.args.reader.now) (reads c.follow_lines.new.reader) (writes c.args.writer.now) (writes c.follow_lines.new.writer)
-    (c.in-Err-Reader.ensures.read (cc) c.args.settings ((c.in-Ok.ensures.made, c.in-Ok.ensures.records), none)) in
+    (c.in-Err-Reader.ensures.read (cc) c.args.settings ((c.in-Ok.ensures.made, c.in-Ok.ensures.records), c.none.ensures c.args.settings)) in
     record {
       ends = record {
         read_fault = record { lines = stops.lines; reason = stops.reason; wrote = c.flush.ensures.kept ∙ stops.wrote };
@@ -94,12 +87,11 @@ returns-in-Err-Writer-clause-ran g c =
     let reads = g.R.Source.shown in
     let writes = g.W.Sink.shown in
     let replay = c.follow_lines.new.replay in
-    let none = subst (AreNeeds (started c.args.settings) []) (sym c.none.ensures) (needs_none c.args.settings) in
     record {
       ends = record {
         write_fault = stops_at_write Nothing c.args.settings replay.replay (reads c.args.reader.now) (reads c.follow_lines.new.reader) (writes c.args.writer.now) (writes c.follow_lines.new.writer)
             (stopped_alone c.args.settings replay (reads c.args.reader.now) (reads c.follow_lines.new.reader) (writes c.args.writer.now) (writes c.follow_lines.new.writer)
-            (c.in-Err-Writer.ensures.write (cc) c.args.settings ((c.in-Ok.ensures.made, c.in-Ok.ensures.records), none)));
+            (c.in-Err-Writer.ensures.write (cc) c.args.settings ((c.in-Ok.ensures.made, c.in-Ok.ensures.records), c.none.ensures c.args.settings)));
         writer_failed = search rules;
         reader_not_failed = search rules;
       };
