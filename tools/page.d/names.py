@@ -112,13 +112,15 @@ def base_of(path):
 
 
 def lines_of(path, addresses):
-    """For each address its calls, innermost first, as function, file and line, where one is known."""
+    """For each address its calls, innermost first, as function, file and line, where one is known. Each is asked for twice: the first
+    answer gives an inlined function that has no linker's name that of the function around it."""
     found = defaultdict(list)
-    lines = iter(output_of(["addr2line", "-a", "-f", "-i", "-C", "-e", path], "".join(f"0x{address:x}\n" for address in addresses)).splitlines())
+    lines = iter(output_of(["addr2line", "-a", "-f", "-i", "-C", "-e", path], "".join(f"0x{address:x}\n" * 2 for address in addresses)).splitlines())
     address = None
     for line in lines:
         if re.fullmatch(r"0x[0-9a-f]{8,16}", line):
             address = int(line, 16)
+            found.pop(address, None)
             continue
         told = LINE.fullmatch(next(lines, ""))
         if told and told[1] != "??" and told[2] not in "0?":
