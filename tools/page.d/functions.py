@@ -5,7 +5,7 @@ from collections import defaultdict
 from dataclasses import dataclass
 from functools import lru_cache
 
-from names import OPERATOR, Names, end_of_type
+from names import OPERATOR, Names, end_of_type, told_bare
 from stacks import frames_of, text_of
 from texts import shown, site_name
 from told import calls_of, told_calls
@@ -190,8 +190,16 @@ class Functions:
         place = function.file + (f":{line}" if function.file and line else "")
         return " ".join(filter(None, (function.short, place))) or NO_NAME
 
+    @property
+    def modules(self):
+        """Programs and libraries whose functions are told."""
+        return self.names.modules.values() if self.names else []
+
     def newer_than(self, written):
-        """Programs and libraries that were changed behind a time, whose functions are told."""
-        modules = self.names.modules.values() if self.names else []
-        return sorted(told_text(module.path) for module in modules
+        """Those that were changed behind a time."""
+        return sorted(told_text(module.path) for module in self.modules
                       if module.is_object and os.stat(module.path).st_mtime_ns > written)
+
+    def without_lines(self):
+        """What is said of those that have no debug information, or nothing."""
+        return told_text(told_bare(self.modules) or "")

@@ -21,6 +21,8 @@ STANDARD_NAME = re.compile(r"(?:std|core|alloc|hashbrown|__gnu_cxx|__cxxabiv1)::
 CLONE = re.compile(r" \[clone [^\]]*\]|\[abi:\w+\]|::h[0-9a-f]{16}$|(?<=\w)\[[0-9a-f]{16}\]|(?:\.(?:constprop|isra|part|cold|llvm|lto_priv|localalias)(?:\.\d+)*)+$")
 OPERATOR = re.compile(r"operator *(?:<=>|<<=|>>=|->\*|<<|>>|<=|>=|->|\(\)|<|>)")
 LINE = re.compile(r"(.*):(\d+|\?)(?: \(discriminator \d+\))?", re.S)
+# The most files without lines that are named.
+MOST_BARE = 4
 
 
 def without_arguments(name):
@@ -254,3 +256,10 @@ class Names:
     def calls(self, frame):
         """The calls of a frame, innermost first: at least one."""
         return self.modules[frame.module].calls[frame.offset]
+
+
+def told_bare(modules):
+    """What is said of the program's files that have no debug information, or nothing."""
+    bare = sorted(os.path.basename(module.path) for module in modules if module.lacks_lines)
+    more = f" and {len(bare) - MOST_BARE} others" if len(bare) > MOST_BARE else ""
+    return bare and f"no lines are known of {', '.join(bare[:MOST_BARE])}{more}: compile with -g, or install their debug information"
