@@ -10,9 +10,9 @@ from stacks import frames_of, text_of
 from texts import shown, site_name
 from told import calls_of, told_calls
 
-# A function that only asks for memory on behalf of who called it, as xmalloc, is passed over.
+# A function that only asks for memory on behalf of who called it, as xmalloc or a class's own operator new, is passed over.
 ALLOCATES = re.compile(r"(?:alloc|Alloc)(?:ate|ator|f|z|0|_?array\w*|_?n|_?or_die|_?zero(?:ed)?|Raw|RawNN|RawNNTyped|Zero|Size|WithAlarm|NoTrack)?$|"
-                       r"^(?:\w+_)?x?(?:m|c|re|mem|z)alloc|(?:str|mem|Str)n?dupz?$|^mallocWithAlarm$|[mM]alloc(?:Raw|Zero)?(?:NN)?$")
+                       r"^(?:\w+_)?x?(?:m|c|re|mem|z)alloc|(?:str|mem|Str)n?dupz?$|^mallocWithAlarm$|[mM]alloc(?:Raw|Zero)?(?:NN)?$|^operator new")
 FRAME = re.compile(rb"(?:(.+):)?\[(0x[0-9a-f]+)\]", re.S)
 # A function without a name that so many others call only asks for memory; so many may stand one above the other.
 MANY_CALLERS, MOST_WRAPPERS = 8, 6

@@ -261,5 +261,5 @@ class Names:
 def told_bare(modules):
     """What is said of the program's files that have no debug information, or nothing."""
     bare = sorted(os.path.basename(module.path) for module in modules if module.lacks_lines)
-    more = f" and {len(bare) - MOST_BARE} others" if len(bare) > MOST_BARE else ""
+    more = f" and {len(bare) - MOST_BARE} more" if len(bare) > MOST_BARE else ""
     return bare and f"no lines are known of {', '.join(bare[:MOST_BARE])}{more}: compile with -g, or install their debug information"
