@@ -4,6 +4,7 @@ import re
 from collections import defaultdict
 from dataclasses import dataclass
 from functools import lru_cache
+from itertools import takewhile
 
 from names import OPERATOR, Names, end_of_type, told_bare
 from stacks import frames_of, text_of
@@ -81,10 +82,12 @@ class Site:
 
 def own_call(calls, general=frozenset()):
     """The first call of the program's own code that doesn't only ask for memory, by its name or, where it has none, since many functions
-    call it; else the first of its own, or of all."""
+    call it; else the first of its own, or of all. Where it has no name it is the next of its module that has one, if there is one."""
     own = [call for call in calls if not call.is_standard]
-    return next((call for call in own if (call.module, call.start) not in general
-                 and not (call.function and only_allocates(call.function))), (own or calls)[0])
+    found = [call for call in own if (call.module, call.start) not in general and not (call.function and only_allocates(call.function))]
+    first = (found or own or calls)[0]
+    same = takewhile(lambda call: call.module == first.module, found)
+    return next((call for call in same if call.function or call.file), first)
 
 
 def general_functions(stacks):
