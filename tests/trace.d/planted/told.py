@@ -2,9 +2,10 @@
 
     told.py REPORT SOURCE..
 
-A line of a source plants a leak by `planted BYTES in BLOCKS: FUNCTION`, or `FUNCTION or NAME` where it has another name as it is inlined. The first call of its site that is of a source, and doesn't
-stand in a line with `wraps`, has to be that function at that line. At most two calls, of libraries, stand in front. A planted leak that isn't told is
-written, and a site of the sources that isn't planted; then the status is 1. Expected values are those of the sources alone."""
+A line of a source plants a leak by `planted BYTES in BLOCKS: FUNCTION`, or `FUNCTION or NAME` where it has another name as it is inlined.
+The first call of its site that is of a source, and doesn't stand in a line with `wraps`, has to be that function at that line. At most two
+calls, of libraries, stand in front. A planted leak that isn't told is written, and a site of the sources that isn't planted; then the
+status is 1. Expected values are those of the sources alone."""
 import re
 import sys
 from pathlib import Path
