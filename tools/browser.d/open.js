@@ -9,16 +9,17 @@ const MOST_SHOWN = 1_000_000;
 const lanes = Math.max(1, Math.min(4, (navigator.hardwareConcurrency || 2) - 1));
 
 const program = WebAssembly.compile(Uint8Array.from(atob(textOf("program")), (letter) => letter.charCodeAt(0)));
-const template = JSON.parse(textOf("template"));
+const documents = JSON.parse(textOf("documents"));
 const workerAddress = URL.createObjectURL(new Blob([textOf("worker")], { type: "text/javascript" }));
 const decoder = new TextDecoder();
 
-// The workers of one run, at most so many at once, which can be stopped together.
+// A name that begins with a dash is no option.
+const pathOf = (log) => log.name.startsWith("-") ? `./${log.name}` : log.name;
+
+// The workers of one run over these logs, at most so many at once, which can be stopped together.
 class Work {
-  constructor(log) {
-    this.log = log;
-    // A name that begins with a dash is no option.
-    this.path = log.name.startsWith("-") ? `./${log.name}` : log.name;
+  constructor(logs) {
+    this.logs = logs;
     this.workers = new Set();
     this.waiting = [];
     this.running = 0;
@@ -43,10 +44,10 @@ class Work {
     this.workers.forEach((worker) => this.end(worker));
   }
 
-  // One report: its status, and both texts.
-  report(words, first) {
+  // One report, of the last log where none is named: its status, and both texts.
+  report(words, first, log = this.logs[this.logs.length - 1].log) {
     return new Promise((resolve, reject) => {
-      this.waiting.push({ words, first, resolve, reject });
+      this.waiting.push({ words, first, log, resolve, reject });
       this.next();
     });
   }
@@ -55,7 +56,7 @@ class Work {
   async next() {
     if (this.running >= lanes || !this.waiting.length) return;
     this.running++;
-    const { words, first, resolve, reject } = this.waiting.shift(), compiled = await program.catch(reject);
+    const { words, first, log, resolve, reject } = this.waiting.shift(), compiled = await program.catch(reject);
     if (this.stopped || !compiled) return;
     const end = (worker) => {
       this.end(worker);
@@ -67,12 +68,12 @@ class Work {
       if (data.fault) reject(new Error(data.fault));
       else resolve(data.done);
     }, (fault) => reject(new Error(fault)));
-    const input = first === undefined ? null : this.log.slice(0, first);
-    worker.postMessage({ program: compiled, words: [...words, input ? "-" : this.path], log: this.log, name: this.path, input });
+    const input = first === undefined ? null : log.slice(0, first), path = pathOf(log);
+    worker.postMessage({ program: compiled, words: [...words, input ? "-" : path], log, name: path, input });
   }
 
-  // The text of the log's page.
-  page(names, progress) {
+  // The text of the page of these logs.
+  page(progress) {
     return new Promise((resolve, reject) => {
       const worker = this.worker(({ data }) => {
         if (data.part !== undefined) progress(data.part);
@@ -80,16 +81,17 @@ class Work {
         else if (data.fault) reject(new Error(data.fault));
         else resolve(data.page);
       }, (fault) => reject(new Error(fault)));
-      worker.postMessage({ log: this.log, name: this.log.name, names, template });
+      worker.postMessage({ logs: this.logs.map(({ log, names }) => ({ log, name: log.name, names })), documents });
     });
   }
 
   // Answers the study with a report. What isn't answered with one ends the study, and its own words are shown.
-  async serve(worker, { ask, words, first }, reject) {
+  async serve(worker, { ask, which, words, first }, reject) {
+    const { log } = this.logs[which], of = this.logs.length > 1 ? ` of ${log.name}` : "";
     try {
-      const { status, out, errors } = await this.report(words, first);
+      const { status, out, errors } = await this.report(words, first, log);
       const why = status === 4 ? ", since the browser gave no more memory" : "";
-      if (status > 1) throw new Error(`\`tlsf ${words[0]}\` ended with status ${status}${why}: ${decoder.decode(errors).trim()}`);
+      if (status > 1) throw new Error(`\`tlsf ${words[0]}\`${of} ended with status ${status}${why}: ${decoder.decode(errors).trim()}`);
       worker.postMessage({ answer: ask, out }, [out.buffer]);
     } catch (fault) {
       reject(fault);
@@ -99,7 +101,8 @@ class Work {
 
 // ---- what is shown
 
-let work = null, log = null, names = null, begun = 0;
+// What is chosen: a log, or the old and the new one, each with its names, where these are known.
+let work = null, chosen = [], begun = 0;
 const report = { words: [], status: null, out: null, errors: null };
 
 function say(state, errors = "") {
@@ -110,7 +113,7 @@ function say(state, errors = "") {
 
 function begin(state) {
   if (work) work.stop();
-  work = new Work(log);
+  work = new Work(chosen);
   begun = performance.now();
   find("stop").disabled = false;
   say(state);
@@ -142,28 +145,46 @@ async function endsInZeros(file) {
   return end.length === 2 && !end[0] && !end[1];
 }
 
+// Refuses a log that is still written.
+async function expectEnded({ log }) {
+  if (await endsInZeros(log)) throw new Error(`${log.name} is still written: end its program, or copy its lines by tlsf-trace --copy`);
+}
+
+// What is chosen, as it is told.
+function toldLogs(which) {
+  const [one, other] = chosen.map(({ log }) => log.name);
+  return other === undefined ? one : `${one}${which ? " (old)" : ""} and ${other}${which ? " (new)" : ""}`;
+}
+
+function showChosen() {
+  find("compare").hidden = !chosen.length;
+  find("swap").hidden = chosen.length < 2;
+}
+
 async function showPage() {
-  if (!log) return say("Choose a log first.");
-  const own = begin(`${log.name} is read.`), frame = find("page");
+  if (!chosen.length) return say("Choose a log first.");
+  const reads = `${toldLogs(false)} ${chosen.length > 1 ? "are" : "is"} read`;
+  const own = begin(`${reads}.`), frame = find("page"), name = toldLogs(true), { logs } = own;
+  showChosen();
   frame.hidden = find("save").hidden = true;
   frame.srcdoc = find("out").textContent = "";
   try {
-    if (await endsInZeros(log)) throw new Error(`${log.name} is still written: end its program, or copy its lines by tlsf-trace --copy`);
-    const page = await own.page(names, (part) => { if (own === work) say(`${log.name} is read: ${Math.floor(100 * part)} %`); });
+    await Promise.all(logs.map(expectEnded));
+    const page = await own.page((part) => { if (own === work) say(`${reads}: ${Math.floor(100 * part)} %`); });
     if (own !== work) return undefined;
     frame.srcdoc = page;
     frame.hidden = false;
     document.body.classList.add("shown");
-    lend(find("save"), [page], `${log.name}.html`, "text/html");
-    return ended(own, `${log.name}: ${told(log.size)} bytes, ${seconds()}.`);
+    lend(find("save"), [page], `${logs.map(({ log }) => log.name).join("-")}.html`, "text/html");
+    return ended(own, `${name}: ${logs.map(({ log }) => told(log.size)).join(" and ")} bytes, ${seconds()}.`);
   } catch (fault) {
-    return ended(own, `There is no page of ${log.name}.`, fault.message);
+    return ended(own, `There is no page of ${toldLogs(false)}.`, fault.message);
   }
 }
 
 async function showReport() {
-  if (!log) return say("Choose a log first.");
-  const words = [find("command").value, ...find("options").value.split(/\s+/).filter(Boolean)];
+  if (!chosen.length) return say("Choose a log first.");
+  const words = [find("command").value, ...find("options").value.split(/\s+/).filter(Boolean)], { log } = chosen[chosen.length - 1];
   const own = begin(`tlsf ${words[0]} reads ${log.name}.`);
   find("out").textContent = "";
   try {
@@ -186,18 +207,32 @@ async function isNames(file) {
   return decoder.decode(await file.slice(0, 9).arrayBuffer()) === '{"sites":';
 }
 
-async function take(files) {
-  for (const file of files) {
-    if (!await isNames(file)) [log, names] = [file, null];
-  }
+// The names of a file belong to the log that is chosen, of two to that which they are called by.
+async function takeNames(file) {
+  const named = chosen.length > 1 ? chosen.filter(({ log }) => file.name === `${log.name}.names`) : chosen;
+  if (named.length !== 1) throw new Error(`It isn't known whose names ${file.name} has: of two logs they are called LOG.names.`);
+  named[0].names = JSON.parse(await file.text()).sites;
+}
+
+// Takes one log or two, of which that is the old one that was written first, and names. `more` is the log that stays beside them.
+async function take(files, more = []) {
+  if (!files.length) return undefined;
+  const areNames = await Promise.all(files.map(isNames)), logs = files.filter((file, at) => !areNames[at]);
+  const all = [...more, ...logs.map((log) => ({ log, names: null }))];
+  if (all.length > 2) return say("Choose one log, or two to compare.");
+  if (logs.length) chosen = all.sort((one, other) => one.log.lastModified - other.log.lastModified);
+  if (!chosen.length) return say("Choose a log first.");
   try {
-    for (const file of files) {
-      if (await isNames(file)) names = JSON.parse(await file.text()).sites;
-    }
+    for (const file of files.filter((each, at) => areNames[at])) await takeNames(file);
   } catch (fault) {
     return say("These names can't be read.", fault.message);
   }
-  return files.length ? showPage() : undefined;
+  return showPage();
+}
+
+function swap() {
+  chosen = [...chosen].reverse();
+  showPage();
 }
 
 function dropOn(place) {
@@ -214,8 +249,11 @@ function dropOn(place) {
 }
 
 // The same file may be chosen again.
-find("log").addEventListener("click", () => { find("log").value = ""; });
-find("log").addEventListener("change", () => take([...find("log").files]));
+for (const id of ["log", "other"]) {
+  find(id).addEventListener("click", () => { find(id).value = ""; });
+  find(id).addEventListener("change", () => take([...find(id).files], id === "other" ? chosen.slice(-1) : []));
+}
+find("swap").addEventListener("click", swap);
 find("form").addEventListener("submit", (event) => {
   event.preventDefault();
   showReport();

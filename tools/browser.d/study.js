@@ -77,7 +77,7 @@ class Study {
   }
 
   // The reports go on side by side, those first on whose answers others wait. Meanwhile the log is read.
-  async data() {
+  async read() {
     const [sums, onHeap, timeline, sites, leaks] = [["peak", "--no-heap"], ["peak", ...GREATEST], ["timeline", "--points", String(POINTS)],
       ["sites", "--calls"], ["leaks", "--no-heap"]].map((words) => this.begin(words));
     this.readPeak(await sums);
@@ -97,7 +97,6 @@ class Study {
     this.findFunctions();
     this.agree();
     this.keepGreatest();
-    return this.pageData();
   }
 
   // ---- the reports
@@ -385,23 +384,4 @@ function measures(pools) {
     }
   }
   return [reach, free, largest];
-}
-
-// ---- the page
-
-// JSON that nothing in it can end.
-function jsonText(data) {
-  const escapes = { "<": "\\u003c", ">": "\\u003e", "&": "\\u0026", "\u2028": "\\u2028" };
-  return JSON.stringify(data).replace(/[<>&\u2028]/g, (letter) => escapes[letter]);
-}
-
-function escaped(text) {
-  const escapes = { "&": "&amp;", "<": "&lt;", ">": "&gt;", '"': "&quot;", "'": "&#x27;" };
-  return text.replace(/[&<>"']/g, (letter) => escapes[letter]);
-}
-
-// The page, by the document that tools/page fills, too.
-function pageText(template, data) {
-  const parts = { title: escaped(`${data.log}: who holds its memory`), data: jsonText(data) };
-  return template.replace(/\{\{(title|data)\}\}/g, (whole, name) => parts[name]);
 }

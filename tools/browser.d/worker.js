@@ -1,8 +1,5 @@
-// What a worker does beside the page: one run of the program, or the study of a log, which asks the page for runs.
+// What a worker does beside the page: one run of the program, or the study of a log or of two, which asks the page for runs.
 "use strict";
-
-// Names of bytes, a letter each.
-const bytesOf = (name) => Array.from(new TextEncoder().encode(name), (byte) => String.fromCharCode(byte)).join("");
 
 function runReport({ program, words, log, name, input }) {
   const done = runProgram(program, words, { [name]: new LentFile(log) }, input ? new LentFile(input) : null);
@@ -11,9 +8,9 @@ function runReport({ program, words, log, name, input }) {
 
 const asked = [];
 
-// Asks the page for a report of the log, or of so many first bytes of it.
-function askFor(words, first) {
-  postMessage({ ask: asked.length, words, first });
+// Asks the page for a report of a log, or of so many first bytes of it.
+function askFor(which, words, first) {
+  postMessage({ ask: asked.length, which, words, first });
   return new Promise((resolve, reject) => asked.push({ resolve, reject }));
 }
 
@@ -22,9 +19,26 @@ function answer({ answer: number, out, refused }) {
   else asked[number].resolve(out);
 }
 
-async function studyLog({ log, name, names, template }) {
-  const study = new Study(new LentFile(log), shown(bytesOf(name)), askFor, names, (part) => postMessage({ part }));
-  postMessage({ page: pageText(template, await study.data()) });
+// Studies a log. Of two what broke off is told with the log's name.
+async function read(study, isOneOfTwo) {
+  try {
+    await study.read();
+  } catch (fault) {
+    const Kind = fault instanceof RangeError ? RangeError : Error;
+    throw isOneOfTwo ? new Kind(`${study.name}: ${fault.message}`) : fault;
+  }
+}
+
+// Two logs are studied side by side.
+async function studyLogs({ logs, documents }) {
+  const parts = logs.map(() => 0);
+  const studies = logs.map(({ log, name, names }, which) => new Study(new LentFile(log), shown(bytesOf(name)),
+    (words, first) => askFor(which, words, first), names, (part) => {
+      parts[which] = part;
+      postMessage({ part: parts.reduce((sum, own) => sum + own) / parts.length });
+    }));
+  await Promise.all(studies.map((study) => read(study, studies.length > 1)));
+  postMessage({ page: studies.length === 1 ? pageOf(documents, ...studies) : comparisonOf(documents, ...studies) });
 }
 
 // Tells what broke off. A RangeError is of memory, but for that of a stack.
@@ -35,7 +49,7 @@ function fail(fault) {
 
 onmessage = ({ data }) => {
   if (data.answer !== undefined) return answer(data);
-  if (data.template) return studyLog(data).catch(fail);
+  if (data.documents) return studyLogs(data).catch(fail);
   try {
     return runReport(data);
   } catch (fault) {

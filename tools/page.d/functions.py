@@ -4,15 +4,16 @@ import re
 from collections import defaultdict
 from dataclasses import dataclass
 from functools import lru_cache
+from itertools import takewhile
 
-from names import OPERATOR, Names, end_of_type
+from names import OPERATOR, Names, end_of_type, told_bare
 from stacks import frames_of, text_of
 from texts import shown, site_name
 from told import calls_of, told_calls
 
-# A function that only asks for memory on behalf of who called it, as xmalloc, is passed over.
+# A function that only asks for memory on behalf of who called it, as xmalloc or a class's own operator new, is passed over.
 ALLOCATES = re.compile(r"(?:alloc|Alloc)(?:ate|ator|f|z|0|_?array\w*|_?n|_?or_die|_?zero(?:ed)?|Raw|RawNN|RawNNTyped|Zero|Size|WithAlarm|NoTrack)?$|"
-                       r"^(?:\w+_)?x?(?:m|c|re|mem|z)alloc|(?:str|mem|Str)n?dupz?$|^mallocWithAlarm$|[mM]alloc(?:Raw|Zero)?(?:NN)?$")
+                       r"^(?:\w+_)?x?(?:m|c|re|mem|z)alloc|(?:str|mem|Str)n?dupz?$|^mallocWithAlarm$|[mM]alloc(?:Raw|Zero)?(?:NN)?$|^operator new")
 FRAME = re.compile(rb"(?:(.+):)?\[(0x[0-9a-f]+)\]", re.S)
 # A function without a name that so many others call only asks for memory; so many may stand one above the other.
 MANY_CALLERS, MOST_WRAPPERS = 8, 6
@@ -81,10 +82,12 @@ class Site:
 
 def own_call(calls, general=frozenset()):
     """The first call of the program's own code that doesn't only ask for memory, by its name or, where it has none, since many functions
-    call it; else the first of its own, or of all."""
+    call it; else the first of its own, or of all. Where it has no name it is the next of its module that has one, if there is one."""
     own = [call for call in calls if not call.is_standard]
-    return next((call for call in own if (call.module, call.start) not in general
-                 and not (call.function and only_allocates(call.function))), (own or calls)[0])
+    found = [call for call in own if (call.module, call.start) not in general and not (call.function and only_allocates(call.function))]
+    first = (found or own or calls)[0]
+    same = takewhile(lambda call: call.module == first.module, found)
+    return next((call for call in same if call.function or call.file), first)
 
 
 def general_functions(stacks):
@@ -190,8 +193,16 @@ class Functions:
         place = function.file + (f":{line}" if function.file and line else "")
         return " ".join(filter(None, (function.short, place))) or NO_NAME
 
+    @property
+    def modules(self):
+        """Programs and libraries whose functions are told."""
+        return self.names.modules.values() if self.names else []
+
     def newer_than(self, written):
-        """Programs and libraries that were changed behind a time, whose functions are told."""
-        modules = self.names.modules.values() if self.names else []
-        return sorted(told_text(module.path) for module in modules
+        """Those that were changed behind a time."""
+        return sorted(told_text(module.path) for module in self.modules
                       if module.is_object and os.stat(module.path).st_mtime_ns > written)
+
+    def without_lines(self):
+        """What is said of those that have no debug information, or nothing."""
+        return told_text(told_bare(self.modules) or "")

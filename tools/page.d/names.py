@@ -21,6 +21,8 @@ STANDARD_NAME = re.compile(r"(?:std|core|alloc|hashbrown|__gnu_cxx|__cxxabiv1)::
 CLONE = re.compile(r" \[clone [^\]]*\]|\[abi:\w+\]|::h[0-9a-f]{16}$|(?<=\w)\[[0-9a-f]{16}\]|(?:\.(?:constprop|isra|part|cold|llvm|lto_priv|localalias)(?:\.\d+)*)+$")
 OPERATOR = re.compile(r"operator *(?:<=>|<<=|>>=|->\*|<<|>>|<=|>=|->|\(\)|<|>)")
 LINE = re.compile(r"(.*):(\d+|\?)(?: \(discriminator \d+\))?", re.S)
+# The most files without lines that are named.
+MOST_BARE = 4
 
 
 def without_arguments(name):
@@ -112,13 +114,15 @@ def base_of(path):
 
 
 def lines_of(path, addresses):
-    """For each address its calls, innermost first, as function, file and line, where one is known."""
+    """For each address its calls, innermost first, as function, file and line, where one is known. Each is asked for twice: the first
+    answer gives an inlined function that has no linker's name that of the function around it."""
     found = defaultdict(list)
-    lines = iter(output_of(["addr2line", "-a", "-f", "-i", "-C", "-e", path], "".join(f"0x{address:x}\n" for address in addresses)).splitlines())
+    lines = iter(output_of(["addr2line", "-a", "-f", "-i", "-C", "-e", path], "".join(f"0x{address:x}\n" * 2 for address in addresses)).splitlines())
     address = None
     for line in lines:
         if re.fullmatch(r"0x[0-9a-f]{8,16}", line):
             address = int(line, 16)
+            found.pop(address, None)
             continue
         told = LINE.fullmatch(next(lines, ""))
         if told and told[1] != "??" and told[2] not in "0?":
@@ -252,3 +256,10 @@ class Names:
     def calls(self, frame):
         """The calls of a frame, innermost first: at least one."""
         return self.modules[frame.module].calls[frame.offset]
+
+
+def told_bare(modules):
+    """What is said of the program's files that have no debug information, or nothing."""
+    bare = sorted(os.path.basename(module.path) for module in modules if module.lacks_lines)
+    more = f" and {len(bare) - MOST_BARE} more" if len(bare) > MOST_BARE else ""
+    return bare and f"no lines are known of {', '.join(bare[:MOST_BARE])}{more}: compile with -g, or install their debug information"

@@ -41,7 +41,7 @@ class Study:
                 report.stop()
         self.look_for_lost()
         self.keep_greatest()
-        self.tell_newer()
+        self.tell_of_modules()
 
     def state(self):
         """What tells whether the log has changed."""
@@ -215,10 +215,13 @@ class Study:
         """A location by its function."""
         return self.functions.label(self.sites[self.locations.index(location)].function)
 
-    def tell_newer(self):
-        """Says which programs and libraries were changed after the log was written."""
+    def tell_of_modules(self):
+        """Says which programs and libraries were changed after the log was written, and which have no lines."""
         for module in self.functions.newer_than(os.stat(self.path).st_mtime_ns):
             self.say(f"{module} is newer than {self.name}: its source lines may be others")
+        bare = self.functions.without_lines()
+        if bare:
+            self.say(bare)
 
 
 def measures(pools):

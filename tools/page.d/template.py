@@ -31,8 +31,13 @@ def filled(document, parts):
     return re.sub(r"\{\{(\w+)\}\}", lambda found: parts[found[1]], document)
 
 
-def page_text(folder, name, parts):
-    """A page's text with its parts. Its policy lets no other script run than its own, and nothing be fetched."""
+def shared_parts(folder):
+    """What each page has beside its own parts. Its policy lets no other script run than its own, and nothing be fetched."""
     script = text_of(folder, SCRIPTS)
     policy = f"default-src 'none'; style-src 'unsafe-inline'; script-src '{digest_of(script)}'"
-    return filled(text_of(folder, [name]), {"policy": html.escape(policy), "style": text_of(folder, STYLES), "script": script, **parts})
+    return {"policy": html.escape(policy), "style": text_of(folder, STYLES), "script": script}
+
+
+def page_text(folder, name, parts):
+    """A page's text with its parts."""
+    return filled(text_of(folder, [name]), {**shared_parts(folder), **parts})
