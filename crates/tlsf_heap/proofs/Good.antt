@@ -14,4 +14,5 @@ pub mod StaysLive
 pub mod AlignedStaysLive
 pub mod LiveBlocks
 pub mod GivenSizes
+pub mod OwnClass
 pub mod LastAsked

@@ -10,6 +10,7 @@ use Rattle.tlsf_heap.proofs.Counts.{count-append}
 use Rattle.tlsf_heap.proofs.Content.MemalignCases.{IsPicked, memalign_given}
 use Rattle.tlsf_heap.proofs.Meaning.AlignedIsGood.{memalign_is_good}
 use Rattle.tlsf_heap.proofs.Meaning.Gaps.{gap_counts, split_counts}
+use Rattle.tlsf_heap.proofs.Good.MallocIsGood.{picked}
 use Rattle.tlsf_heap.proofs.Good.StaysLive.{Gives, picked_counts, given_is_live, live_still, given_apart}
 
 module _ {A : Type 0} (is_meant : A → Bool) (owner : A) (align n : ℕ) (content new : Content A) (place : ℕ) (good : IsGood content) (gave : memalign owner align n content ≡ Ok (place, new)) where
@@ -24,7 +25,7 @@ module _ {A : Type 0} (is_meant : A → Bool) (owner : A) (align n : ℕ) (conte
         size = p.asked;
         counts = (λ test fails. omega (
           arith,
-          picked_counts (size_asked align p.asked) p.place (split_in_three owner start p.asked p.place size) content good p.found test fails,
+          picked_counts (size_asked align p.asked) p.place (split_in_three owner start p.asked p.place size) content (picked (size_asked align p.asked) p.place content good p.found) test fails,
           count-append test (gap p.place (start - p.place)) (split owner start p.asked left),
           gap_counts test fails p.place (start - p.place),
           split_counts test fails owner start p.asked left,
