@@ -15,4 +15,5 @@ pub mod AlignedStaysLive
 pub mod LiveBlocks
 pub mod GivenSizes
 pub mod OwnClass
+pub mod LiveBytes
 pub mod LastAsked

@@ -36,7 +36,7 @@ module _ {A : Type 0} where
   abbrev is_sized : ℕ → ℕ → Block A → Bool
   is_sized place m b = is_at place b && (b.size == m)
 
-  found_counted : (test : Block A → Bool) (blocks : List (Block A)) → 1 ≤ count_by test blocks → (b : Block A) × Contains blocks b × (test b ≡ true)
+  pub found_counted : (test : Block A → Bool) (blocks : List (Block A)) → 1 ≤ count_by test blocks → (b : Block A) × Contains blocks b × (test b ≡ true)
   found_counted test [] some = absurd (omega (arith, some))
   found_counted test (block ∷ blocks) some = elim (cases_Bool (test block)) [
     | inl passes ↦ (block, stands_first block blocks, passes)

@@ -43,7 +43,7 @@ module _ {A : Type 0} where
   abbrev free_count : List (Block A) → ℕ
   free_count blocks = count_by (λ block. is_free block) blocks
 
-  live_bytes-append : (front back : List (Block A)) → live_bytes (front ++ back) ≡ live_bytes front + live_bytes back
+  pub live_bytes-append : (front back : List (Block A)) → live_bytes (front ++ back) ≡ live_bytes front + live_bytes back
   live_bytes-append [] back = omega arith
   live_bytes-append (block ∷ front) back = omega (arith, live_bytes-append front back)
 

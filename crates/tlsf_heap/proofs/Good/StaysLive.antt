@@ -73,7 +73,7 @@ module _ {A : Type 0} where
         counts = (λ test fails. omega (arith, picked_counts m place (split owner place m size) content there test fails, split_counts test fails owner place m size));
       }
 
-  malloc_gives : (owner : A) (n place : ℕ) (content new : Content A) → IsGood content → malloc owner n content ≡ Ok (place, new) → Gives owner place content new
+  pub malloc_gives : (owner : A) (n place : ℕ) (content new : Content A) → IsGood content → malloc owner n content ≡ Ok (place, new) → Gives owner place content new
   malloc_gives owner n place content new good e =
       let gave = malloc_gave owner content n (place, new) e in
       subst (λ (g : ℕ × Content A). Gives owner g.0 content g.1) gave.4 (split_gives owner gave.0 gave.1 content (picked gave.0 gave.1 content good gave.3))
