@@ -1,5 +1,5 @@
 -- What calls make of the number of live blocks and of their bytes.
-use Rattle.std.proofs.Common.{◌≡◌, ℕ, zero, suc, ◌+◌, ◌*◌, ◌<◌, ◌≤◌, Bool, true, false, not, ◌&&◌, List, [], ◌∷◌, length, refl, sym, ap, ◌∙◌, arith, count_by, Option, Some, None, Ok, inl, inr}
+use Rattle.std.proofs.Common.{◌≡◌, ℕ, zero, suc, ◌+◌, ◌*◌, ◌<◌, ◌≤◌, Bool, true, false, not, ◌&&◌, List, [], ◌∷◌, length, refl, sym, ap, ◌∙◌, subst, arith, find, count_by, Option, Some, None, Ok, Err, inl, inr}
 use Rattle.std.specs.Prelude.{◌==◌, ⊤, nat_lt, if◌then◌else◌}
 use Rattle.std.specs.List.{AllByRecursion, Contains}
 use Rattle.std.proofs.lemmas.Bool.{cases_Bool, cases_lt, eq-eqb, eqb-true, ne_eqb, lt-ltb, le-ltb, and_parts, and_left, and_right}
@@ -10,20 +10,23 @@ use Rattle.tlsf_heap.specs.Content.{Block, Pool, Content, blocks_of, is_free, is
 use Rattle.tlsf_heap.specs.Free.{is_live, after_free}
 use Rattle.tlsf_heap.specs.Good.{Covers, AreGoodPools, IsGood}
 use Rattle.tlsf_heap.specs.Implied.{live_blocks}
-use Rattle.tlsf_heap.specs.Malloc.{malloc}
+use Rattle.tlsf_heap.specs.Malloc.{gap, malloc}
 use Rattle.tlsf_heap.specs.Realloc.{resized, realloc}
-use Rattle.tlsf_heap.specs.Pools.{most_pools}
+use Rattle.tlsf_heap.specs.declared.refusal.Refusal.TheVariants.{PoolInUse}
+use Rattle.tlsf_heap.specs.Pools.{most_pools, add_pool, with_pool, is_based, is_unused, remove_found, remove_pool, without_pool}
+use Rattle.tlsf_heap.proofs.Content.PoolCases.{pool_added}
+use Rattle.tlsf_heap.proofs.Good.RemovedPool.{others, removed, one_block, without_pool_is_good}
 use Rattle.tlsf_heap.specs.Room.{live_bytes}
 use Rattle.tlsf_heap.proofs.Good.Room.{live_bytes-append}
 use Rattle.tlsf_heap.proofs.Counts.{one_if, count-cons}
 use Rattle.tlsf_heap.proofs.Content.Given.{IsInPlace, realloc_left}
 use Rattle.tlsf_heap.proofs.Good.GivenSizes.{found_counted}
 use Rattle.tlsf_heap.proofs.Good.LiveBlocks.{none_stands, stands_first_or_later, live_here, size_here}
-use Rattle.tlsf_heap.proofs.Good.MallocIsGood.{IsWholeBlock, whole_in_pools, malloc_is_good}
+use Rattle.tlsf_heap.proofs.Good.MallocIsGood.{IsWholeBlock, whole_in_pools, malloc_is_good, count_by-pools, add_pool_is_good}
 use Rattle.tlsf_heap.proofs.Good.StaysLive.{Gives, malloc_gives, live_given, live_through_malloc, given_elsewhere}
 use Rattle.tlsf_heap.proofs.Meaning.BlockPositions.{BlockPosition, filled_pools, count-filled_pools}
 use Rattle.tlsf_heap.proofs.Meaning.FreedIsGood.{owned_is_live, at_live, counts_freed, freed_counts, freed_is_good}
-use Rattle.tlsf_heap.proofs.Meaning.Gaps.{FailsOnFree}
+use Rattle.tlsf_heap.proofs.Meaning.Gaps.{FailsOnFree, gap_counts}
 use Rattle.tlsf_heap.proofs.Meaning.ResizedIsGood.{counts_resized, resized_is_good}
 
 module _ {A : Type 0} where
@@ -184,9 +187,10 @@ module _ {A : Type 0} where
         let is_live_one = owned_is_live is_meant block.owner owned in
         let there = at_position content position block blocks is_live_one g in
         let counted = counts_freed content.records position block blocks content.lists g is_live_one in
-        let changed : Changed (block ∷ []) [] (blocks_of x.pools) (blocks_of (after_free block.place x).pools) = λ test fails. (omega (arith, counted test fails, count-cons test block [])) in
-        (omega (arith, there.0, bytes_changed greatest_size (block ∷ []) [] (blocks_of x.pools) (blocks_of (after_free block.place x).pools) (there.1, tt) tt (small_in x g) (small_in (after_free block.place x) after) changed, one_live block is_live_one),
-        omega (arith, counted (λ (b : Block A). not (is_free b)) (λ b free. ap not free), ap (λ f. one_if (not f)) is_live_one)))
+        let changed : Changed (block ∷ []) [] (blocks_of x.pools) (blocks_of (after_free block.place x).pools) = λ test fails. (omega (arith, counted test fails, count-cons test block [])) in (
+          omega (arith, there.0, bytes_changed greatest_size (block ∷ []) [] (blocks_of x.pools) (blocks_of (after_free block.place x).pools) (there.1, tt) tt (small_in x g) (small_in (after_free block.place x) after) changed, one_live block is_live_one),
+          omega (arith, counted (λ (b : Block A). not (is_free b)) (λ b free. ap not free), ap (λ f. one_if (not f)) is_live_one),
+        ))
         (freed_is_good is_meant place content good live)
 
     -- one that gets other bytes in its place has these
@@ -208,16 +212,17 @@ module _ {A : Type 0} where
           let counted = counts_resized owner m block blocks content.lists content.records position g in
           let changed : Changed (block ∷ []) (came ∷ []) (blocks_of x.pools) (blocks_of (resized owner block.place m x).pools) = λ test fails. (omega (arith, counted test fails, count-cons test block [], count-cons test came [])) in
           let test : Block A → Bool = is_sized_at block.place m in
-          let passes = sized_passes block.place m came refl refl refl in
-          (omega (arith, there.0, bytes_changed greatest_size (block ∷ []) (came ∷ []) (blocks_of x.pools) (blocks_of (resized owner block.place m x).pools) (there.1, tt) (most, tt) (small_in x g) (small_in (resized owner block.place m x) after) changed, one_live block is_live_one, one_live came refl),
-          omega (arith, counted (λ (b : Block A). not (is_free b)) (λ b free. ap not free), ap (λ f. one_if (not f)) is_live_one),
-          (size_counted block.place m (resized owner block.place m x) after (omega (
-            arith,
-            counted test (sized_fails block.place m),
-            ap one_if passes,
-            count-filled_pools test position (block ∷ blocks),
-            count-cons test block blocks,
-          ))).0))
+          let passes = sized_passes block.place m came refl refl refl in (
+            omega (arith, there.0, bytes_changed greatest_size (block ∷ []) (came ∷ []) (blocks_of x.pools) (blocks_of (resized owner block.place m x).pools) (there.1, tt) (most, tt) (small_in x g) (small_in (resized owner block.place m x) after) changed, one_live block is_live_one, one_live came refl),
+            omega (arith, counted (λ (b : Block A). not (is_free b)) (λ b free. ap not free), ap (λ f. one_if (not f)) is_live_one),
+            (size_counted block.place m (resized owner block.place m x) after (omega (
+              arith,
+              counted test (sized_fails block.place m),
+              ap one_if passes,
+              count-filled_pools test position (block ∷ blocks),
+              count-cons test block blocks,
+            ))).0,
+          ))
           good_new
 
   -- what realloc of a live block leaves, where it gives one
@@ -287,3 +292,44 @@ module _ {A : Type 0} where
 
   pub live_most : (content : Content A) → IsGood content → live_bytes (blocks_of content.pools) ≤ most_pools * greatest_size
   live_most content good = omega (arith, live_in_pools 0 content.pools good.pools_good, good.pools_few)
+
+  -- where a pool comes or goes no live block does
+  abbrev pub AreSameFigures : (old new : Content A) → Type 0
+  AreSameFigures old new = (live_bytes (blocks_of new.pools) ≡ live_bytes (blocks_of old.pools)) × (live_blocks new ≡ live_blocks old)
+
+  same_figures : (old new : Content A) → IsGood old → IsGood new → Changed [] [] (blocks_of old.pools) (blocks_of new.pools) → AreSameFigures old new
+  same_figures old new good good_new changed = (
+    omega (arith, bytes_changed greatest_size [] [] (blocks_of old.pools) (blocks_of new.pools) tt tt (small_in old good) (small_in new good_new) changed),
+    omega (arith, changed (λ (b : Block A). not (is_free b)) (λ b free. ap not free)),
+  )
+
+  pub add_pool_figures : (base bytes : ℕ) (content new : Content A) → IsGood content → add_pool base bytes content ≡ Ok new → AreSameFigures content new
+  add_pool_figures base bytes content new good e =
+      let added = pool_added base bytes content new e in
+      let pool : Pool A = record { base = base; bytes = bytes; blocks = gap base bytes } in
+      subst (AreSameFigures content) added.is (same_figures content (with_pool base bytes content) good (add_pool_is_good base bytes content (with_pool base bytes content) good (e ∙ ap Ok (sym added.is)))
+      (λ test fails. omega (arith, count_by-pools test pool content.pools, gap_counts test fails base bytes)))
+
+  pub remove_pool_figures : (base : ℕ) (content new : Content A) → IsGood content → remove_pool base content ≡ Ok new → AreSameFigures content new
+  remove_pool_figures base content new good = by (find (is_based base) content.pools) refl
+    where
+      by : (found : Option (Pool A)) → find (is_based base) content.pools ≡ found → remove_found found content ≡ Ok new → AreSameFigures content new
+      by None none e = absurd (cc)
+      by (Some pool) there e = elim (cases_Bool (is_unused pool)) [
+        | inr used ↦ let refused : remove_found (Some pool) content ≡ Err PoolInUse = rw used refl in absurd (cc)
+        | inl unused ↦
+            let is : remove_found (Some pool) content ≡ Ok (without_pool pool content) = rw unused refl in
+            let gone = removed base 0 content.pools pool good.pools_good there in
+            let one = one_block pool gone.good unused in
+            let same : others {A = A} base content.pools ≡ others pool.base content.pools = ap (λ b. others {A = A} b content.pools) (sym gone.based) in
+            let left : without_pool pool content ≡ new = cc in
+            subst (AreSameFigures content) left (same_figures content (without_pool pool content) good (without_pool_is_good base pool content good there unused)
+            (λ test fails. omega (
+              arith,
+              gone.left test,
+              ap (λ pools. count_by test (blocks_of pools)) same,
+              ap (count_by test) one.1,
+              count-cons test one.0 [],
+              ap one_if (fails one.0 one.2),
+            )))
+      ]
