@@ -4,7 +4,7 @@ mod FewRows
 mod FilledRows
 mod FromPlace
 mod GivenBlock
-mod InUnits
+mod LiveBlock
 mod LoadLemmas
 mod PlacedLemmas
 mod PlacedVectors

@@ -22,7 +22,7 @@ use Rattle.tlsf_heap.proofs.Good.LiveBlocks.{live_here, size_here}
 use Rattle.tlsf_heap.proofs.Good.MallocIsGood.{IsWholeBlock, whole_in_pools}
 use Rattle.tlsf_heap.proofs.Good.StaysLive.{live_moved}
 use Rattle.tlsf_region.proofs.Ends.{live_is_there}
-use Rattle.tlsf_region.proofs.Ranges.{ranges, reallocated_ranges}
+use Rattle.tlsf_region.proofs.Ranges.{reallocated_ranges}
 use Rattle.tlsf_region.proofs.Sizes.{size_is}
 use Rattle.tlsf_c.specs.Fronts.{front, told_size}
 use Rattle.tlsf_c.specs.Lying.{LiesIn}
@@ -30,7 +30,7 @@ use Rattle.tlsf_c.specs.Status.{number, status_of}
 use Rattle.tlsf_c.specs.PlacedPools.{IsAt}
 use Rattle.tlsf_c.specs.PlacedHeaps.{IsLiveAt, told_block}
 use Rattle.tlsf_c.specs.declared.placed_pool.PlacedPool.{PlacedPool}
-use Rattle.tlsf_c.proofs.GivenBlock.{live_lies}
+use Rattle.tlsf_c.proofs.LiveBlock.{live_lies}
 
 -- what is known of a live block of some bytes among these ranges of places
 pub record IsInUnits (ptr : Pointer) (size : ℕ) : Type 0 where

@@ -3,10 +3,10 @@
 ghost use Rattle.std.specs.Prelude.{◌≡◌, ◌≢◌, ℕ, ◌+◌, ◌*◌, ◌/◌, ◌%◌, ◌^◌, ◌<◌, ◌≤◌, ◌↔◌, All, Contains, map, Ok, Err, IfOk, IfErr, OnOk, OnErr, IfSome, IfNone, true, false, length};
 ghost use Rattle.tlsf_heap.specs.declared.refusal.Refusal.TheVariants.{BadPointer};
 ghost use Rattle.tlsf_heap.specs.Counted.{IsUnchanged, Reads, range_of};
-ghost use Rattle.tlsf_heap.specs.Malloc.{malloc};
+ghost use Rattle.tlsf_heap.specs.OwnClass.{malloc_or_own};
 ghost use Rattle.tlsf_heap.specs.Pointer.{free_ptr, block_size_ptr};
 ghost use Rattle.tlsf_heap.specs.Served.{IsServed};
-ghost use Rattle.tlsf_heap.specs.Touches.{AtMost, malloc_touches, free_touches};
+ghost use Rattle.tlsf_heap.specs.Touches.{AtMost, malloc_or_own_touches, free_touches};
 ghost use Rattle.tlsf_c.specs.Fronts.{told_slot, told_size};
 ghost use Rattle.tlsf_c.specs.Lying.{LiesIn};
 ghost use Rattle.tlsf_c.specs.PlacedPools.{IsPlaced, HasPlace, HasAddress, IsAt};
@@ -26,20 +26,23 @@ pub(crate) const FRONT: u64 = 8;
 /// The most bytes that a block has behind its front.
 pub(crate) const MOST: u64 = 1_073_741_808 - FRONT;
 
-/// `Heap::malloc`, and what is known of the block: it lies in a pool, at a multiple of the unit, and has the bytes rounded up.
+/// `Heap::malloc_or_own`, and what is known of the block: it lies in a pool, at a multiple of the unit, and has the bytes rounded
+/// up.
 #[inline(always)]
 fn allocate(heap: &mut Heap, bytes: u64) -> Result<Ptr, Refusal>
-    ensures ok { IfOk result (λ ptr. IsServed (λ slot. malloc slot bytes) ptr heap.old.content heap.new.content) }
+    ensures ok { IfOk result (λ ptr. IsServed (λ slot. malloc_or_own slot bytes) ptr heap.old.content heap.new.content) }
     ensures in_units { IfOk result (λ ptr. ptr.place % 16 ≡ 0) }
-    ensures lies { IfOk result (λ ptr. LiesIn ptr.place bytes (map range_of heap.old.content.pools)) }
+    ensures lies { IfOk result (λ ptr. LiesIn ptr.place ((bytes + 15) / 16 * 16) (map range_of heap.old.content.pools)) }
     ensures size { IfOk result (λ ptr. block_size_ptr ptr heap.new.content ≡ Ok ((bytes + 15) / 16 * 16)) }
     ensures ranges { OnOk result (map range_of heap.new.content.pools ≡ map range_of heap.old.content.pools) }
-    ensures refused { IfErr result (λ refusal. (slot : ℕ) → malloc slot bytes heap.old.content ≡ Err refusal) }
+    ensures refused { IfErr result (λ refusal. (slot : ℕ) → malloc_or_own slot bytes heap.old.content ≡ Err refusal) }
     ensures unchanged { OnErr result (IsUnchanged heap.old heap.new) }
-    ensures bound { AtMost malloc_touches heap.old.touches heap.new.touches }
+    ensures bound { AtMost malloc_or_own_touches heap.old.touches heap.new.touches }
 {
     heap.keeps_good();
-    heap.malloc(bytes)
+    let given = heap.malloc_or_own(bytes);
+    heap.keeps_good();
+    given
 }
 
 /// `Heap::free`, and that each pool lies where it lay.
@@ -102,7 +105,7 @@ pub(crate) fn place_block(pools: &[PlacedPool; 8], ptr: Ptr, size: u64, word: &m
 }
 
 /// A live block of at least `bytes` bytes, at the address that is answered, with eight bytes in front of it. `word` gets
-/// what the caller puts into these, and hands back with the address. At most 23 touches.
+/// what the caller puts into these, and hands back with the address. At most 25 touches.
 ///
 /// Where the heap refuses the answer is 0. Then `word` gets the number of `ZeroSize`, `NoFit` or `TableFull`.
 #[unsafe(no_mangle)]
@@ -112,7 +115,7 @@ pub extern "C" fn tlsf_placed_malloc(heap: &mut PlacedHeap, bytes: u64, word: &m
     ensures multiple { result % 16 ≡ 0 }
     ensures refused { result ≡ 0 → IsRefusedAt (λ slot. malloc_with_front slot bytes) word.new heap.old.handle.value heap.new.handle.value }
     ensures pools { heap.new.pools ≡ heap.old.pools }
-    ensures bound { AtMost malloc_touches heap.old.handle.value.touches heap.new.handle.value.touches }
+    ensures bound { AtMost malloc_or_own_touches heap.old.handle.value.touches heap.new.handle.value.touches }
 {
     if bytes == 0 {
         *word = u64::from(number(Refusal::ZeroSize));
