@@ -5,6 +5,7 @@ mod FilledRows
 mod FromPlace
 mod GivenBlock
 mod LiveBlock
+mod LiveChanges
 mod LoadLemmas
 mod PlacedLemmas
 mod PlacedVectors

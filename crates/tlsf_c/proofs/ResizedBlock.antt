@@ -36,6 +36,7 @@ use Rattle.tlsf_c.proofs.LiveBlock.{live_lies}
 pub record IsInUnits (ptr : Pointer) (size : ℕ) : Type 0 where
   pub place : ptr.place % 16 ≡ 0
   pub size_in_units : size % 16 ≡ 0
+  pub long : 16 ≤ size
   pub most : size ≤ greatest_size
 
 pub live_units : (ptr : Pointer) (size : ℕ) (content : Content ℕ) → IsGood content → block_size_ptr ptr content ≡ Ok size → IsInUnits ptr size
@@ -46,6 +47,7 @@ live_units ptr size content good told =
     record {
       place = subst (λ (p : ℕ). p % 16 ≡ 0) aligned.2 aligned.1.0;
       size_in_units = subst (λ (n : ℕ). n % 16 ≡ 0) (sym aligned.3 ∙ is.1) aligned.1.1;
+      long = omega (arith, whole.3, is.1, whole.1.positive, whole.1.in_units);
       most = omega (arith, whole.3, is.1, whole.1.at_most);
     }
 

@@ -10,6 +10,7 @@ mod front;
 mod handle;
 mod images;
 pub mod laws;
+mod live_figures;
 mod made;
 mod placed_blocks;
 mod placed_heap;

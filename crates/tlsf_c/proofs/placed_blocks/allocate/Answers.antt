@@ -1,3 +1,4 @@
+use Rattle.tlsf_c.proofs.LiveChanges.{given_change}
 use Rattle.std.proofs.lemmas.Result.{IfOk-weaker}
 use Rattle.tlsf_c.proofs.GivenBlock.{or_own_given, given_size, given_lies, given_in_units}
 use Rattle.tlsf_c.proofs.placed_blocks.allocate.Goals as goal
@@ -21,3 +22,8 @@ pub returns-clause-ranges : goal.returns-clause-ranges
 returns-clause-ranges c =
     let old = c.args.heap.now.content in let new = c.malloc_or_own-given.new.self.content in
     IfOk-weaker c.malloc_or_own-given.result _ _ (λ ptr served. (or_own_given c.args.bytes ptr old new c.keeps_good.ensures.good served.ok).same_ranges) c.malloc_or_own-given.ensures.ok
+
+pub returns-clause-live : goal.returns-clause-live
+returns-clause-live c =
+    let old = c.args.heap.now.content in let new = c.malloc_or_own-given.new.self.content in
+    IfOk-weaker c.malloc_or_own-given.result _ _ (λ ptr served. given_change c.args.bytes ptr old new c.keeps_good.ensures.good c.keeps_good-2.ensures.good (or_own_given c.args.bytes ptr old new c.keeps_good.ensures.good served.ok)) c.malloc_or_own-given.ensures.ok

@@ -25,7 +25,7 @@ pub returns-then-bytes-gt-MOST-clause-refused : goal.returns-then-bytes-gt-MOST-
 returns-then-bytes-gt-MOST-clause-refused c = λ none.
     let heap = c.args.heap.now in
     let some = c.in-Some.ensures.some in
-    let live = found_live c.args.address c.args.word.now c.in-Some.ptr heap.pools heap.handle.value.content some.0 some.1 some.2 in
+    let live = found_live c.args.address c.args.word.now c.in-Some.block.ptr heap.pools heap.handle.value.content some.0 some.1 some.2 in
     record {
       refusal = NoFit;
       refused = inr (live, grows_above (told_slot c.args.word.now c.args.address) (told_block live.place c.args.address c.args.word.now) c.args.bytes (told_size c.args.word.now c.args.address) heap.handle.value.content live.live (omega (arith, c.if-bytes-gt-MOST.true)));
@@ -45,7 +45,7 @@ returns-in-Ok-clause-given c = λ some.
     let content = heap.handle.value.content in
     let new = c.in-Ok.new in
     let found = c.in-Some.ensures.some in
-    let live = found_live c.args.address c.args.word.now c.in-Some.ptr heap.pools content found.0 found.1 found.2 in
+    let live = found_live c.args.address c.args.word.now c.in-Some.block.ptr heap.pools content found.0 found.1 found.2 in
     let same : c.find.new.heap.handle.value.content ≡ content = c.find.ensures.read.unchanged.content in
     let there = c.place_block.ensures.at in
     let of_pools = subst (λ (pools : List PlacedPool). Contains pools there.0) c.find.ensures.pools there.1 in
@@ -56,7 +56,7 @@ returns-in-Ok-clause-given c = λ some.
       pointer = new.ptr;
       pool = there.0;
       moved = subst (λ (p : Pointer). IsMoved (realloc_ptr (Some p) (c.args.bytes + 8)) (Some p) (Some new.ptr) content c.resize.new.handle.value.content) found.0
-          (subst (λ (k : Content ℕ). IsMoved (realloc_ptr (Some c.in-Some.ptr) (c.args.bytes + 8)) (Some c.in-Some.ptr) (Some new.ptr) k c.resize.new.handle.value.content) same c.in-Ok.ensures.ok);
+          (subst (λ (k : Content ℕ). IsMoved (realloc_ptr (Some c.in-Some.block.ptr) (c.args.bytes + 8)) (Some c.in-Some.block.ptr) (Some new.ptr) k c.resize.new.handle.value.content) same c.in-Ok.ensures.ok);
       of_pools = of_pools;
       at = there.2;
       ends = omega (arith, there.2.address_is, there.2.has.0, ends, c.in-Ok.ensures.holds);
@@ -67,7 +67,7 @@ returns-in-Err-clause-refused c = λ none.
     let heap = c.args.heap.now in
     let content = heap.handle.value.content in
     let found = c.in-Some.ensures.some in
-    let live = found_live c.args.address c.args.word.now c.in-Some.ptr heap.pools content found.0 found.1 found.2 in
+    let live = found_live c.args.address c.args.word.now c.in-Some.block.ptr heap.pools content found.0 found.1 found.2 in
     let same : c.find.new.heap.handle.value.content ≡ content = c.find.ensures.read.unchanged.content in
     let why = c.in-Err.ensures.refused in
     record {
@@ -75,7 +75,7 @@ returns-in-Err-clause-refused c = λ none.
       refused = inr (
         live,
         subst (λ (p : Pointer). realloc_ptr (Some p) (c.args.bytes + 8) p.slot content ≡ Err why.0) found.0
-            (subst (λ (k : Content ℕ). realloc_ptr (Some c.in-Some.ptr) (c.args.bytes + 8) c.in-Some.ptr.slot k ≡ Err why.0) same why.2),
+            (subst (λ (k : Content ℕ). realloc_ptr (Some c.in-Some.block.ptr) (c.args.bytes + 8) c.in-Some.block.ptr.slot k ≡ Err why.0) same why.2),
       );
       number_is = c.from-in-Err.ensures ∙ why.1;
       unchanged = record { content = c.in-Err.ensures.unchanged.content ∙ same; rows = c.in-Err.ensures.unchanged.rows ∙ c.find.ensures.read.unchanged.rows };
