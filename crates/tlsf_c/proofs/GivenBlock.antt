@@ -7,13 +7,15 @@ use Rattle.tlsf_heap.specs.Content.{Content, blocks_of, size_at}
 use Rattle.tlsf_heap.specs.Counted.{range_of}
 use Rattle.tlsf_heap.specs.Free.{is_live}
 use Rattle.tlsf_heap.specs.Good.{IsGood}
+use Rattle.tlsf_heap.specs.Memalign.{memalign}
 use Rattle.tlsf_heap.specs.OwnClass.{malloc_or_own}
 use Rattle.tlsf_heap.specs.Pointer.{Pointer, block_size_ptr}
-use Rattle.tlsf_heap.proofs.Good.GivenSizes.{AreRounded}
+use Rattle.tlsf_heap.proofs.Good.GivenSizes.{AreRounded, memalign_sized}
+use Rattle.tlsf_heap.proofs.Good.AlignedStaysLive.{aligned_gives, live_aligned}
 use Rattle.tlsf_heap.proofs.Good.LiveBlocks.{live_here, size_here}
 use Rattle.tlsf_heap.proofs.Good.OwnClass.{or_own_live, or_own_sized, or_own_gives}
 use Rattle.tlsf_heap.proofs.Good.StaysLive.{Gives}
-use Rattle.tlsf_region.proofs.Ranges.{ranges, malloc_or_own_ranges}
+use Rattle.tlsf_region.proofs.Ranges.{ranges, malloc_or_own_ranges, memalign_ranges}
 use Rattle.tlsf_c.specs.Lying.{LiesIn}
 use Rattle.tlsf_c.proofs.LiveBlock.{live_lies}
 use Rattle.tlsf_c.proofs.ResizedBlock.{live_units}
@@ -31,6 +33,14 @@ or_own_given bytes ptr old new good served = record {
   live = or_own_live old good ptr.slot bytes (ptr.place, new) served (λ slot. slot == ptr.slot) (eq-eqb ptr.slot ptr.slot refl);
   sized = or_own_sized old good ptr.slot bytes (ptr.place, new) served;
   same_ranges = subst (λ answer. IfOk answer (λ given. ranges given.1 ≡ ranges old)) served (malloc_or_own_ranges ptr.slot bytes old);
+}
+
+pub aligned_given : (align bytes : ℕ) (ptr : Pointer) (old new : Content ℕ) → IsGood old → memalign ptr.slot align bytes old ≡ Ok (ptr.place, new) → IsGiven bytes ptr old new
+aligned_given align bytes ptr old new good served = record {
+  gives = aligned_gives (λ slot. slot == ptr.slot) ptr.slot align bytes old new ptr.place good served;
+  live = live_aligned (λ slot. slot == ptr.slot) ptr.slot align bytes old new ptr.place good served (eq-eqb ptr.slot ptr.slot refl);
+  sized = memalign_sized ptr.slot align bytes old (ptr.place, new) good served;
+  same_ranges = subst (λ answer. IfOk answer (λ given. ranges given.1 ≡ ranges old)) served (memalign_ranges ptr.slot align bytes old);
 }
 
 module _ (bytes : ℕ) (ptr : Pointer) (old new : Content ℕ) (good : IsGood new) (is : IsGiven bytes ptr old new) where

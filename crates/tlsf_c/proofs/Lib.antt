@@ -1,4 +1,5 @@
 -- Lemmas that several proofs share.
+mod Alike
 mod EntriesMoved
 mod FewRows
 mod FilledRows

@@ -1,10 +1,10 @@
 -- What calls of the heap leave of the number of live blocks and of their bytes.
-use Rattle.std.proofs.Common.{◌≡◌, ℕ, ◌+◌, ◌*◌, ◌<◌, ◌≤◌, true, List, [], ◌∷◌, refl, sym, ap, ◌∙◌, subst, arith, count_by, Some, Ok, inl, inr}
+use Rattle.std.proofs.Common.{◌≡◌, ℕ, ◌+◌, ◌*◌, ◌≤◌, List, [], ◌∷◌, refl, ap, arith, count_by, Some, Ok, inl, inr}
 use Rattle.std.specs.Prelude.{◌==◌, ◌/◌, not, if◌then◌else◌}
 use Rattle.std.specs.List.{AllByRecursion}
 use Rattle.std.proofs.lemmas.Bool.{cases_Bool, eq-eqb}
-use Rattle.tlsf_heap.specs.Content.{Block, Content, blocks_of, is_free, size_at}
-use Rattle.tlsf_heap.specs.Free.{is_live, after_free}
+use Rattle.tlsf_heap.specs.Content.{Block, Content, blocks_of, is_free}
+use Rattle.tlsf_heap.specs.Free.{after_free}
 use Rattle.tlsf_heap.specs.Good.{IsGood}
 use Rattle.tlsf_heap.specs.Implied.{live_blocks}
 use Rattle.tlsf_heap.specs.Pointer.{Pointer, free_ptr, realloc_ptr, block_size_ptr}

@@ -12,6 +12,7 @@ mod images;
 pub mod laws;
 mod live_figures;
 mod made;
+mod placed_aligned;
 mod placed_blocks;
 mod placed_heap;
 mod placed_lookup;
