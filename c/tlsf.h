@@ -185,7 +185,7 @@ size_t tlsf_sure_bytes(uint32_t blocks, size_t bytes, size_t largest);
 #define TLSF_HAS(units, power) ((units) >= (uint64_t)1 << (power))
 /* What a heap takes in front of its table. */
 #if UINTPTR_MAX > 0xffffffff
-#define TLSF_CONTROL_BYTES ((size_t)392)
+#define TLSF_CONTROL_BYTES ((size_t)376)
 #else
 #define TLSF_CONTROL_BYTES ((size_t)344)
 #endif

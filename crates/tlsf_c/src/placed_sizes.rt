@@ -1,6 +1,6 @@
 //! Blocks of a heap with addresses tell their sizes, and get others.
 
-ghost use Rattle.std.specs.Prelude.{◌≡◌, ◌+◌, ◌-◌, ◌*◌, ◌/◌, ◌%◌, ◌^◌, ◌<◌, ◌≤◌, map, max, Ok, Err, Some, IfOk, IfErr, OnOk, OnErr};
+ghost use Rattle.std.specs.Prelude.{◌≡◌, ◌≢◌, ◌+◌, ◌-◌, ◌*◌, ◌/◌, ◌%◌, ◌^◌, ◌<◌, ◌≤◌, ◌⊎◌, map, max, min, true, false, Ok, Err, Some, IfOk, IfErr, OnOk, OnErr};
 ghost use Rattle.tlsf_heap.specs.declared.refusal.Refusal.{Refusal};
 ghost use Rattle.tlsf_heap.specs.Counted.{IsUnchanged, Reads, range_of};
 ghost use Rattle.tlsf_heap.specs.Pointer.{realloc_ptr, block_size_ptr};
@@ -14,6 +14,7 @@ ghost use Rattle.tlsf_c.specs.Status.{number};
 
 use crate::block::Block;
 use crate::blocks::tlsf_heap_realloc;
+use crate::front::mark_of;
 use crate::handle::Handle;
 use crate::placed_blocks::{FRONT, MOST, Sized, find, place_block};
 use crate::placed_heap::PlacedHeap;
@@ -33,6 +34,22 @@ pub extern "C" fn tlsf_placed_block_size(heap: &mut PlacedHeap, address: u64, wo
     match find(heap, address, word) {
         Some(block) => block.size - FRONT,
         None => 0,
+    }
+}
+
+/// The bytes that a word in front of an address tells, without the eight in front; 0 where it is no word for this address, or is
+/// that of a freed block.
+#[unsafe(no_mangle)]
+pub extern "C" fn tlsf_front_size(address: u64, word: u64) -> u64
+    ensures told { 0 < result → told_size word address ≡ result + front }
+    ensures most { 0 < result → told_size word address < 2 ^ 30 }
+    ensures none { result ≡ 0 → (told_size word address ≤ front) ⊎ (2 ^ 30 ≤ told_size word address) }
+{
+    let size = mark_of(word, address).size;
+    if size < 1 << 30 {
+        size.saturating_sub(FRONT)
+    } else {
+        0
     }
 }
 
@@ -86,9 +103,18 @@ fn resize(handle: &mut Handle, block: Sized, bytes: u64) -> Result<Sized, u32>
     })
 }
 
+/// How many bytes are copied of a block that had some and has others: none where it stays.
+#[inline(always)]
+fn to_copy(stays: bool, had: u64, has: u64) -> u64
+    ensures stays { stays ≡ true → result ≡ 0 }
+    ensures moves { stays ≡ false → result ≡ min had has }
+{
+    if stays { 0 } else { had.min(has) }
+}
+
 /// The live block at an address gets room for `bytes` bytes, where `word` is the word in front of it. The answer is its address
-/// then, which may be another one: its bytes are the caller's to copy. `word` gets what stands in front of that. At most 60
-/// touches.
+/// then. Where that is another one, `copied` gets how many bytes the caller has to copy there, and else 0. `word` gets what
+/// stands in front of it. At most 60 touches.
 ///
 /// Where that is refused the answer is 0, and all is as it was. Then `word` gets the number of `BadPointer` unless the block is
 /// live, and else that of `NoFit` or `TableFull`.
@@ -98,10 +124,13 @@ pub extern "C" fn tlsf_placed_realloc(
     address: u64,
     bytes: u64,
     word: &mut u64,
+    copied: &mut u64,
 ) -> u64
     ensures given { 0 < result → IsResizedAt address word.old bytes result heap.old.pools heap.old.handle.value.content heap.new.handle.value.content }
     ensures live { 0 < result → IsLiveAt result word.new heap.old.pools heap.new.handle.value.content }
     ensures multiple { result % 16 ≡ 0 }
+    ensures stays { 0 < result → result ≡ address → copied.new ≡ 0 }
+    ensures moves { 0 < result → result ≢ address → copied.new ≡ min (told_size word.old address - front) (told_size word.new result - front) }
     ensures refused { result ≡ 0 → IsNotResized address word.old bytes word.new heap.old.pools heap.old.handle.value heap.new.handle.value }
     ensures pools { heap.new.pools ≡ heap.old.pools }
     ensures most { heap.new.figures.most_bytes ≡ max heap.old.figures.most_bytes heap.new.figures.bytes }
@@ -118,8 +147,11 @@ pub extern "C" fn tlsf_placed_realloc(
     let had = block.size - FRONT;
     match resize(&mut heap.handle, block, bytes + FRONT) {
         Ok(new) => {
-            heap.figures.resized(had, new.size - FRONT);
-            place_block(&heap.pools, new.ptr, new.size, word)
+            let has = new.size - FRONT;
+            heap.figures.resized(had, has);
+            let now = place_block(&heap.pools, new.ptr, new.size, word);
+            *copied = to_copy(now == address, had, has);
+            now
         }
         Err(status) => {
             *word = u64::from(status);

@@ -1,11 +1,12 @@
 use Rattle.std.specs.Prelude.{List, Contains}
-use Rattle.std.proofs.Common.{◌≡◌, ℕ, rules, ◌+◌, map, Some, Err, inl, inr, refl, ◌∙◌, subst, arith}
+use Rattle.std.proofs.Common.{◌≡◌, ℕ, rules, ◌+◌, ◌-◌, min, map, Some, Err, inl, inr, refl, sym, ap, ◌∙◌, subst, arith}
 use Rattle.tlsf_heap.specs.declared.refusal.Refusal.TheVariants.{BadPointer, NoFit}
 use Rattle.tlsf_heap.specs.Content.{Content}
 use Rattle.tlsf_heap.specs.Counted.{range_of}
 use Rattle.tlsf_heap.specs.Pointer.{Pointer, realloc_ptr}
 use Rattle.tlsf_heap.specs.Served.{IsMoved}
-use Rattle.tlsf_c.specs.Fronts.{told_slot, told_size}
+use Rattle.std.proofs.lemmas.Bool.{eq-eqb, ne_eqb}
+use Rattle.tlsf_c.specs.Fronts.{front, told_slot, told_size}
 use Rattle.tlsf_c.specs.Lying.{LiesIn}
 use Rattle.tlsf_c.specs.declared.placed_pool.PlacedPool.{PlacedPool}
 use Rattle.tlsf_c.specs.PlacedHeaps.{told_block}
@@ -33,8 +34,8 @@ returns-then-bytes-gt-MOST-clause-refused c = λ none.
       unchanged = search rules;
     }
 
-pub place_block-requires-clause-somewhere : goal.place_block-requires-clause-somewhere
-place_block-requires-clause-somewhere c =
+pub place_block-now-requires-clause-somewhere : goal.place_block-now-requires-clause-somewhere
+place_block-now-requires-clause-somewhere c =
     let heap = c.find.new.heap in
     let ptr = c.in-Ok.new.ptr in
     lies_somewhere ptr.place c.in-Ok.new.size (map range_of heap.handle.value.content.pools) heap.pools heap.entries c.in-Ok.ensures.lies (omega (arith, c.in-Ok.ensures.holds, c.in-Ok.ensures.units))
@@ -47,7 +48,7 @@ returns-in-Ok-clause-given c = λ some.
     let found = c.in-Some.ensures.some in
     let live = found_live c.args.address c.args.word.now c.in-Some.block.ptr heap.pools content found.0 found.1 found.2 in
     let same : c.find.new.heap.handle.value.content ≡ content = c.find.ensures.read.unchanged.content in
-    let there = c.place_block.ensures.at in
+    let there = c.place_block-now.ensures.at in
     let of_pools = subst (λ (pools : List PlacedPool). Contains pools there.0) c.find.ensures.pools there.1 in
     let lies = subst (λ (k : Content ℕ). LiesIn new.ptr.place new.size (map range_of k.pools)) same c.in-Ok.ensures.lies in
     let ends = ends_in_entry new.ptr.place new.size (map range_of content.pools) heap.pools there.0 heap.entries lies of_pools there.2.has in
@@ -80,3 +81,14 @@ returns-in-Err-clause-refused c = λ none.
       number_is = c.from-in-Err.ensures ∙ why.1;
       unchanged = record { content = c.in-Err.ensures.unchanged.content ∙ same; rows = c.in-Err.ensures.unchanged.rows ∙ c.find.ensures.read.unchanged.rows };
     }
+
+pub returns-in-Ok-clause-stays : goal.returns-in-Ok-clause-stays
+returns-in-Ok-clause-stays c = λ some same. c.to_copy.ensures.stays (eq-eqb c.place_block-now.result c.args.address same)
+
+pub returns-in-Ok-clause-moves : goal.returns-in-Ok-clause-moves
+returns-in-Ok-clause-moves c = λ some apart.
+    let had_is : c.in-Some.block.size ≡ told_size c.args.word.now c.args.address = c.in-Some.ensures.some.3 in
+    let has_is : c.in-Ok.new.size ≡ told_size c.place_block-now.new.word c.place_block-now.result = sym c.place_block-now.ensures.size in
+    c.to_copy.ensures.moves (ne_eqb c.place_block-now.result c.args.address apart)
+    ∙ ap (λ (n : ℕ). min (n - front) (c.in-Ok.new.size - front)) had_is
+    ∙ ap (λ (n : ℕ). min (told_size c.args.word.now c.args.address - front) (n - front)) has_is
