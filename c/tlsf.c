@@ -112,8 +112,9 @@ static uint64_t sum_of(const struct control *control, size_t from, size_t to)
 }
 static uint64_t mark_of(const struct control *control)
 {
+    size_t most = offsetof(struct control, at.live.most_bytes);
     return sum_of(control, 0, offsetof(struct control, at.live))
-           + sum_of(control, offsetof(struct control, at.live.most_bytes), offsetof(struct control, mark));
+           + sum_of(control, most, offsetof(struct control, mark));
 }
 
 /* The most live bytes were `before`, when the mark was made. */
@@ -122,8 +123,8 @@ static inline void mark_most(struct control *control, uint64_t before)
     size_t at = offsetof(struct control, at.live.most_bytes);
     uint64_t most = control->at.live.most_bytes;
     if (most != before) {
-        control->mark += times(at) * ((size_t)most - (size_t)before)
-                         + (WORD < sizeof most ? times(at + WORD) * ((most >> 32u) - (before >> 32u)) : 0u);
+        uint64_t above = WORD < sizeof most ? (most >> 32u) - (before >> 32u) : 0u;
+        control->mark += times(at) * ((size_t)most - (size_t)before) + times(at + WORD) * above;
     }
 }
 
@@ -240,7 +241,7 @@ size_t tlsf_block_size(void *ptr)
     if (may_be) {
         (void)__builtin_memcpy(&word, (const unsigned char *)ptr - FRONT, FRONT);
     }
-    return may_be ? (size_t)tlsf_front_size((uintptr_t)ptr, word) : 0u;
+    return may_be ? (size_t)tlsf_placed_told_size((uintptr_t)ptr, word) : 0u;
 }
 
 /* Counts what is refused, and tells it. */
@@ -256,16 +257,19 @@ static void *refuse(struct control *control, enum tlsf_refusal what, const void 
 }
 
 /* A pointer, in front of which a word was read, if it lies in a pool; a null pointer is none. */
-RARE static void *refuse_pointer(struct control *control, const void *ptr, size_t bytes, uint64_t word)
+RARE static void *refuse_pointer(struct control *control, const void *ptr, size_t bytes,
+                                 uint64_t word)
 {
     uintptr_t address = (uintptr_t)ptr;
     bool may_be = address % UNIT == 0u && word != 0u && word != address;
-    bool front = may_be && tlsf_front_size(address, word) == 0u;
-    return ptr == NULL ? NULL : refuse(control, front ? TLSF_REFUSED_FRONT : TLSF_REFUSED_POINTER, ptr, bytes);
+    bool none = may_be && tlsf_placed_told_size(address, word) == 0u;
+    enum tlsf_refusal what = none ? TLSF_REFUSED_FRONT : TLSF_REFUSED_POINTER;
+    return ptr == NULL ? NULL : refuse(control, what, ptr, bytes);
 }
 
 /* A request, by the status of the proved call. */
-RARE static void *refuse_bytes(struct control *control, uint64_t status, const void *ptr, size_t bytes)
+RARE static void *refuse_bytes(struct control *control, enum tlsf_status status, const void *ptr,
+                               size_t bytes)
 {
     enum tlsf_refusal what = status == TLSF_BAD_ALIGN    ? TLSF_REFUSED_ALIGNMENT
                              : status == TLSF_TABLE_FULL ? TLSF_REFUSED_TABLE_FULL
@@ -274,11 +278,11 @@ RARE static void *refuse_bytes(struct control *control, uint64_t status, const v
 }
 
 /* The pointer to a new block at the address, or the refusal that its word tells. */
-static inline void *hand_out(struct control *control, uintptr_t address, uint64_t word, uint64_t most,
-                             size_t bytes)
+static inline void *hand_out(struct control *control, uintptr_t address, uint64_t word,
+                             uint64_t most, size_t bytes)
 {
     if (address == 0u) {
-        return refuse_bytes(control, word, NULL, bytes);
+        return refuse_bytes(control, (enum tlsf_status)word, NULL, bytes);
     }
     write_front(address, word);
     mark_most(control, most);
@@ -337,7 +341,9 @@ void tlsf_free(tlsf_t tlsf, void *ptr)
  * old one's bytes before the next call. */
 static void *resize(struct control *control, void *ptr, size_t size)
 {
-    uint64_t front = 0, copied = 0, most = control->at.live.most_bytes;
+    uint64_t most = control->at.live.most_bytes;
+    uint64_t front = 0;
+    uint64_t copied = 0;
     if (!read_front(control, ptr, &front)) {
         return refuse_pointer(control, ptr, size, 0);
     }
@@ -345,8 +351,9 @@ static void *resize(struct control *control, void *ptr, size_t size)
     uintptr_t address
         = (uintptr_t)tlsf_placed_realloc(&control->at, (uintptr_t)ptr, size, &word, &copied);
     if (address == 0u) {
-        return word == TLSF_BAD_POINTER ? refuse_pointer(control, ptr, size, front)
-                                        : refuse_bytes(control, word, ptr, size);
+        enum tlsf_status status = (enum tlsf_status)word;
+        return status == TLSF_BAD_POINTER ? refuse_pointer(control, ptr, size, front)
+                                          : refuse_bytes(control, status, ptr, size);
     }
     write_front((uintptr_t)ptr, (uintptr_t)ptr);
     write_front(address, word);

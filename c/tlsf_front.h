@@ -58,7 +58,7 @@ struct placed {
  * for `bytes` bytes, and answers its address then, with the word in *word. It copies no byte: *copied
  * is how many the program copies there. Where it is refused it answers 0, and *word is the status.
  * tlsf_placed_has answers whether the address lies in a pool with the eight bytes in front of it.
- * tlsf_front_size answers the bytes behind the front that a word tells, and 0 where it is no word for
+ * tlsf_placed_told_size answers the bytes behind the front that a word tells, and 0 where it is no word for
  * this address. tlsf_placed_add_pool adds a pool of `bytes` bytes, of which the eight in front of
  * `first` are the first, and gives *entry the number of its entry. It refuses one that overlaps
  * another. */
@@ -69,7 +69,7 @@ uint64_t tlsf_placed_block_size(struct placed *heap, uint64_t address, uint64_t 
 uint64_t tlsf_placed_realloc(struct placed *heap, uint64_t address, uint64_t bytes, uint64_t *word,
                              uint64_t *copied);
 bool tlsf_placed_has(const struct placed *heap, uint64_t address);
-uint64_t tlsf_front_size(uint64_t address, uint64_t word);
+uint64_t tlsf_placed_told_size(uint64_t address, uint64_t word);
 enum tlsf_status tlsf_placed_add_pool(struct placed *heap, uint64_t first, uint64_t bytes,
                                       uint64_t place, uint32_t *entry);
 enum tlsf_status tlsf_placed_remove_pool(struct placed *heap, uint32_t entry);

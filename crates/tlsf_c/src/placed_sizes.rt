@@ -40,7 +40,7 @@ pub extern "C" fn tlsf_placed_block_size(heap: &mut PlacedHeap, address: u64, wo
 /// The bytes that a word in front of an address tells, without the eight in front; 0 where it is no word for this address, or is
 /// that of a freed block.
 #[unsafe(no_mangle)]
-pub extern "C" fn tlsf_front_size(address: u64, word: u64) -> u64
+pub extern "C" fn tlsf_placed_told_size(address: u64, word: u64) -> u64
     ensures told { 0 < result → told_size word address ≡ result + front }
     ensures most { 0 < result → told_size word address < 2 ^ 30 }
     ensures none { result ≡ 0 → (told_size word address ≤ front) ⊎ (2 ^ 30 ≤ told_size word address) }
