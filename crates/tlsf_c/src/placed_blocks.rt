@@ -168,19 +168,16 @@ pub(crate) fn find(heap: &mut PlacedHeap, address: u64, word: u64) -> Option<Siz
     let ptr = Ptr::new(pool.place_of(address), mark.slot);
     let inner = heap.handle.heap();
     inner.keeps_good();
-    match inner.block_size(ptr) {
-        Ok(size) => {
-            if u64::from(size) == mark.size {
-                Some(Sized {
-                    ptr,
-                    size: mark.size,
-                })
-            } else {
-                None
-            }
-        }
-        Err(_) => None,
+    let Ok(size) = inner.block_size(ptr) else {
+        return None;
+    };
+    if u64::from(size) != mark.size {
+        return None;
     }
+    Some(Sized {
+        ptr,
+        size: mark.size,
+    })
 }
 
 /// The block at an address becomes free, where the word in front of it is the block's. At most 33 touches.

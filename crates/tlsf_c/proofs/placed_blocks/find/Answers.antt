@@ -8,8 +8,8 @@ use Rattle.tlsf_c.proofs.ResizedBlock.{live_units}
 use Rattle.tlsf_c.proofs.placed_blocks.find.Goals as goal
 
 -- the block that is live there would be the one that was looked at, of the size that was told
-pub returns-else-from-mark-clause-none : goal.returns-else-from-mark-clause-none
-returns-else-from-mark-clause-none c = λ live.
+pub returns-then-from-mark-clause-none : goal.returns-then-from-mark-clause-none
+returns-then-from-mark-clause-none c = λ live.
     let heap = c.args.heap.now in
     let there = live_in_found c.args.address c.args.word c.place_of.result heap.pools c.in_ok-pool.pool.now heap.handle.value.content heap.apart c.in_ok-pool.ensures.0 c.place_of.ensures.at live in
     let block_is : c.new-ptr.result ≡ told_block c.place_of.result c.args.address c.args.word =
@@ -17,15 +17,15 @@ returns-else-from-mark-clause-none c = λ live.
     let found = subst (λ (h : Counted). block_size_ptr c.new-ptr.result h.content ≡ Ok c.in-Ok.size) c.heap-inner.ensures.value c.in-Ok.ensures.ok in
     let found_told = subst (λ (p : Pointer). block_size_ptr p heap.handle.value.content ≡ Ok c.in-Ok.size) block_is found in
     let size_is : told_size c.args.word c.args.address ≡ c.in-Ok.size = the_size (sym there ∙ found_told) in
-    absurd (c.if-from-mark.false (c.from.ensures ∙ sym size_is ∙ sym c.mark_of-mark.ensures.size))
+    absurd (c.if-from-mark.true (c.from.ensures ∙ sym size_is ∙ sym c.mark_of-mark.ensures.size))
 
-pub returns-in-Err-clause-none : goal.returns-in-Err-clause-none
-returns-in-Err-clause-none c = λ live.
+pub returns-in_default-clause-none : goal.returns-in_default-clause-none
+returns-in_default-clause-none c = λ live.
     let heap = c.args.heap.now in
     let there = live_in_found c.args.address c.args.word c.place_of.result heap.pools c.in_ok-pool.pool.now heap.handle.value.content heap.apart c.in_ok-pool.ensures.0 c.place_of.ensures.at live in
-    absurd (cc (there, c.in-Err.ensures.refused.refused, c.new-ptr.ensures, c.mark_of-mark.ensures.slot, c.heap-inner.ensures.value))
+    absurd (cc (there, c.in_default.ensures.refused.refused, c.new-ptr.ensures, c.mark_of-mark.ensures.slot, c.heap-inner.ensures.value))
 
-pub returns-then-from-mark-clause-long : goal.returns-then-from-mark-clause-long
-returns-then-from-mark-clause-long c =
+pub returns-clause-long : goal.returns-clause-long
+returns-clause-long c =
     let is = live_units c.new-ptr.result c.in-Ok.size c.heap-inner.result.now.content c.keeps_good.ensures.good c.in-Ok.ensures.ok in
-    omega (arith, is.long, c.if-from-mark.true, c.from.ensures)
+    omega (arith, is.long, c.if-from-mark.false, c.from.ensures)
