@@ -112,9 +112,11 @@ static uint64_t sum_of(const struct control *control, size_t from, size_t to)
 }
 static uint64_t mark_of(const struct control *control)
 {
-    size_t most = offsetof(struct control, at.live.most_bytes);
-    return sum_of(control, 0, offsetof(struct control, at.live))
-           + sum_of(control, most, offsetof(struct control, mark));
+    size_t live = offsetof(struct control, at.live);
+    return sum_of(control, 0, live)
+           + sum_of(control, offsetof(struct control, at.live.most_bytes),
+                    offsetof(struct control, at.live.blocks))
+           + sum_of(control, live + sizeof control->at.live, offsetof(struct control, mark));
 }
 
 /* The most live bytes were `before`, when the mark was made. */

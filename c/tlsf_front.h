@@ -31,12 +31,12 @@ struct pool {
     struct control *control TLSF_HEAP_POINTER;
 };
 
-/* What is live: the bytes of the blocks behind their fronts, how many blocks there are, and the most
- * bytes that there were. */
+/* What is live: the bytes of the blocks behind their fronts, the most that there were, and how many
+ * blocks there are. */
 struct live {
     uint64_t bytes;
-    uint64_t blocks;
     uint64_t most_bytes;
+    uint64_t blocks;
 };
 
 /* A heap whose pools have addresses. It begins with a new heap, and zeros. Then pools come and go, and

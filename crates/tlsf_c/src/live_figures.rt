@@ -8,10 +8,10 @@ ghost use Rattle.std.specs.Prelude.{◌≡◌, ◌+◌, ◌-◌, ◌^◌, ◌<�
 pub struct LiveFigures {
     /// The bytes of the live blocks.
     pub bytes: u64,
-    /// How many blocks are live.
-    pub blocks: u64,
     /// The most that `bytes` has been.
     pub most_bytes: u64,
+    /// How many blocks are live.
+    pub blocks: u64,
 }
 
 impl LiveFigures {
