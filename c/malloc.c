@@ -99,8 +99,8 @@ static void after_fork(void)
     pthread_mutex_unlock(&lock);
 }
 
-/* Memory for the parts that are told, or for the control part and the pool behind it, whose first
- * block begins within its first unit. Where there is no memory each call is refused. */
+/* Memory for the parts that are told, or for the control part and the pool behind it, which begins at
+ * eight bytes behind a multiple of 16. Where there is no memory each call is refused. */
 static bool make_heap(void)
 {
     tlsf_part told[TLSF_PARTS_MOST];
@@ -109,7 +109,7 @@ static bool make_heap(void)
     size_t records = setting("TLSF_RECORDS", TLSF_HEAP_RECORDS_MOST, TLSF_HEAP_RECORDS_MOST);
     size_t pool = (setting("TLSF_POOL", TLSF_HEAP_GREATEST, POOL) + UNIT - 1) / UNIT * UNIT;
     size_t of_parts = tlsf_parts_bytes(told, count);
-    size_t bytes = of_parts != 0 ? of_parts : tlsf_size_records((uint32_t)records) + pool + UNIT;
+    size_t bytes = of_parts != 0 ? of_parts : tlsf_size_records((uint32_t)records) + pool;
     void *memory = mmap(NULL, bytes, PROT_READ | PROT_WRITE,
                         MAP_PRIVATE | MAP_ANONYMOUS | MAP_NORESERVE, -1, 0);
     if (list != NULL && of_parts == 0) {

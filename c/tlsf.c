@@ -1,20 +1,14 @@
 /* tlsf.c: the calls of Conte's tlsf over the proved heap of tlsf_heap.h. This file isn't proved.
  *
- * The heap hands out places, from 0 to 2^32 - 1. It chooses each block, and knows whether a live
- * block has a place and a slot. That is proved, and so are the calls of tlsf_front.h: they answer
- * addresses to malloc and realloc, find the block that a pointer means, and add and remove pools. Of
- * the other calls this file turns places into addresses and back. It also moves fronts and bytes, and
- * keeps the figures:
+ * What is reckoned here is proved, in the calls of tlsf_front.h: they choose blocks, answer their
+ * addresses, find the block that a pointer means, and keep the figures of what is live. This file
+ * moves fronts and bytes, and finds room for a pool's places:
  *
  * - The control part, at the start of the memory handed in, keeps each pool's address and places. It
  *   ends with its mark, a sum over it. So tlsf_check tells a byte that is changed there, and reads
  *   the table only where none is.
  * - A block begins eight bytes in front of its pointer. Its place is as far behind the pool's first
  *   place as the pointer behind the first pointer, and equals the pointer modulo TLSF_MOST_ALIGN.
- *   So where the place is a multiple of an alignment, the pointer is one too.
- * - The eight bytes in front of a pointer, its front, keep the block's slot and size, scrambled
- *   with the pointer. So a byte that is changed there shows, and so does a front copied to
- *   elsewhere.
  * - A pointer is taken where it lies in a pool of the heap, its front is whole, and the heap has a
  *   live block there with that slot. So a null, stale or interior pointer is refused, and so is one
  *   of another heap. Nothing is read in front of a pointer into no pool.
@@ -87,9 +81,6 @@ size_t tlsf_block_size_max(void) { return TOO_GREAT - 1u; }
 size_t tlsf_pool_overhead(void) { return HANDED_IN + FRONT + UNIT; }
 size_t tlsf_alloc_overhead(void) { return FRONT; }
 
-/* The bytes of a block that serves a request of these bytes, with its front. */
-static inline size_t in_units(size_t bytes) { return (bytes + FRONT + UNIT - 1u) / UNIT * UNIT; }
-
 /* The bytes to the next multiple of 16. */
 static size_t skipped(uintptr_t address) { return (UNIT - address % UNIT) % UNIT; }
 
@@ -103,31 +94,47 @@ static size_t taken(uintptr_t own, uint32_t records)
 /* The mark is the sum of the control part's words, each times an odd number of its own. So a word
  * that changes shows. The live blocks and their bytes aren't in it: a check counts them again. */
 #define WORD sizeof(size_t)
-#define TIMES(field) times(offsetof(struct control, field))
+#define ODD 0x9e3779b97f4a7c15u
 static inline uint64_t times(size_t at)
 {
-    uint64_t number = (at / WORD + 1u) * SCRAMBLE;
+    uint64_t number = (at / WORD + 1u) * ODD;
     return (number ^ (number >> 32u)) | 1u;
 }
-static uint64_t mark_of(const struct control *control)
+static uint64_t sum_of(const struct control *control, size_t from, size_t to)
 {
-    const tlsf_figures *figures = &control->figures;
     size_t word = 0;
     uint64_t sum = 0;
-    size_t end = offsetof(struct control, mark);
-    for (size_t at = 0; at < end; at += WORD) {
+    for (size_t at = from; at < to; at += WORD) {
         (void)__builtin_memcpy(&word, (const unsigned char *)control + at, WORD);
         sum += times(at) * word;
     }
-    return sum - TIMES(figures.bytes_live) * figures->bytes_live
-           - TIMES(figures.blocks_live) * figures->blocks_live;
+    return sum;
+}
+static uint64_t mark_of(const struct control *control)
+{
+    size_t live = offsetof(struct control, at.live);
+    return sum_of(control, 0, live)
+           + sum_of(control, offsetof(struct control, at.live.most_bytes),
+                    offsetof(struct control, at.live.blocks))
+           + sum_of(control, live + sizeof control->at.live, offsetof(struct control, mark));
+}
+
+/* The most live bytes were `before`, when the mark was made. */
+static inline void mark_most(struct control *control, uint64_t before)
+{
+    size_t at = offsetof(struct control, at.live.most_bytes);
+    uint64_t most = control->at.live.most_bytes;
+    if (most != before) {
+        uint64_t above = WORD < sizeof most ? (most >> 32u) - (before >> 32u) : 0u;
+        control->mark += times(at) * ((size_t)most - (size_t)before) + times(at + WORD) * above;
+    }
 }
 
 /* Whether these bytes are none of the heap's own. */
 static bool is_foreign(const struct control *control, uintptr_t address, size_t bytes)
 {
     uintptr_t own = (uintptr_t)control;
-    return address + bytes <= own || own + taken(own, control->figures.records) <= address;
+    return address + bytes <= own || own + taken(own, control->records) <= address;
 }
 
 /* The places are the first that the heap takes: from 0 on, or behind some pool. */
@@ -186,7 +193,7 @@ tlsf_t tlsf_create_records(void *mem, size_t bytes, uint32_t records)
     }
     unsigned char *end = (unsigned char *)mem + front;
     *control = (struct control){.magic = (uintptr_t)mem + MAGIC};
-    control->figures.records = records;
+    control->records = records;
     if (tlsf_heap_create_in(end - table, table, records, &control->at.heap) == TLSF_OK) {
         control->mark = mark_of(control);
         if (bytes - front < LEAST_POOL || tlsf_add_pool(control, end, bytes - front) != NULL) {
@@ -228,20 +235,22 @@ size_t tlsf_live_size(tlsf_t tlsf, const void *ptr)
     return live_size(control_of(tlsf), ptr);
 }
 
-/* A freed block's front has no size. */
+/* A freed block's front tells none. */
 size_t tlsf_block_size(void *ptr)
 {
+    uint64_t word = 0;
     bool may_be = ptr != NULL && (uintptr_t)ptr % UNIT == 0u;
-    uint64_t kept = may_be ? unscrambled(ptr) : 0u;
-    size_t size = kept >> FRONT_BITS == 0u ? (size_t)(kept >> SLOT_BITS) * UNIT : 0u;
-    return size == 0u ? 0u : size - FRONT;
+    if (may_be) {
+        (void)__builtin_memcpy(&word, (const unsigned char *)ptr - FRONT, FRONT);
+    }
+    return may_be ? (size_t)tlsf_placed_told_size((uintptr_t)ptr, word) : 0u;
 }
 
 /* Counts what is refused, and tells it. */
 static void *refuse(struct control *control, enum tlsf_refusal what, const void *ptr, size_t bytes)
 {
-    size_t at = offsetof(struct control, figures.refusals);
-    control->figures.refusals[what]++;
+    size_t at = offsetof(struct control, refusals);
+    control->refusals[what]++;
     control->mark += times(at + (size_t)what * WORD);
     if (control->hook != NULL) {
         control->hook(what, ptr, bytes, control->user);
@@ -249,88 +258,37 @@ static void *refuse(struct control *control, enum tlsf_refusal what, const void 
     return NULL;
 }
 
-/* A pointer; a null pointer is none. Where its front isn't whole the pool's chain is read, for a
- * live block may begin there. */
-RARE static void *refuse_pointer(struct control *control, const void *ptr, size_t bytes)
+/* A pointer, in front of which a word was read, if it lies in a pool; a null pointer is none. */
+RARE static void *refuse_pointer(struct control *control, const void *ptr, size_t bytes,
+                                 uint64_t word)
 {
-    tlsf_heap_row row = {0, 0, false};
-    uint64_t count = 0;
-    enum tlsf_refusal what = TLSF_REFUSED_POINTER;
-    const struct pool *pool = pool_of(control, NULL, ptr);
-    if (ptr == NULL) {
-        return NULL;
-    }
-    if (pool != NULL && unscrambled(ptr) >> FRONT_BITS != 0u) {
-        uint64_t place = pool->place + ((uintptr_t)ptr - pool->first);
-        enum tlsf_status status
-            = tlsf_heap_walk(&control->at.heap, pool->place, place, &row, 1, &count);
-        bool live = status == TLSF_OK && row.used && row.place == place;
-        what = live ? TLSF_REFUSED_FRONT : TLSF_REFUSED_POINTER;
-    }
+    uintptr_t address = (uintptr_t)ptr;
+    bool may_be = address % UNIT == 0u && word != 0u && word != address;
+    bool none = may_be && tlsf_placed_told_size(address, word) == 0u;
+    enum tlsf_refusal what = none ? TLSF_REFUSED_FRONT : TLSF_REFUSED_POINTER;
+    return ptr == NULL ? NULL : refuse(control, what, ptr, bytes);
+}
+
+/* A request, by the status of the proved call. */
+RARE static void *refuse_bytes(struct control *control, enum tlsf_status status, const void *ptr,
+                               size_t bytes)
+{
+    enum tlsf_refusal what = status == TLSF_BAD_ALIGN    ? TLSF_REFUSED_ALIGNMENT
+                             : status == TLSF_TABLE_FULL ? TLSF_REFUSED_TABLE_FULL
+                                                         : TLSF_REFUSED_NO_FIT;
     return refuse(control, what, ptr, bytes);
 }
 
-/* A request, by the status of the heap's call. */
-static void *refuse_bytes(struct control *control, enum tlsf_status status, const void *ptr,
-                          size_t bytes)
+/* The pointer to a new block at the address, or the refusal that its word tells. */
+static inline void *hand_out(struct control *control, uintptr_t address, uint64_t word,
+                             uint64_t most, size_t bytes)
 {
-    bool full = status == TLSF_TABLE_FULL;
-    return refuse(control, full ? TLSF_REFUSED_TABLE_FULL : TLSF_REFUSED_NO_FIT, ptr, bytes);
-}
-
-/* A block that had some bytes, or was none, now has others. */
-static inline void count_bytes(struct control *control, size_t had, size_t has)
-{
-    tlsf_figures *figures = &control->figures;
-    figures->bytes_live += has - had;
-    if (figures->most_bytes_live < figures->bytes_live) {
-        size_t more = figures->bytes_live - figures->most_bytes_live;
-        control->mark += TIMES(figures.most_bytes_live) * more;
-        figures->most_bytes_live = figures->bytes_live;
+    if (address == 0u) {
+        return refuse_bytes(control, (enum tlsf_status)word, NULL, bytes);
     }
-}
-
-/* The pointer to a live block that the heap's own calls gave, whose front is written. Only where the
- * control part or the table is spoiled does the block lie in no pool: then the pointer is null. */
-static inline void *hand_out(const struct control *control, tlsf_heap_block block, size_t size)
-{
-    const struct pool *pool = pool_of(control, &block.place, NULL);
-    if (pool == NULL) {
-        return NULL;
-    }
-    void *ptr = (void *)(uintptr_t)(pool->first + (uint32_t)(block.place - pool->place));
-    write_front(ptr, size, block.slot);
-    return ptr;
-}
-
-/* A new block, and its pointer. */
-static inline void *begin(struct control *control, tlsf_heap_block block, size_t whole)
-{
-    control->figures.blocks_live++;
-    count_bytes(control, 0, whole - FRONT);
-    return hand_out(control, block, whole);
-}
-
-/* A request that the heap's first call refused with this status. Where no free block is of a class
- * that surely has the bytes, the first of the class below may have them. A smaller block is begun
- * there, and grows. */
-RARE static void *allocate_below(struct control *control, enum tlsf_status first, size_t bytes)
-{
-    tlsf_heap_block block = {0, 0};
-    size_t whole = in_units(bytes);
-    size_t less = (size_t)tlsf_heap_class_low(whole);
-    enum tlsf_status status = first;
-    if (first == TLSF_NO_FIT && bytes < TOO_GREAT && less < whole) {
-        status = tlsf_heap_malloc(&control->at.heap, less, &block);
-        if (status == TLSF_OK) {
-            status = tlsf_heap_realloc(&control->at.heap, block, whole, &block);
-            if (status == TLSF_OK) {
-                return begin(control, block, whole);
-            }
-            (void)tlsf_heap_free(&control->at.heap, block);
-        }
-    }
-    return refuse_bytes(control, status, NULL, bytes);
+    write_front(address, word);
+    mark_most(control, most);
+    return (void *)address;
 }
 
 void *tlsf_malloc(tlsf_t tlsf, size_t bytes)
@@ -341,37 +299,28 @@ void *tlsf_malloc(tlsf_t tlsf, size_t bytes)
     if (control == NULL || bytes == 0u) {
         return NULL;
     }
+    uint64_t most = control->at.live.most_bytes;
     uintptr_t address = (uintptr_t)tlsf_placed_malloc(&control->at, bytes, &word);
-    if (address == 0u) {
-        return allocate_below(control, (enum tlsf_status)word, bytes);
-    }
-    (void)__builtin_memcpy((unsigned char *)address - FRONT, &word, FRONT);
-    control->figures.blocks_live++;
-    count_bytes(control, 0, in_units(bytes) - FRONT);
-    return (void *)address;
+    return hand_out(control, address, word, most, bytes);
 }
 
 void *tlsf_memalign(tlsf_t tlsf, size_t align, size_t bytes)
 {
-    tlsf_heap_block block = {0, 0};
-    enum tlsf_status status = TLSF_NO_FIT;
-    bool good = align <= TLSF_MOST_ALIGN && (align & (align - 1u)) == 0u;
-    if (bytes == 0u || (good && align <= UNIT)) {
+    if (bytes == 0u || (align <= UNIT && (align & (align - 1u)) == 0u)) {
         return tlsf_malloc(tlsf, bytes);
     }
     LOCKED(tlsf);
     struct control *control = control_of(tlsf);
+    uint64_t word = TLSF_BAD_ALIGN;
+    uintptr_t address = 0;
     if (control == NULL) {
         return NULL;
     }
-    if (!good) {
-        return refuse(control, TLSF_REFUSED_ALIGNMENT, NULL, bytes);
+    uint64_t most = control->at.live.most_bytes;
+    if (align <= TLSF_MOST_ALIGN) {
+        address = (uintptr_t)tlsf_placed_memalign(&control->at, align, bytes, &word);
     }
-    if (bytes < TOO_GREAT) {
-        status = tlsf_heap_memalign(&control->at.heap, align, in_units(bytes), &block);
-    }
-    return status == TLSF_OK ? begin(control, block, in_units(bytes))
-                             : refuse_bytes(control, status, NULL, bytes);
+    return hand_out(control, address, word, most, bytes);
 }
 
 void tlsf_free(tlsf_t tlsf, void *ptr)
@@ -384,35 +333,34 @@ void tlsf_free(tlsf_t tlsf, void *ptr)
     }
     if (read_front(control, ptr, &word)
         && tlsf_placed_free(&control->at, (uintptr_t)ptr, word) == TLSF_OK) {
-        write_front(ptr, 0, 0);
-        control->figures.blocks_live--;
-        control->figures.bytes_live -= size_in(word, ptr) - FRONT;
+        write_front((uintptr_t)ptr, (uintptr_t)ptr);
     } else {
-        (void)refuse_pointer(control, ptr, 0);
+        (void)refuse_pointer(control, ptr, 0, word);
     }
 }
 
 /* The heap gives the new block before the old one is free: so they don't overlap. No one gets the
- * old one's bytes before the next call. Only a block that grows gets another place. */
+ * old one's bytes before the next call. */
 static void *resize(struct control *control, void *ptr, size_t size)
 {
+    uint64_t most = control->at.live.most_bytes;
     uint64_t front = 0;
+    uint64_t copied = 0;
     if (!read_front(control, ptr, &front)) {
-        return refuse_pointer(control, ptr, size);
+        return refuse_pointer(control, ptr, size, 0);
     }
     uint64_t word = front;
-    uintptr_t address = (uintptr_t)tlsf_placed_realloc(&control->at, (uintptr_t)ptr, size, &word);
+    uintptr_t address
+        = (uintptr_t)tlsf_placed_realloc(&control->at, (uintptr_t)ptr, size, &word, &copied);
     if (address == 0u) {
         enum tlsf_status status = (enum tlsf_status)word;
-        return status == TLSF_BAD_POINTER ? refuse_pointer(control, ptr, size)
+        return status == TLSF_BAD_POINTER ? refuse_pointer(control, ptr, size, front)
                                           : refuse_bytes(control, status, ptr, size);
     }
-    void *other = (void *)address;
-    size_t had = size_in(front, ptr);
-    count_bytes(control, had, size_in(word, other));
-    write_front(ptr, 0, 0);
-    (void)__builtin_memcpy((unsigned char *)other - FRONT, &word, FRONT);
-    return other == ptr ? other : memcpy(other, ptr, had - FRONT);
+    write_front((uintptr_t)ptr, (uintptr_t)ptr);
+    write_front(address, word);
+    mark_most(control, most);
+    return copied == 0u ? ptr : memcpy((void *)address, ptr, (size_t)copied);
 }
 
 void *tlsf_realloc(tlsf_t tlsf, void *ptr, size_t size)
@@ -449,8 +397,12 @@ int tlsf_stats(tlsf_t tlsf, tlsf_figures *out)
         return -1;
     }
     size_t largest = tlsf_heap_largest_request(&control->at.heap);
-    *out = control->figures;
-    out->records_used = tlsf_heap_records_used(&control->at.heap);
+    *out = (tlsf_figures){.bytes_live = (size_t)control->at.live.bytes,
+                          .blocks_live = (size_t)control->at.live.blocks,
+                          .most_bytes_live = (size_t)control->at.live.most_bytes,
+                          .records = control->records,
+                          .records_used = tlsf_heap_records_used(&control->at.heap)};
+    (void)memcpy(out->refusals, control->refusals, sizeof out->refusals);
     if (largest != 0u) {
         out->largest_request = largest - FRONT;
         out->largest_free = largest - FRONT + (size_t)tlsf_heap_class_step(largest) - UNIT;
@@ -562,8 +514,8 @@ static int check(struct control *control, const struct pool *pool)
             counts.faults += counts.bytes == (own->reach == 0u ? 0u : own->reach + FRONT) ? 0 : 1;
         }
     }
-    bool counted = counts.blocks_live == control->figures.blocks_live
-                   && counts.bytes_live == control->figures.bytes_live;
+    bool counted = counts.blocks_live == control->at.live.blocks
+                   && counts.bytes_live == control->at.live.bytes;
     return pool == NULL && !counted ? -counts.faults - 1 : -counts.faults;
 }
 

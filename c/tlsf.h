@@ -100,7 +100,7 @@ enum tlsf_refusal {
     TLSF_REFUSED_TABLE_FULL = 1, /* a rest would be left, and no record is vacant */
     TLSF_REFUSED_POINTER = 2,    /* no live block has the pointer */
     TLSF_REFUSED_ALIGNMENT = 3,  /* no power of two, or above 2^21 */
-    TLSF_REFUSED_FRONT = 4,      /* a live block's pointer, but the 8 bytes in front were changed */
+    TLSF_REFUSED_FRONT = 4,      /* the 8 bytes in front are no block's: changed, or none begins there */
     TLSF_REFUSALS = 5
 };
 
@@ -111,9 +111,7 @@ typedef void (*tlsf_refusal_hook)(enum tlsf_refusal what, const void *ptr, size_
                                   void *user);
 
 /* Sets the hook that is told of each refusal from now on. A null pointer ends this (this call isn't
- * Conte's). To find out whether the 8 bytes in front of a live block were changed, a refused call
- * may walk the pool. It does so with or without a hook, and touches the table once for each block.
- * A request for 0 bytes, and to free a null pointer, are no refusals. */
+ * Conte's). A request for 0 bytes, and to free a null pointer, are no refusals. */
 void tlsf_set_refusal_hook(tlsf_t tlsf, tlsf_refusal_hook hook, void *user);
 
 /* Figures of a heap. The bytes of a block are those that tlsf_block_size tells. */
@@ -185,9 +183,9 @@ size_t tlsf_sure_bytes(uint32_t blocks, size_t bytes, size_t largest);
 #define TLSF_HAS(units, power) ((units) >= (uint64_t)1 << (power))
 /* What a heap takes in front of its table. */
 #if UINTPTR_MAX > 0xffffffff
-#define TLSF_CONTROL_BYTES ((size_t)392)
+#define TLSF_CONTROL_BYTES ((size_t)368)
 #else
-#define TLSF_CONTROL_BYTES ((size_t)344)
+#define TLSF_CONTROL_BYTES ((size_t)336)
 #endif
 
 /* Calls the walker with each block of the pool, live or free, in order of address. A null pointer

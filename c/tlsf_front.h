@@ -1,9 +1,9 @@
 /* tlsf_front.h: how tlsf.c brings a pointer back to its block. It belongs to tlsf.c, and is for no
  * program. Not proved.
  *
- * A block begins eight bytes in front of its pointer. These bytes, its front, keep the block's slot
- * and size, scrambled with the pointer: so a byte that is changed there shows, and a copy elsewhere.
- * Its place is as far behind the pool's first place as the pointer behind the first pointer.
+ * A block begins eight bytes in front of its pointer. These bytes, its front, keep a word that the
+ * proved calls give: the block's slot and size, scrambled with the pointer. So a byte that is changed
+ * there shows, and a copy elsewhere.
  */
 #ifndef TLSF_FRONT_H
 #define TLSF_FRONT_H
@@ -31,30 +31,45 @@ struct pool {
     struct control *control TLSF_HEAP_POINTER;
 };
 
-/* A heap whose pools have addresses. It begins with a new heap, and zeros. Then each pool is there
- * by tlsf_placed_add_pool: what is proved of the calls below rests on that. */
+/* What is live: the bytes of the blocks behind their fronts, the most that there were, and how many
+ * blocks there are. */
+struct live {
+    uint64_t bytes;
+    uint64_t most_bytes;
+    uint64_t blocks;
+};
+
+/* A heap whose pools have addresses. It begins with a new heap, and zeros. Then pools come and go, and
+ * blocks are asked for and freed, by the calls below alone: what is proved of them rests on that. */
 struct placed {
     tlsf_heap heap;
     struct pool pools[POOLS];
+    struct live live;
 };
 
 /* The proved calls. Addresses and words are numbers here. The word of a block is what stands in the
  * eight bytes in front of its address.
  *
  * tlsf_placed_malloc answers the address of a live block, a multiple of 16, and gives *word its word.
- * Where the heap refuses it answers 0, and *word is the status. tlsf_placed_free answers 0 exactly
- * where the block at the address is live and has this word, and TLSF_BAD_POINTER else.
- * tlsf_placed_block_size answers the bytes behind the front of that block, and 0 where there is none.
- * tlsf_placed_realloc gives it room for `bytes` bytes, and answers its address then, with the word in
- * *word. It copies no byte. Where it is refused it answers 0, and *word is the status.
+ * Where the heap refuses it answers 0, and *word is the status. tlsf_placed_memalign does the same, and
+ * the address is a multiple of `align`. tlsf_placed_free answers 0 exactly where the block at the
+ * address is live and has this word, and TLSF_BAD_POINTER else. tlsf_placed_block_size answers the
+ * bytes behind the front of that block, and 0 where there is none. tlsf_placed_realloc gives it room
+ * for `bytes` bytes, and answers its address then, with the word in *word. It copies no byte: *copied
+ * is how many the program copies there. Where it is refused it answers 0, and *word is the status.
  * tlsf_placed_has answers whether the address lies in a pool with the eight bytes in front of it.
- * tlsf_placed_add_pool adds a pool of `bytes` bytes, of which the eight in front of `first` are the
- * first, and gives *entry the number of its entry. It refuses one that overlaps another. */
+ * tlsf_placed_told_size answers the bytes behind the front that a word tells, and 0 where it is no word for
+ * this address. tlsf_placed_add_pool adds a pool of `bytes` bytes, of which the eight in front of
+ * `first` are the first, and gives *entry the number of its entry. It refuses one that overlaps
+ * another. */
 uint64_t tlsf_placed_malloc(struct placed *heap, uint64_t bytes, uint64_t *word);
+uint64_t tlsf_placed_memalign(struct placed *heap, uint64_t align, uint64_t bytes, uint64_t *word);
 enum tlsf_status tlsf_placed_free(struct placed *heap, uint64_t address, uint64_t word);
 uint64_t tlsf_placed_block_size(struct placed *heap, uint64_t address, uint64_t word);
-uint64_t tlsf_placed_realloc(struct placed *heap, uint64_t address, uint64_t bytes, uint64_t *word);
+uint64_t tlsf_placed_realloc(struct placed *heap, uint64_t address, uint64_t bytes, uint64_t *word,
+                             uint64_t *copied);
 bool tlsf_placed_has(const struct placed *heap, uint64_t address);
+uint64_t tlsf_placed_told_size(uint64_t address, uint64_t word);
 enum tlsf_status tlsf_placed_add_pool(struct placed *heap, uint64_t first, uint64_t bytes,
                                       uint64_t place, uint32_t *entry);
 enum tlsf_status tlsf_placed_remove_pool(struct placed *heap, uint32_t entry);
@@ -63,20 +78,13 @@ enum tlsf_status tlsf_placed_remove_pool(struct placed *heap, uint32_t entry);
 struct control {
     uintptr_t magic;
     struct placed at;
-    tlsf_figures figures; /* those that the heap can't tell */
+    uint32_t records;
+    size_t refusals[TLSF_REFUSALS];
     tlsf_refusal_hook hook;
     void *user;
     uint64_t mark; /* a sum over it, but for what a check counts again */
 };
 
-/* A front is a size in units and a slot, 42 bits, times an odd number, and the pointer added. The
- * other number undoes it. With a changed byte that gives more bits. */
-#define SCRAMBLE 0x9e3779b97f4a7c15u
-#define UNSCRAMBLE 0xf1de83e19937733du
-#define SLOT_BITS 16u
-#define FRONT_BITS 42u
-
-typedef char scrambling_is_undone[SCRAMBLE * UNSCRAMBLE == 1u ? 1 : -1];
 typedef char control_is_told[sizeof(struct control) == TLSF_CONTROL_BYTES ? 1 : -1];
 
 /* Eight bytes are copied by __builtin_memcpy: a load and a store, also where -ffreestanding takes
@@ -92,45 +100,16 @@ static inline struct control *control_of(void *tlsf)
     return magic == (uintptr_t)tlsf + MAGIC ? (struct control *)tlsf : NULL;
 }
 
-/* The size and slot that the front of a pointer keeps: more than 42 bits where it isn't whole. */
-static inline uint64_t kept_in(uint64_t word, const void *ptr)
+/* The word of a live block is written in front of its pointer, and a freed block's pointer itself: it
+ * tells no size. */
+static inline void write_front(uintptr_t address, uint64_t word)
 {
-    return (word - (uintptr_t)ptr) * UNSCRAMBLE;
-}
-static inline size_t size_in(uint64_t word, const void *ptr)
-{
-    return (size_t)(kept_in(word, ptr) >> SLOT_BITS) * UNIT;
-}
-static inline uint64_t unscrambled(const void *ptr)
-{
-    uint64_t front;
-    (void)__builtin_memcpy(&front, (const unsigned char *)ptr - FRONT, FRONT);
-    return kept_in(front, ptr);
-}
-
-static inline void write_front(void *ptr, size_t size, uint64_t slot)
-{
-    uint64_t front = (((uint64_t)(size / UNIT) << SLOT_BITS) + slot) * SCRAMBLE + (uintptr_t)ptr;
-    (void)__builtin_memcpy((unsigned char *)ptr - FRONT, &front, FRONT);
+    (void)__builtin_memcpy((unsigned char *)address - FRONT, &word, FRONT);
 }
 
 static inline bool has_pointer(const struct pool *pool, const void *ptr)
 {
     return (uintptr_t)ptr - pool->first < pool->reach;
-}
-
-/* The pool that has a place, or where that is null a pointer; or none. */
-RARE static const struct pool *pool_of(const struct control *control, const uint32_t *place,
-                                       const void *ptr)
-{
-    const struct pool *pool = NULL;
-    for (uint32_t k = 0; k < POOLS && pool == NULL; k++) {
-        const struct pool *own = &control->at.pools[k];
-        bool has = place == NULL ? has_pointer(own, ptr)
-                                 : (uint32_t)(*place - own->place) < own->reach;
-        pool = has ? own : NULL;
-    }
-    return pool;
 }
 
 /* Whether a pointer lies in a pool of the heap: then the word in front of it. Whether that is the word

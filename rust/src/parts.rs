@@ -46,7 +46,7 @@ impl Part {
 
     /// The bytes of its heap's table.
     const fn table(self) -> u64 {
-        let control = if size_of::<usize>() == 8 { 392 } else { 344 };
+        let control = if size_of::<usize>() == 8 { 368 } else { 336 };
         control + 1704 + 16 * self.blocks as u64
     }
 

@@ -179,10 +179,12 @@ static bool has_below(const struct heap *heap, size_t m, size_t align)
     size_t fitting = 0, others = 0;
     for (size_t k = 0; k < heap->count; k++) {
         bool of = m != 0 && is_of(&heap->blocks[k], class_of(m));
-        fitting += of && heap->blocks[k].size >= m;
-        others += of && heap->blocks[k].size < m;
+        bool fits = of && heap->blocks[k].size >= m
+                    && heap->count + rests(&heap->blocks[k], align, m) <= heap->records;
+        fitting += fits;
+        others += of && !fits;
     }
-    return align <= 16 && fitting > 0 && others == 0 && heap->count < heap->records;
+    return align <= 16 && best_class(heap, m) == CLASSES && fitting > 0 && others == 0;
 }
 
 /* The block at `at` becomes a rest, a live block and a rest. */
@@ -220,7 +222,7 @@ static bool takes(struct heap *heap, unsigned char *given, size_t m, size_t alig
         struct block *block = &heap->blocks[k];
         if (given > block->start && given < block->start + block->size) {
             unsigned char *start = given - FRONT;
-            size_t more = below ? 1 : rests(block, align, m);
+            size_t more = rests(block, align, m);
             if (m == 0 || !is_of(block, class) || block->size < m
                 || start != start_in(block, align) || heap->count + more > heap->records) {
                 return false;
@@ -346,11 +348,11 @@ static bool figures_agree(struct heap *heap)
            && told.bytes_free == sums.bytes - sums.live - FRONT * sums.blocks
            && told.records == heap->records && told.records_used == heap->count
            && told.largest_request == request && told.largest_free == free
-           && told.refusals[TLSF_REFUSED_POINTER] == heap->bad_pointers
+           && told.refusals[TLSF_REFUSED_POINTER] + told.refusals[TLSF_REFUSED_FRONT]
+                  == heap->bad_pointers
            && told.refusals[TLSF_REFUSED_ALIGNMENT] == heap->bad_aligns
            && told.refusals[TLSF_REFUSED_NO_FIT] + told.refusals[TLSF_REFUSED_TABLE_FULL]
-                  == heap->unserved
-           && told.refusals[TLSF_REFUSED_FRONT] == 0;
+                  == heap->unserved;
 }
 
 static size_t some_bytes(void)

@@ -79,34 +79,34 @@ static bool is_no_heap(unsigned char *at)
 
 static void creates(void)
 {
-    size_t least = control_bytes(1) + 24;
+    size_t least = control_bytes(1) + 24; /* eight fewer at a multiple of 16 */
     expect(tlsf_create(NULL) == NULL && tlsf_create_with_pool(NULL, 1 << 20) == NULL,
            "no memory, no heap");
     expect(tlsf_create(memory + 4) == NULL && tlsf_create_with_pool(memory + 1, 1 << 15) == NULL,
            "memory at no multiple of 8, no heap");
-    expect(tlsf_create_with_pool(memory, least) != NULL
-               && tlsf_create_with_pool(memory, least - 1) == NULL,
+    expect(tlsf_create_with_pool(memory, least - 8) != NULL
+               && tlsf_create_with_pool(memory, least - 9) == NULL,
            "the least with a pool, at a multiple of 16");
-    expect(tlsf_create_with_pool(memory + 8, least - 8) != NULL
-               && tlsf_create_with_pool(memory + 8, least - 9) == NULL,
+    expect(tlsf_create_with_pool(memory + 8, least) != NULL
+               && tlsf_create_with_pool(memory + 8, least - 1) == NULL,
            "the least with a pool, at another of 8");
     expect(tlsf_create_with_pool(memory, 0) == NULL && tlsf_create_with_pool(memory, 100) == NULL,
            "too few bytes, no heap");
     expect(tlsf_create_records(memory, 1 << 16, 0) == NULL && is_no_heap(memory)
                && tlsf_create_records(memory, SIZE_MAX / 2, 65536) == NULL && is_no_heap(memory),
            "records: none, or too many");
-    tlsf_t tlsf = tlsf_create_records(memory, control_bytes(1), 1);
+    tlsf_t tlsf = tlsf_create_records(memory, control_bytes(1) - 8, 1);
     expect(tlsf != NULL && tlsf_get_pool(tlsf) == NULL
-               && tlsf_create_records(memory, control_bytes(1) - 1, 1) == NULL,
+               && tlsf_create_records(memory, control_bytes(1) - 9, 1) == NULL,
            "one record, and no byte for a pool");
     expect(tlsf_size_records(1) == control_bytes(1) && tlsf_size_records(RECORDS) == tlsf_size()
                && tlsf_create_records(memory + 8, tlsf_size_records(1), 1) != NULL
                && tlsf_get_pool(memory + 8) == NULL,
            "tlsf_size_records: the bytes of a heap without a pool");
-    expect(tlsf_create_records(memory, control_bytes(1) + 23, 1) != NULL
+    expect(tlsf_create_records(memory, control_bytes(1) + 15, 1) != NULL
                && tlsf_get_pool(memory) == NULL,
            "23 bytes are no pool");
-    expect(tlsf_create_records(memory, control_bytes(1) + 24, 1) != NULL
+    expect(tlsf_create_records(memory, control_bytes(1) + 16, 1) != NULL
                && tlsf_get_pool(memory) != NULL,
            "24 bytes are one");
     expect(tlsf_malloc(memory + 4, 1) == NULL && tlsf_check(memory + 4) == -1,
@@ -128,7 +128,7 @@ static bool has_records(void *mem, size_t bytes, size_t records)
     while (tlsf_malloc(tlsf, 1) != NULL) {}
     struct counted counted = count(tlsf_get_pool(tlsf));
     bool good = counted.live + counted.free == records
-                && counted.bytes == bytes - control_bytes(records) - 16;
+                && counted.bytes == (bytes - control_bytes(records)) / 16 * 16;
     good = good && tlsf_check(tlsf) == 0 && tlsf_malloc(tlsf, 1) == NULL;
     tlsf_destroy(tlsf);
     return good;
@@ -259,10 +259,10 @@ static void tight_fits(void)
     expect(one != NULL && has(tlsf_get_pool(tlsf), 1, 0), "all that it has is served");
     tlsf = tlsf_create_records(memory, control_bytes(1), 1);
     tlsf_add_pool(tlsf, other_memory, 2080 + 16);
-    expect(tlsf_malloc(tlsf, 2072) == NULL && has(tlsf_get_pool(tlsf), 0, 1),
-           "with one record it isn't: the smaller block has a rest");
     expect(tlsf_memalign(tlsf, 32, 2072) == NULL && has(tlsf_get_pool(tlsf), 0, 1),
-           "nor with an alignment above 16");
+           "with an alignment above 16 it isn't");
+    expect(tlsf_malloc(tlsf, 2072) != NULL && has(tlsf_get_pool(tlsf), 1, 0),
+           "it is with one record, since there is no rest");
 }
 
 static void alignments(unsigned char *large)
@@ -855,13 +855,13 @@ static void refused_once(void)
            && was_told(&other, 1, TLSF_REFUSED_NO_FIT, NULL, 40000);
     expect(good, "a hook that is set anew gets the new user");
     tlsf = tlsf_create_records(memory, control_bytes(1), 1);
-    tlsf_add_pool(tlsf, other_memory, 2080 + 16);
+    tlsf_add_pool(tlsf, other_memory, 2096 + 16);
     tlsf_set_refusal_hook(tlsf, tell, &told);
     good = tlsf_malloc(tlsf, 2072) == NULL
            && was_told(&told, 1, TLSF_REFUSED_TABLE_FULL, NULL, 2072);
     expect(good && refused(tlsf, TLSF_REFUSED_TABLE_FULL) == 1
                && refused(tlsf, TLSF_REFUSED_NO_FIT) == 0,
-           "a block of the class below without a record is told: table full");
+           "a block of the class below, without a record for its rest, is told: table full");
     tlsf = tlsf_create_records(memory, control_bytes(2), 2);
     tlsf_add_pool(tlsf, other_memory, 2080 + 16);
     tlsf_set_refusal_hook(tlsf, tell, &told);
@@ -890,11 +890,11 @@ static void refused_pointers(void)
     memset(two, 0x5a, 100);
     tlsf_free(tlsf, one);
     expect(both_tell(tlsf, &told, TLSF_REFUSED_POINTER, one)
-               && both_tell(tlsf, &told, TLSF_REFUSED_POINTER, two + 16)
+               && both_tell(tlsf, &told, TLSF_REFUSED_FRONT, two + 16)
                && both_tell(tlsf, &told, TLSF_REFUSED_POINTER, two + 1)
                && both_tell(tlsf, &told, TLSF_REFUSED_POINTER, on_stack + 16)
                && both_tell(tlsf, &told, TLSF_REFUSED_POINTER, tlsf),
-           "a stale, an interior and a foreign pointer are told");
+           "a stale, an interior and a foreign pointer are told, and where no front can be");
     tlsf_add_pool(tlsf, other_memory, 4096);
     unsigned char *blocks[2] = {two, NULL}, kept[8];
     while (blocks[1] < other_memory || blocks[1] >= other_memory + 4096) {

@@ -27,7 +27,7 @@ static uint64_t below(uint64_t bound)
 /* ---- the bytes ---- */
 
 /* 2,130 blocks of 80 bytes and 16 more for each record; the heap's 1,696, its start, and twice 8. */
-#define START (sizeof(void *) == 8 ? 392 : 344)
+#define START (sizeof(void *) == 8 ? 368 : 336)
 _Static_assert(TLSF_PART_BYTES(64, 2130) == 2130 * (80 + 16) + 1696 + START + 16, "a part");
 #define LIST(part) part(64, 2130) part(2048, 41) part(335872, 1)
 _Static_assert(TLSF_PARTS_BYTES(LIST) - TLSF_PARTS_OWN
@@ -36,7 +36,7 @@ _Static_assert(TLSF_PARTS_BYTES(LIST) - TLSF_PARTS_OWN
                "three parts");
 _Static_assert(TLSF_CLASS_SIZE(TLSF_WITH_FRONT(335872)) == 344064, "the lowest size of a class");
 _Static_assert(TLSF_CLASS_SIZE(TLSF_WITH_FRONT(2048)) == 2112, "the class above 2,056 bytes");
-_Static_assert(TLSF_SURE_BYTES(60, 60 * 1040, 1040) == 130896 - (392 - START), "what is enough");
+_Static_assert(TLSF_SURE_BYTES(60, 60 * 1040, 1040) == 130872 - (368 - START), "what is enough");
 _Static_assert(TLSF_SURE_BYTES(0, 0, 0) == 0 && TLSF_SURE_BYTES(32767, 16, 16) == 0
                    && TLSF_SURE_BYTES(1, 1073741808, 16) == 0
                    && TLSF_SURE_BYTES(1, 16, 1056964601) == 0,
@@ -170,13 +170,13 @@ static void bad_pointers(void)
     for (unsigned char *at = large + 16; at < large + 2000; at += 16) {
         tlsf_parts_free(parts, at);
     }
-    expect(told.count == 124 && told.what == TLSF_REFUSED_POINTER, "pointers into a block");
+    expect(told.count == 124 && told.what == TLSF_REFUSED_FRONT, "pointers into a block");
     told.count = 0;
     tlsf_parts_free(parts, &local);
     expect(was_told(TLSF_REFUSED_POINTER, &local, 0), "a pointer into no part");
     expect(tlsf_parts_realloc(parts, &local, 7) == NULL && was_told(TLSF_REFUSED_POINTER, &local, 7)
                && tlsf_parts_realloc(parts, large + 16, 8) == NULL
-               && was_told(TLSF_REFUSED_POINTER, large + 16, 8),
+               && was_told(TLSF_REFUSED_FRONT, large + 16, 8),
            "realloc of these");
     expect(aligned != NULL && (uintptr_t)aligned % 1024 == 0
                && tlsf_parts_live_size(parts, aligned) >= 900,

@@ -1,225 +1,61 @@
--- A block that malloc gives lies in a range of the pools, and has the bytes asked for, rounded up.
-use Rattle.std.proofs.Common.{sym, ◌≡◌, ℕ, ◌+◌, ◌-◌, ◌*◌, ◌/◌, ◌<◌, ◌≤◌, List, [], ◌∷◌, ◌++◌, map, count_by, refl, ap, ◌∙◌, subst, arith, Some, Ok, inl, inr, Bool, true, false}
+-- What is known of a block that malloc or memalign gave: its size, that it lies in a pool, and its figures.
+use Rattle.std.proofs.Common.{◌≡◌, ℕ, ◌+◌, ◌*◌, ◌/◌, ◌%◌, true, map, refl, ap, ◌∙◌, subst, arith, Ok, IfOk}
 use Rattle.std.specs.Prelude.{◌==◌}
-use Rattle.std.specs.List.{AllByRecursion, Contains}
-use Rattle.std.proofs.lemmas.Bool.{cases_Bool, cases_lt, eq-eqb, eqb-true, ne_eqb}
+use Rattle.std.proofs.lemmas.Bool.{eq-eqb}
 use Rattle.tlsf_class.proofs.RoundingLaws.{round-Some}
-use Rattle.tlsf_heap.specs.BlockSize.{block_size}
-use Rattle.tlsf_heap.specs.Content.{Block, Pool, Content, blocks_of, is_at, size_at}
+use Rattle.tlsf_heap.specs.Content.{Content, blocks_of, size_at}
 use Rattle.tlsf_heap.specs.Counted.{range_of}
 use Rattle.tlsf_heap.specs.Free.{is_live}
-use Rattle.tlsf_heap.specs.Good.{Covers, AreGoodPools, IsGood}
-use Rattle.tlsf_heap.specs.Malloc.{gap, replaced, replaced_in, split, malloc}
-use Rattle.tlsf_heap.proofs.Counts.{one_if, count-cons, count-append}
-use Rattle.tlsf_heap.proofs.Content.Blocks.{Ascends, Ascends-pools}
-use Rattle.tlsf_heap.proofs.Content.Given.{malloc_gave}
-use Rattle.tlsf_heap.proofs.Content.Replacing.{blocks_of-replaced}
-use Rattle.tlsf_heap.proofs.Good.MallocIsGood.{Covers-le, all-append, picked}
-use Rattle.tlsf_heap.proofs.Good.StaysLive.{found_stands, live_given}
+use Rattle.tlsf_heap.specs.Good.{IsGood}
+use Rattle.tlsf_heap.specs.Memalign.{memalign}
+use Rattle.tlsf_heap.specs.OwnClass.{malloc_or_own}
 use Rattle.tlsf_heap.specs.Pointer.{Pointer, block_size_ptr}
-use Rattle.tlsf_region.proofs.Ends.{live_is_there}
-use Rattle.tlsf_region.proofs.Sizes.{size_is}
+use Rattle.tlsf_heap.proofs.Good.GivenSizes.{AreRounded, memalign_sized}
+use Rattle.tlsf_heap.proofs.Good.AlignedStaysLive.{aligned_gives, live_aligned}
+use Rattle.tlsf_heap.proofs.Good.LiveBlocks.{live_here, size_here}
+use Rattle.tlsf_heap.proofs.Good.OwnClass.{or_own_live, or_own_sized, or_own_gives}
+use Rattle.tlsf_heap.proofs.Good.StaysLive.{Gives}
+use Rattle.tlsf_region.proofs.Ranges.{ranges, malloc_or_own_ranges, memalign_ranges}
 use Rattle.tlsf_c.specs.Lying.{LiesIn}
-use Rattle.tlsf_c.proofs.Stands.{never_stands, stands_first, stands_first_or_later, stands_later}
+use Rattle.tlsf_c.proofs.LiveBlock.{live_lies}
+use Rattle.tlsf_c.proofs.ResizedBlock.{live_units}
 
-module _ (base end : ℕ) where
-  -- a block that begins from the base on and before the end doesn't go beyond the end
-  abbrev EndsThere : Block ℕ → Type 0
-  EndsThere block = base ≤ block.place → block.place < end → block.place + block.size ≤ end
+-- a call gave the block for these bytes
+pub record IsGiven (bytes : ℕ) (ptr : Pointer) (old new : Content ℕ) : Type 0 where
+  pub gives : Gives ptr.slot ptr.place old new
+  pub live : is_live (λ slot. slot == ptr.slot) ptr.place (blocks_of new.pools) ≡ true
+  pub sized : AreRounded bytes ptr.place new
+  pub same_ranges : ranges new ≡ ranges old
 
-  -- the blocks up to the end, those before the base, and those from the end on
-  there : (from to : ℕ) (blocks : List (Block ℕ)) → to ≤ end → Covers from to blocks → AllByRecursion EndsThere blocks
-  there from to [] most covers = tt
-  there from to (block ∷ blocks) most covers = (
-    λ above below. omega (arith, covers.0, Covers-le (from + block.size) to blocks covers.3, most),
-    there (from + block.size) to blocks most covers.3,
-  )
+pub or_own_given : (bytes : ℕ) (ptr : Pointer) (old new : Content ℕ) → IsGood old → malloc_or_own ptr.slot bytes old ≡ Ok (ptr.place, new) → IsGiven bytes ptr old new
+or_own_given bytes ptr old new good served = record {
+  gives = or_own_gives old good ptr.slot bytes (ptr.place, new) served;
+  live = or_own_live old good ptr.slot bytes (ptr.place, new) served (λ slot. slot == ptr.slot) (eq-eqb ptr.slot ptr.slot refl);
+  sized = or_own_sized old good ptr.slot bytes (ptr.place, new) served;
+  same_ranges = subst (λ answer. IfOk answer (λ given. ranges given.1 ≡ ranges old)) served (malloc_or_own_ranges ptr.slot bytes old);
+}
 
-  before : (from to : ℕ) (blocks : List (Block ℕ)) → to ≤ base → Covers from to blocks → AllByRecursion EndsThere blocks
-  before from to [] most covers = tt
-  before from to (block ∷ blocks) most covers = (
-    λ above below. absurd (omega (arith, above, covers.0, covers.1, Covers-le (from + block.size) to blocks covers.3, most)),
-    before (from + block.size) to blocks most covers.3,
-  )
+pub aligned_given : (align bytes : ℕ) (ptr : Pointer) (old new : Content ℕ) → IsGood old → memalign ptr.slot align bytes old ≡ Ok (ptr.place, new) → IsGiven bytes ptr old new
+aligned_given align bytes ptr old new good served = record {
+  gives = aligned_gives (λ slot. slot == ptr.slot) ptr.slot align bytes old new ptr.place good served;
+  live = live_aligned (λ slot. slot == ptr.slot) ptr.slot align bytes old new ptr.place good served (eq-eqb ptr.slot ptr.slot refl);
+  sized = memalign_sized ptr.slot align bytes old (ptr.place, new) good served;
+  same_ranges = subst (λ answer. IfOk answer (λ given. ranges given.1 ≡ ranges old)) served (memalign_ranges ptr.slot align bytes old);
+}
 
-  behind : (from to : ℕ) (blocks : List (Block ℕ)) → end ≤ from → Covers from to blocks → AllByRecursion EndsThere blocks
-  behind from to [] least covers = tt
-  behind from to (block ∷ blocks) least covers = (
-    λ above below. absurd (omega (arith, below, covers.0, least)),
-    behind (from + block.size) to blocks (omega (arith, least)) covers.3,
-  )
+module _ (bytes : ℕ) (ptr : Pointer) (old new : Content ℕ) (good : IsGood new) (is : IsGiven bytes ptr old new) where
+  pub given_size : block_size_ptr ptr new ≡ Ok ((bytes + 15) / 16 * 16)
+  given_size =
+      let told : block_size_ptr ptr new ≡ Ok (size_at ptr.place (blocks_of new.pools)) = rw is.live refl in
+      let here = live_here (λ slot. slot == ptr.slot) ptr.place new is.live in
+      let rounded = is.sized here.0 here.1 here.3 here.2 in
+      let rounds = round-Some bytes rounded.0 rounded.1 in
+      let size = size_here ptr.place new here.0 good here.1 here.2 in
+      let value : size_at ptr.place (blocks_of new.pools) ≡ (bytes + 15) / 16 * 16 = omega (arith, size, rounded.2, rounds.whole, rounds.least, rounds.near) in
+      told ∙ ap (λ (size : ℕ). Ok size) value
 
-  pools_behind : (from : ℕ) (pools : List (Pool ℕ)) → end ≤ from → AreGoodPools from pools → AllByRecursion EndsThere (blocks_of pools)
-  pools_behind from [] least good = tt
-  pools_behind from (pool ∷ pools) least good =
-      all-append EndsThere pool.blocks (blocks_of pools)
-      (behind pool.base (pool.base + pool.bytes) pool.blocks (omega (arith, least, good.0)) good.1.covered)
-      (pools_behind (pool.base + pool.bytes) pools (omega (arith, least, good.0)) good.2)
+  pub given_lies : LiesIn ptr.place ((bytes + 15) / 16 * 16) (map range_of old.pools)
+  given_lies = subst (LiesIn ptr.place ((bytes + 15) / 16 * 16)) is.same_ranges (live_lies ptr ((bytes + 15) / 16 * 16) new good given_size)
 
--- a pool of good ones begins above where they may
-above_from : (range : ℕ × ℕ) (from : ℕ) (pools : List (Pool ℕ)) → AreGoodPools from pools → Contains (map range_of pools) range → from ≤ range.0
-above_from range from [] good has = never_stands range has
-above_from range from (pool ∷ pools) good has = elim (stands_first_or_later (range_of pool) range (map range_of pools) has) [
-  | inl here ↦ omega (arith, good.0, ap (λ (r : ℕ × ℕ). r.0) here)
-  | inr later ↦ omega (arith, good.0, above_from range (pool.base + pool.bytes) pools good.2 later)
-]
-
--- a block that begins in a range of the pools ends there
-ends_there : (range : ℕ × ℕ) (from : ℕ) (pools : List (Pool ℕ)) → AreGoodPools from pools → Contains (map range_of pools) range → AllByRecursion (EndsThere range.0 (range.0 + range.1)) (blocks_of pools)
-ends_there range from [] good has = tt
-ends_there range from (pool ∷ pools) good has = elim (stands_first_or_later (range_of pool) range (map range_of pools) has) [
-  | inl here ↦
-      let base_is : pool.base ≡ range.0 = ap (λ (r : ℕ × ℕ). r.0) here in
-      let bytes_are : pool.bytes ≡ range.1 = ap (λ (r : ℕ × ℕ). r.1) here in
-      all-append (EndsThere range.0 (range.0 + range.1)) pool.blocks (blocks_of pools)
-      (there range.0 (range.0 + range.1) pool.base (pool.base + pool.bytes) pool.blocks (omega (arith, base_is, bytes_are)) good.1.covered)
-      (pools_behind range.0 (range.0 + range.1) (pool.base + pool.bytes) pools (omega (arith, base_is, bytes_are)) good.2)
-  | inr later ↦
-      all-append (EndsThere range.0 (range.0 + range.1)) pool.blocks (blocks_of pools)
-      (before range.0 (range.0 + range.1) pool.base (pool.base + pool.bytes) pool.blocks (above_from range (pool.base + pool.bytes) pools good.2 later) good.1.covered)
-      (ends_there range (pool.base + pool.bytes) pools good.2 later)
-]
-
-found_has : (P : Block ℕ → Type 0) (front : List (Block ℕ)) (block : Block ℕ) (back : List (Block ℕ)) → AllByRecursion P (front ++ block ∷ back) → P block
-found_has P [] block back all = all.0
-found_has P (other ∷ front) block back all = found_has P front block back all.1
-
--- a place where a block begins is in the range that the blocks cover
-covers_has : (place from to : ℕ) (blocks : List (Block ℕ)) → Covers from to blocks → 1 ≤ count_by (is_at place) blocks → (from ≤ place) × (place < to)
-covers_has place from to [] covers some = absurd (omega (arith, some))
-covers_has place from to (block ∷ blocks) covers some = elim (cases_Bool (is_at place block)) [
-  | inl here ↦
-      let at = eqb-true block.place place here in
-      let rest = Covers-le (from + block.size) to blocks covers.3 in
-      (omega (arith, at, covers.0), omega (arith, at, covers.0, covers.1, rest))
-  | inr elsewhere ↦
-      let rest = covers_has place (from + block.size) to blocks covers.3 (omega (arith, some, count-cons (is_at place) block blocks, ap one_if elsewhere)) in
-      (omega (arith, rest.0), rest.1)
-]
-
-in_a_range : (place from : ℕ) (pools : List (Pool ℕ)) → AreGoodPools from pools → 1 ≤ count_by (is_at place) (blocks_of pools)
-    → (range : ℕ × ℕ) × Contains (map range_of pools) range × (range.0 ≤ place) × (place < range.0 + range.1)
-in_a_range place from [] good some = absurd (omega (arith, some))
-in_a_range place from (pool ∷ pools) good some = elim (cases_lt 0 (count_by (is_at place) pool.blocks)) [
-  | inl here ↦
-      let has = covers_has place pool.base (pool.base + pool.bytes) pool.blocks good.1.covered (omega (arith, here)) in
-      (range_of pool, stands_first (range_of pool) (map range_of pools), has.0, has.1)
-  | inr none ↦
-      let rest = in_a_range place (pool.base + pool.bytes) pools good.2 (omega (arith, some, none, count-append (is_at place) pool.blocks (blocks_of pools))) in
-      (rest.0, stands_later (range_of pool) rest.0 (map range_of pools) rest.1, rest.2, rest.3)
-]
-
-pub given_lies : (slot n place : ℕ) (old new : Content ℕ) → IsGood old → malloc slot n old ≡ Ok (place, new) → LiesIn place n (map range_of old.pools)
-given_lies slot n place old new good e =
-    let gave = malloc_gave slot old n (place, new) e in
-    let asked : ℕ = gave.0 in
-    let same : gave.1 ≡ place = ap (λ (given : ℕ × Content ℕ). given.0) gave.4 in
-    let by = picked asked gave.1 old good gave.3 in
-    let here = by.found.here in
-    let counted : 1 ≤ count_by (is_at gave.1) (blocks_of old.pools) = found_stands (is_at gave.1) gave.1 (blocks_of old.pools) by.found (eq-eqb by.found.block.place gave.1 here) in
-    let there = in_a_range gave.1 0 old.pools good.pools_good counted in
-    record {
-      range = there.0;
-      of_ranges = there.1;
-      from = omega (arith, same, there.2);
-      below = omega (arith, same, there.3);
-      ends = λ other has above below.
-          let all = subst (λ (blocks : List (Block ℕ)). AllByRecursion (EndsThere other.0 (other.0 + other.1)) blocks) by.found.whole (ends_there other 0 old.pools good.pools_good has) in
-          let ends = found_has (EndsThere other.0 (other.0 + other.1)) by.found.front by.found.block by.found.back all in
-          omega (arith, same, here, by.size_is, by.holds, (round-Some n asked gave.2).least, ends (omega (arith, same, here, above)) (omega (arith, same, here, below)));
-    }
-
--- the size at a place where a block gave way to another
-size_replaced : (place m : ℕ) (slot : ℕ) (rest blocks : List (Block ℕ)) → 1 ≤ count_by (is_at place) blocks → size_at place (replaced place (record { place = place; size = m; owner = Some slot } ∷ rest) blocks) ≡ m
-size_replaced place m slot rest [] some = absurd (omega (arith, some))
-size_replaced place m slot rest (block ∷ blocks) some = elim (cases_Bool (is_at place block)) [
-  | inl here ↦ rw (here, eq-eqb place place refl) refl
-  | inr elsewhere ↦
-      let left = size_replaced place m slot rest blocks (omega (arith, some, count-cons (is_at place) block blocks, ap one_if elsewhere)) in
-      rw (elsewhere, elsewhere) left
-]
-
-pub given_size : (slot n place : ℕ) (old new : Content ℕ) → IsGood old → malloc slot n old ≡ Ok (place, new) → block_size (λ other. other == slot) place new ≡ Ok ((n + 15) / 16 * 16)
-given_size slot n place old new good e =
-    let gave = malloc_gave slot old n (place, new) e in
-    let asked : ℕ = gave.0 in
-    let by = picked asked gave.1 old good gave.3 in
-    let here = by.found.here in
-    let counted : 1 ≤ count_by (is_at gave.1) (blocks_of old.pools) = found_stands (is_at gave.1) gave.1 (blocks_of old.pools) by.found (eq-eqb by.found.block.place gave.1 here) in
-    let old_size : ℕ = size_at gave.1 (blocks_of old.pools) in
-    let rounds = round-Some n asked gave.2 in
-    let value : asked ≡ (n + 15) / 16 * 16 = omega (arith, rounds.whole, rounds.least, rounds.near) in
-    let size : size_at gave.1 (blocks_of (map (replaced_in gave.1 (split slot gave.1 asked old_size)) old.pools)) ≡ asked =
-    ap (size_at gave.1) (blocks_of-replaced gave.1 (split slot gave.1 asked old_size) old.pools) ∙ size_replaced gave.1 asked slot (gap (gave.1 + asked) (old_size - asked)) (blocks_of old.pools) counted in
-    let now : size_at place (blocks_of new.pools) ≡ asked = subst (λ (g : ℕ × Content ℕ). size_at g.0 (blocks_of g.1.pools) ≡ asked) gave.4 size in
-    let live = live_given (λ other. other == slot) slot n place old new good e (eq-eqb slot slot refl) in
-    let told : block_size (λ other. other == slot) place new ≡ Ok (size_at place (blocks_of new.pools)) = rw live refl in
-    told ∙ ap (λ (size : ℕ). Ok size) (now ∙ value)
-
--- a block begins at the place of a live one
-live_counted : (is_meant : ℕ → Bool) (place : ℕ) (blocks : List (Block ℕ)) → is_live is_meant place blocks ≡ true → 1 ≤ count_by (is_at place) blocks
-live_counted is_meant place [] live = absurd (cc)
-live_counted is_meant place (block ∷ blocks) live = elim (cases_Bool (is_at place block)) [
-  | inl here ↦ omega (arith, count-cons (is_at place) block blocks, ap one_if here)
-  | inr elsewhere ↦
-      let same : is_live is_meant place (block ∷ blocks) ≡ is_live is_meant place blocks = rw elsewhere refl in
-      omega (arith, count-cons (is_at place) block blocks, ap one_if elsewhere, live_counted is_meant place blocks (sym same ∙ live))
-]
-
--- a live block lies in a range of the pools
-pub live_lies : (ptr : Pointer) (size : ℕ) (content : Content ℕ) → IsGood content → block_size_ptr ptr content ≡ Ok size → LiesIn ptr.place size (map range_of content.pools)
-live_lies ptr size content good e =
-    let is = size_is ptr content size e in
-    let counted = live_counted (λ slot. slot == ptr.slot) ptr.place (blocks_of content.pools) is.0 in
-    let there = in_a_range ptr.place 0 content.pools good.pools_good counted in
-    record {
-      range = there.0;
-      of_ranges = there.1;
-      from = there.2;
-      below = there.3;
-      ends = λ other has above below.
-          let block = live_is_there (EndsThere other.0 (other.0 + other.1)) (λ slot. slot == ptr.slot) ptr.place (blocks_of content.pools) (ends_there other 0 content.pools good.pools_good has) is.0 in
-          omega (arith, is.1, block.2, block.3, block.1 (omega (arith, above, block.2)) (omega (arith, below, block.2)));
-    }
-
--- of blocks in order, one begins at or above where they do
-begins_above : (place from : ℕ) (blocks : List (Block ℕ)) → Ascends from blocks → 1 ≤ count_by (is_at place) blocks → from ≤ place
-begins_above place from [] ascends some = absurd (omega (arith, some))
-begins_above place from (block ∷ blocks) ascends some = elim (cases_Bool (is_at place block)) [
-  | inl here ↦ omega (arith, ascends.0, eqb-true block.place place here)
-  | inr elsewhere ↦
-      omega (arith, ascends.0, ascends.1, begins_above place (block.place + block.size) blocks ascends.2 (omega (arith, some, count-cons (is_at place) block blocks, ap one_if elsewhere)))
-]
-
--- the first of two ends at or before the second
-ends_before : (place other from : ℕ) (blocks : List (Block ℕ)) → Ascends from blocks → 1 ≤ count_by (is_at place) blocks → 1 ≤ count_by (is_at other) blocks → place < other → place + size_at place blocks ≤ other
-ends_before place other from [] ascends some some_other below = absurd (omega (arith, some))
-ends_before place other from (block ∷ blocks) ascends some some_other below = elim (cases_Bool (is_at other block)) [
-  | inl first ↦
-      let at : block.place ≡ other = eqb-true block.place other first in
-      let elsewhere : is_at place block ≡ false = ne_eqb block.place place (λ e. (omega (arith, at, e, below))) in
-      let rest = begins_above place (block.place + block.size) blocks ascends.2 (omega (arith, some, count-cons (is_at place) block blocks, ap one_if elsewhere)) in
-      absurd (omega (arith, rest, at, below))
-  | inr later ↦
-      let rest_other : 1 ≤ count_by (is_at other) blocks = omega (arith, some_other, count-cons (is_at other) block blocks, ap one_if later) in
-      elim (cases_Bool (is_at place block)) [
-        | inl here ↦
-            let size : size_at place (block ∷ blocks) ≡ block.size = rw here refl in
-            omega (arith, size, eqb-true block.place place here, begins_above other (block.place + block.size) blocks ascends.2 rest_other)
-        | inr elsewhere ↦
-            let size : size_at place (block ∷ blocks) ≡ size_at place blocks = rw elsewhere refl in
-            omega (arith, size, ends_before place other (block.place + block.size) blocks ascends.2 (omega (arith, some, count-cons (is_at place) block blocks, ap one_if elsewhere)) rest_other below)
-      ]
-]
-
--- the first of two live blocks ends at or before the second
-pub live_ends_before : (ptr other : Pointer) (size other_size : ℕ) (content : Content ℕ) → IsGood content → block_size_ptr ptr content ≡ Ok size → block_size_ptr other content ≡ Ok other_size → ptr.place < other.place → ptr.place + size ≤ other.place
-live_ends_before ptr other size other_size content good e e_other below =
-    let is = size_is ptr content size e in
-    let is_other = size_is other content other_size e_other in
-    omega (
-      arith,
-      is.1,
-      ends_before ptr.place other.place 0 (blocks_of content.pools) (Ascends-pools 0 content.pools good.pools_good)
-          (live_counted (λ slot. slot == ptr.slot) ptr.place (blocks_of content.pools) is.0) (live_counted (λ slot. slot == other.slot) other.place (blocks_of content.pools) is_other.0) below,
-    )
+  pub given_in_units : ptr.place % 16 ≡ 0
+  given_in_units = (live_units ptr ((bytes + 15) / 16 * 16) new good given_size).place

@@ -1,10 +1,12 @@
 -- Lemmas that several proofs share.
+mod Alike
 mod EntriesMoved
 mod FewRows
 mod FilledRows
 mod FromPlace
 mod GivenBlock
-mod InUnits
+mod LiveBlock
+mod LiveChanges
 mod LoadLemmas
 mod PlacedLemmas
 mod PlacedVectors

@@ -9,11 +9,11 @@ use Rattle.tlsf_class.proofs.RoundingLaws.{round_above}
 use Rattle.tlsf_heap.specs.declared.refusal.Refusal.{Refusal}
 use Rattle.tlsf_heap.specs.declared.refusal.Refusal.TheVariants.{ZeroSize, NoFit}
 use Rattle.tlsf_heap.specs.Content.{Content}
-use Rattle.tlsf_heap.specs.Malloc.{malloc, malloc_rounded}
+use Rattle.tlsf_heap.specs.OwnClass.{malloc_or_own, malloc_or_own_rounded}
 use Rattle.tlsf_heap.specs.Counted.{range_of}
 use Rattle.tlsf_heap.specs.Good.{IsGood}
 use Rattle.tlsf_heap.specs.Pointer.{Pointer, block_size_ptr}
-use Rattle.tlsf_c.proofs.GivenBlock.{live_lies, live_ends_before}
+use Rattle.tlsf_c.proofs.LiveBlock.{live_lies, live_ends_before}
 use Rattle.tlsf_c.specs.declared.placed_pool.PlacedPool.{PlacedPool}
 use Rattle.tlsf_c.specs.Fronts.{front, told_size}
 use Rattle.tlsf_c.specs.Lying.{LiesIn}
@@ -80,10 +80,10 @@ pub refuses_above : (slot bytes : ℕ) (content : Content ℕ) → 1073741800 < 
 refuses_above slot bytes content above =
     cond-false _ _ _ (ne_eqb bytes 0 (λ e. absurd (omega (arith, above, e))))
     ∙ cond-false _ _ _ (ne_eqb (bytes + front) 0 (λ e. absurd (omega (arith, e))))
-    ∙ ap (λ (r : Option ℕ). malloc_rounded slot r content) (round_above (bytes + front) (omega (arith, above)))
+    ∙ ap (λ (r : Option ℕ). malloc_or_own_rounded slot r content) (round_above (bytes + front) (omega (arith, above)))
 
 -- else it is malloc with the front
-pub with_front : (slot bytes : ℕ) (content : Content ℕ) → bytes ≢ 0 → malloc_with_front slot bytes content ≡ malloc slot (bytes + front) content
+pub with_front : (slot bytes : ℕ) (content : Content ℕ) → bytes ≢ 0 → malloc_with_front slot bytes content ≡ malloc_or_own slot (bytes + front) content
 with_front slot bytes content some = rw (ne_eqb bytes 0 some) refl
 
 -- two sizes that are told are one

@@ -22,7 +22,7 @@ use Rattle.tlsf_heap.proofs.Good.LiveBlocks.{live_here, size_here}
 use Rattle.tlsf_heap.proofs.Good.MallocIsGood.{IsWholeBlock, whole_in_pools}
 use Rattle.tlsf_heap.proofs.Good.StaysLive.{live_moved}
 use Rattle.tlsf_region.proofs.Ends.{live_is_there}
-use Rattle.tlsf_region.proofs.Ranges.{ranges, reallocated_ranges}
+use Rattle.tlsf_region.proofs.Ranges.{reallocated_ranges}
 use Rattle.tlsf_region.proofs.Sizes.{size_is}
 use Rattle.tlsf_c.specs.Fronts.{front, told_size}
 use Rattle.tlsf_c.specs.Lying.{LiesIn}
@@ -30,12 +30,13 @@ use Rattle.tlsf_c.specs.Status.{number, status_of}
 use Rattle.tlsf_c.specs.PlacedPools.{IsAt}
 use Rattle.tlsf_c.specs.PlacedHeaps.{IsLiveAt, told_block}
 use Rattle.tlsf_c.specs.declared.placed_pool.PlacedPool.{PlacedPool}
-use Rattle.tlsf_c.proofs.GivenBlock.{live_lies}
+use Rattle.tlsf_c.proofs.LiveBlock.{live_lies}
 
 -- what is known of a live block of some bytes among these ranges of places
 pub record IsInUnits (ptr : Pointer) (size : ℕ) : Type 0 where
   pub place : ptr.place % 16 ≡ 0
   pub size_in_units : size % 16 ≡ 0
+  pub long : 16 ≤ size
   pub most : size ≤ greatest_size
 
 pub live_units : (ptr : Pointer) (size : ℕ) (content : Content ℕ) → IsGood content → block_size_ptr ptr content ≡ Ok size → IsInUnits ptr size
@@ -46,6 +47,7 @@ live_units ptr size content good told =
     record {
       place = subst (λ (p : ℕ). p % 16 ≡ 0) aligned.2 aligned.1.0;
       size_in_units = subst (λ (n : ℕ). n % 16 ≡ 0) (sym aligned.3 ∙ is.1) aligned.1.1;
+      long = omega (arith, whole.3, is.1, whole.1.positive, whole.1.in_units);
       most = omega (arith, whole.3, is.1, whole.1.at_most);
     }
 

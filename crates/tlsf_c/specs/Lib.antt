@@ -2,6 +2,7 @@ pub mod Answers
 pub mod Creation
 pub mod Fronts
 pub mod Lends
+pub mod LiveFigures
 pub mod Lying
 pub mod Owned
 pub mod PlacedHeaps

@@ -4,7 +4,8 @@ use Rattle.tlsf_heap.specs.declared.refusal.Refusal.{Refusal}
 use Rattle.tlsf_heap.specs.declared.refusal.Refusal.TheVariants.{ZeroSize, BadPointer}
 use Rattle.tlsf_heap.specs.Content.{Content}
 use Rattle.tlsf_heap.specs.Counted.{Counted, IsUnchanged}
-use Rattle.tlsf_heap.specs.Malloc.{malloc}
+use Rattle.tlsf_heap.specs.Memalign.{memalign}
+use Rattle.tlsf_heap.specs.OwnClass.{malloc_or_own}
 use Rattle.tlsf_heap.specs.Pointer.{Pointer, free_ptr, realloc_ptr, block_size_ptr}
 use Rattle.tlsf_heap.specs.Served.{IsServed, IsMoved}
 use Rattle.tlsf_c.specs.Fronts.{front, told_slot, told_size}
@@ -24,9 +25,13 @@ pub record IsLiveAt (address word : ℕ) (pools : List PlacedPool) (content : Co
   pub at : IsAt pool place address
   pub live : block_size_ptr (told_block place address word) content ≡ Ok (told_size word address)
 
--- malloc of the heap for these bytes and the front in front of them
+-- malloc of the heap for these bytes and the front in front of them, also from the class that they are in
 abbrev pub malloc_with_front : (slot bytes : ℕ) → Content ℕ → Result (ℕ × Content ℕ) Refusal
-malloc_with_front slot bytes content = if bytes == 0 then Err ZeroSize else malloc slot (bytes + front) content
+malloc_with_front slot bytes content = if bytes == 0 then Err ZeroSize else malloc_or_own slot (bytes + front) content
+
+-- memalign of the heap for these bytes and the front in front of them
+abbrev pub memalign_with_front : (align slot bytes : ℕ) → Content ℕ → Result (ℕ × Content ℕ) Refusal
+memalign_with_front align slot bytes content = memalign slot align (if bytes == 0 then 0 else bytes + front) content
 
 -- the heap gave a block, and this is its address. The bytes end with its pool or before, and the front lies in the pool too
 pub record IsGivenAt (call : ℕ → Content ℕ → Result (ℕ × Content ℕ) Refusal) (bytes address : ℕ) (pools : List PlacedPool) (old new : Content ℕ) : Type 0 where

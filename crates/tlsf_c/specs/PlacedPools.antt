@@ -31,6 +31,10 @@ pub record IsAt (pool : PlacedPool) (place address : ℕ) : Type 0 where
   pub has : HasPlace pool place
   pub address_is : address ≡ pool.first + (place - pool.place)
 
+-- unless the entry holds no pool, its addresses are multiples of the alignment where its places are
+abbrev pub IsAlike : ℕ → PlacedPool → Type 0
+IsAlike align pool = 0 < pool.reach → pool.first % align ≡ pool.place % align
+
 -- the bytes of the pool, with its first front, don't overlap as many behind an address, with the front before it
 abbrev pub IsClearOf : (first reach : ℕ) → PlacedPool → Type 0
 IsClearOf first reach pool = 0 < pool.reach → first < pool.first + pool.reach + front → pool.first < first + reach + front → ⊥

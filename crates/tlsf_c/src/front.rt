@@ -31,7 +31,7 @@ pub(crate) fn word_of(mark: Mark, address: u64) -> u64
 }
 
 /// What a word in front of an address tells.
-#[inline(never)]
+#[inline(always)]
 pub(crate) fn mark_of(word: u64, address: u64) -> Mark
     ensures size { result.size ≡ told_size word address }
     ensures slot { result.slot ≡ told_slot word address }

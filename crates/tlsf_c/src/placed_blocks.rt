@@ -1,13 +1,14 @@
 //! Blocks of a heap with addresses are asked for and given back.
 
-ghost use Rattle.std.specs.Prelude.{◌≡◌, ◌≢◌, ℕ, ◌+◌, ◌*◌, ◌/◌, ◌%◌, ◌^◌, ◌<◌, ◌≤◌, ◌↔◌, All, Contains, map, Ok, Err, IfOk, IfErr, OnOk, OnErr, IfSome, IfNone, true, false, length};
+ghost use Rattle.std.specs.Prelude.{◌≡◌, ◌≢◌, ℕ, ◌+◌, ◌*◌, ◌/◌, ◌%◌, ◌^◌, ◌<◌, ◌≤◌, ◌↔◌, All, Contains, map, max, Ok, Err, IfOk, IfErr, OnOk, OnErr, IfSome, IfNone, true, false, length};
 ghost use Rattle.tlsf_heap.specs.declared.refusal.Refusal.TheVariants.{BadPointer};
 ghost use Rattle.tlsf_heap.specs.Counted.{IsUnchanged, Reads, range_of};
-ghost use Rattle.tlsf_heap.specs.Malloc.{malloc};
+ghost use Rattle.tlsf_heap.specs.OwnClass.{malloc_or_own};
 ghost use Rattle.tlsf_heap.specs.Pointer.{free_ptr, block_size_ptr};
 ghost use Rattle.tlsf_heap.specs.Served.{IsServed};
-ghost use Rattle.tlsf_heap.specs.Touches.{AtMost, malloc_touches, free_touches};
+ghost use Rattle.tlsf_heap.specs.Touches.{AtMost, malloc_or_own_touches, free_touches};
 ghost use Rattle.tlsf_c.specs.Fronts.{told_slot, told_size};
+ghost use Rattle.tlsf_c.specs.LiveFigures.{IsLiveChange};
 ghost use Rattle.tlsf_c.specs.Lying.{LiesIn};
 ghost use Rattle.tlsf_c.specs.PlacedPools.{IsPlaced, HasPlace, HasAddress, IsAt};
 ghost use Rattle.tlsf_c.specs.PlacedHeaps.{IsLiveAt, IsGivenAt, IsRefusedAt, IsFreedAt, malloc_with_front, told_block};
@@ -26,32 +27,41 @@ pub(crate) const FRONT: u64 = 8;
 /// The most bytes that a block has behind its front.
 pub(crate) const MOST: u64 = 1_073_741_808 - FRONT;
 
-/// `Heap::malloc`, and what is known of the block: it lies in a pool, at a multiple of the unit, and has the bytes rounded up.
+/// `Heap::malloc_or_own`, and what is known of the block: it lies in a pool, at a multiple of the unit, and has the bytes rounded
+/// up.
 #[inline(always)]
 fn allocate(heap: &mut Heap, bytes: u64) -> Result<Ptr, Refusal>
-    ensures ok { IfOk result (λ ptr. IsServed (λ slot. malloc slot bytes) ptr heap.old.content heap.new.content) }
+    ensures ok { IfOk result (λ ptr. IsServed (λ slot. malloc_or_own slot bytes) ptr heap.old.content heap.new.content) }
     ensures in_units { IfOk result (λ ptr. ptr.place % 16 ≡ 0) }
-    ensures lies { IfOk result (λ ptr. LiesIn ptr.place bytes (map range_of heap.old.content.pools)) }
+    ensures lies { IfOk result (λ ptr. LiesIn ptr.place ((bytes + 15) / 16 * 16) (map range_of heap.old.content.pools)) }
     ensures size { IfOk result (λ ptr. block_size_ptr ptr heap.new.content ≡ Ok ((bytes + 15) / 16 * 16)) }
+    ensures live { OnOk result (IsLiveChange 0 0 1 ((bytes + 15) / 16 * 16) heap.old.content heap.new.content) }
     ensures ranges { OnOk result (map range_of heap.new.content.pools ≡ map range_of heap.old.content.pools) }
-    ensures refused { IfErr result (λ refusal. (slot : ℕ) → malloc slot bytes heap.old.content ≡ Err refusal) }
+    ensures refused { IfErr result (λ refusal. (slot : ℕ) → malloc_or_own slot bytes heap.old.content ≡ Err refusal) }
     ensures unchanged { OnErr result (IsUnchanged heap.old heap.new) }
-    ensures bound { AtMost malloc_touches heap.old.touches heap.new.touches }
+    ensures bound { AtMost malloc_or_own_touches heap.old.touches heap.new.touches }
 {
     heap.keeps_good();
-    heap.malloc(bytes)
+    let given = heap.malloc_or_own(bytes);
+    heap.keeps_good();
+    given
 }
 
-/// `Heap::free`, and that each pool lies where it lay.
+/// `Heap::free` of a block that has these bytes, and that each pool lies where it lay.
 #[inline(always)]
-fn release(heap: &mut Heap, ptr: Ptr) -> Result<(), Refusal>
+fn release(heap: &mut Heap, ptr: Ptr, size: u64) -> Result<(), Refusal>
+    requires { block_size_ptr ptr heap.old.content ≡ Ok size }
     ensures ok { OnOk result (free_ptr ptr heap.old.content ≡ Ok heap.new.content) }
     ensures ranges { OnOk result (map range_of heap.new.content.pools ≡ map range_of heap.old.content.pools) }
+    ensures live { OnOk result (IsLiveChange 1 size 0 0 heap.old.content heap.new.content) }
     ensures refused { IfErr result (λ refusal. free_ptr ptr heap.old.content ≡ Err refusal) }
     ensures unchanged { OnErr result (IsUnchanged heap.old heap.new) }
     ensures bound { AtMost free_touches heap.old.touches heap.new.touches }
 {
-    heap.free(ptr)
+    heap.keeps_good();
+    let freed = heap.free(ptr);
+    heap.keeps_good();
+    freed
 }
 
 /// The address of a block of this size in the pool, and the word in front of it.
@@ -102,7 +112,7 @@ pub(crate) fn place_block(pools: &[PlacedPool; 8], ptr: Ptr, size: u64, word: &m
 }
 
 /// A live block of at least `bytes` bytes, at the address that is answered, with eight bytes in front of it. `word` gets
-/// what the caller puts into these, and hands back with the address. At most 23 touches.
+/// what the caller puts into these, and hands back with the address. At most 25 touches.
 ///
 /// Where the heap refuses the answer is 0. Then `word` gets the number of `ZeroSize`, `NoFit` or `TableFull`.
 #[unsafe(no_mangle)]
@@ -112,7 +122,8 @@ pub extern "C" fn tlsf_placed_malloc(heap: &mut PlacedHeap, bytes: u64, word: &m
     ensures multiple { result % 16 ≡ 0 }
     ensures refused { result ≡ 0 → IsRefusedAt (λ slot. malloc_with_front slot bytes) word.new heap.old.handle.value heap.new.handle.value }
     ensures pools { heap.new.pools ≡ heap.old.pools }
-    ensures bound { AtMost malloc_touches heap.old.handle.value.touches heap.new.handle.value.touches }
+    ensures most { heap.new.figures.most_bytes ≡ max heap.old.figures.most_bytes heap.new.figures.bytes }
+    ensures bound { AtMost malloc_or_own_touches heap.old.handle.value.touches heap.new.handle.value.touches }
 {
     if bytes == 0 {
         *word = u64::from(number(Refusal::ZeroSize));
@@ -123,7 +134,11 @@ pub extern "C" fn tlsf_placed_malloc(heap: &mut PlacedHeap, bytes: u64, word: &m
         return 0;
     }
     match allocate(heap.handle.heap(), bytes + FRONT) {
-        Ok(ptr) => place_block(&heap.pools, ptr, (bytes + FRONT + 15) / 16 * 16, word),
+        Ok(ptr) => {
+            let size = (bytes + FRONT + 15) / 16 * 16;
+            heap.figures.given(size - FRONT);
+            place_block(&heap.pools, ptr, size, word)
+        }
         Err(refusal) => {
             *word = u64::from(number(refusal));
             0
@@ -131,27 +146,38 @@ pub extern "C" fn tlsf_placed_malloc(heap: &mut PlacedHeap, bytes: u64, word: &m
     }
 }
 
+/// A live block, and its size in bytes.
+#[derive(Clone, Copy)]
+pub(crate) struct Sized {
+    pub(crate) ptr: Ptr,
+    pub(crate) size: u64,
+}
+
 /// The live block that an address and the word in front of it mean. At most one touch.
 #[inline(always)]
-pub(crate) fn find(heap: &mut PlacedHeap, address: u64, word: u64) -> Option<Ptr>
-    ensures some { IfSome result (λ ptr. (ptr ≡ told_block ptr.place address word) × ((pool : PlacedPool) × Contains heap.old.pools pool × IsAt pool ptr.place address) × (block_size_ptr ptr heap.old.handle.value.content ≡ Ok (told_size word address))) }
+pub(crate) fn find(heap: &mut PlacedHeap, address: u64, word: u64) -> Option<Sized>
+    ensures some { IfSome result (λ found. (found.ptr ≡ told_block found.ptr.place address word) × ((pool : PlacedPool) × Contains heap.old.pools pool × IsAt pool found.ptr.place address) × (block_size_ptr found.ptr heap.old.handle.value.content ≡ Ok (told_size word address)) × (found.size ≡ told_size word address)) }
+    ensures long { IfSome result (λ found. 16 ≤ found.size) }
     ensures none { IfNone result (IsLiveAt address word heap.old.pools heap.old.handle.value.content → ⊥) }
     ensures pools { heap.new.pools ≡ heap.old.pools }
+    ensures figures { heap.new.figures ≡ heap.old.figures }
     ensures read { Reads 1 heap.old.handle.value heap.new.handle.value }
 {
     let pool = pool_at(&heap.pools, address)?;
     let mark = mark_of(word, address);
     let ptr = Ptr::new(pool.place_of(address), mark.slot);
-    match heap.handle.heap().block_size(ptr) {
-        Ok(size) => {
-            if u64::from(size) == mark.size {
-                Some(ptr)
-            } else {
-                None
-            }
-        }
-        Err(_) => None,
+    let inner = heap.handle.heap();
+    inner.keeps_good();
+    let Ok(size) = inner.block_size(ptr) else {
+        return None;
+    };
+    if u64::from(size) != mark.size {
+        return None;
     }
+    Some(Sized {
+        ptr,
+        size: mark.size,
+    })
 }
 
 /// The block at an address becomes free, where the word in front of it is the block's. At most 33 touches.
@@ -164,13 +190,17 @@ pub extern "C" fn tlsf_placed_free(heap: &mut PlacedHeap, address: u64, word: u6
     ensures refused { result ≢ 0 → result ≡ number BadPointer }
     ensures unchanged { result ≢ 0 → IsUnchanged heap.old.handle.value heap.new.handle.value }
     ensures pools { heap.new.pools ≡ heap.old.pools }
+    ensures most { heap.new.figures.most_bytes ≡ max heap.old.figures.most_bytes heap.new.figures.bytes }
     ensures bound { AtMost (free_touches + 1) heap.old.handle.value.touches heap.new.handle.value.touches }
 {
-    let Some(ptr) = find(heap, address, word) else {
+    let Some(block) = find(heap, address, word) else {
         return number(Refusal::BadPointer);
     };
-    match release(heap.handle.heap(), ptr) {
-        Ok(()) => SERVED,
+    match release(heap.handle.heap(), block.ptr, block.size) {
+        Ok(()) => {
+            heap.figures.freed(block.size - FRONT);
+            SERVED
+        }
         Err(refusal) => number(refusal),
     }
 }

@@ -5,6 +5,7 @@ ghost use Rattle.tlsf_heap.specs.declared.refusal.Refusal.TheVariants.{BadPool, 
 ghost use Rattle.tlsf_heap.specs.Counted.{IsUnchanged, range_of};
 ghost use Rattle.tlsf_heap.specs.Pools.{add_pool, remove_pool};
 ghost use Rattle.tlsf_heap.specs.Touches.{AtMost, add_pool_touches, remove_pool_touches};
+ghost use Rattle.tlsf_c.specs.LiveFigures.{IsLiveChange};
 ghost use Rattle.tlsf_c.specs.PlacedPools.{IsPlaced, IsClearOf, CanBePlaced, IsEnteredAt, IsVacatedAt};
 ghost use Rattle.tlsf_c.specs.RangeMoves.{IsRangeAdded, IsRangeRemoved};
 ghost use Rattle.tlsf_c.specs.Status.{number, status_of};
@@ -21,23 +22,30 @@ const FRONT: u64 = 8;
 fn enter(heap: &mut Heap, place: u64, bytes: u64) -> Result<(), Refusal>
     ensures ok { OnOk result (add_pool place bytes heap.old.content ≡ Ok heap.new.content) }
     ensures ranges { OnOk result (IsRangeAdded place bytes (map range_of heap.old.content.pools) (map range_of heap.new.content.pools)) }
+    ensures live { OnOk result (IsLiveChange 0 0 0 0 heap.old.content heap.new.content) }
     ensures refused { IfErr result (λ refusal. add_pool place bytes heap.old.content ≡ Err refusal) }
     ensures unchanged { OnErr result (IsUnchanged heap.old heap.new) }
     ensures bound { AtMost add_pool_touches heap.old.touches heap.new.touches }
 {
     heap.keeps_good();
-    heap.add_pool(place, bytes)
+    let added = heap.add_pool(place, bytes);
+    heap.keeps_good();
+    added
 }
 
 /// `Heap::remove_pool`, and which ranges of places are pools then.
 fn leave(heap: &mut Heap, place: u64) -> Result<(), Refusal>
     ensures ok { OnOk result (remove_pool place heap.old.content ≡ Ok heap.new.content) }
     ensures ranges { OnOk result (IsRangeRemoved place (map range_of heap.old.content.pools) (map range_of heap.new.content.pools)) }
+    ensures live { OnOk result (IsLiveChange 0 0 0 0 heap.old.content heap.new.content) }
     ensures refused { IfErr result (λ refusal. remove_pool place heap.old.content ≡ Err refusal) }
     ensures unchanged { OnErr result (IsUnchanged heap.old heap.new) }
     ensures bound { AtMost remove_pool_touches heap.old.touches heap.new.touches }
 {
-    heap.remove_pool(place)
+    heap.keeps_good();
+    let removed = heap.remove_pool(place);
+    heap.keeps_good();
+    removed
 }
 
 /// The first entry that holds no pool.
@@ -98,6 +106,7 @@ pub extern "C" fn tlsf_placed_add_pool(
     ensures placed { result ≡ 0 → CanBePlaced first bytes × All (IsClearOf first (bytes - 8)) heap.old.pools }
     ensures reason { result ≢ 0 → CanBePlaced first bytes → All (IsClearOf first (bytes - 8)) heap.old.pools → (result ≡ status_of (add_pool place bytes heap.old.handle.value.content)) ⊎ ((result ≡ number PoolsFull) × All (λ pool. 0 < pool.reach) heap.old.pools) }
     ensures unchanged { result ≢ 0 → IsUnchanged heap.old.handle.value heap.new.handle.value × (heap.new.pools ≡ heap.old.pools) }
+    ensures figures { heap.new.figures ≡ heap.old.figures }
     ensures bound { AtMost add_pool_touches heap.old.handle.value.touches heap.new.handle.value.touches }
 {
     if !can_be_placed(first, bytes) || !is_clear(&heap.pools, first, bytes - FRONT) {
@@ -132,6 +141,7 @@ pub extern "C" fn tlsf_placed_remove_pool(heap: &mut PlacedHeap, entry: u32) -> 
     ensures vacated { result ≡ 0 → IsVacatedAt entry heap.old.pools heap.new.pools }
     ensures unchanged { result ≢ 0 → IsUnchanged heap.old.handle.value heap.new.handle.value × (heap.new.pools ≡ heap.old.pools) }
     ensures reason { result ≢ 0 → entry < 8 → (pool : PlacedPool) → slice_index_or heap.old.pools entry pool ≡ pool → 0 < pool.reach → result ≡ status_of (remove_pool pool.place heap.old.handle.value.content) }
+    ensures figures { heap.new.figures ≡ heap.old.figures }
     ensures bound { AtMost remove_pool_touches heap.old.handle.value.touches heap.new.handle.value.touches }
 {
     if entry >= 8 {

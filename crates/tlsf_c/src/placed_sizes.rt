@@ -1,12 +1,13 @@
 //! Blocks of a heap with addresses tell their sizes, and get others.
 
-ghost use Rattle.std.specs.Prelude.{◌≡◌, ◌+◌, ◌-◌, ◌*◌, ◌/◌, ◌%◌, ◌^◌, ◌<◌, ◌≤◌, map, Ok, Err, Some, IfOk, IfErr, OnOk, OnErr};
+ghost use Rattle.std.specs.Prelude.{◌≡◌, ◌≢◌, ◌+◌, ◌-◌, ◌*◌, ◌/◌, ◌%◌, ◌^◌, ◌<◌, ◌≤◌, ◌⊎◌, map, max, min, true, false, Ok, Err, Some, IfOk, IfErr, OnOk, OnErr};
 ghost use Rattle.tlsf_heap.specs.declared.refusal.Refusal.{Refusal};
 ghost use Rattle.tlsf_heap.specs.Counted.{IsUnchanged, Reads, range_of};
 ghost use Rattle.tlsf_heap.specs.Pointer.{realloc_ptr, block_size_ptr};
 ghost use Rattle.tlsf_heap.specs.Served.{IsMoved};
 ghost use Rattle.tlsf_heap.specs.Touches.{AtMost, realloc_touches, block_size_touches};
 ghost use Rattle.tlsf_c.specs.Fronts.{front, told_size};
+ghost use Rattle.tlsf_c.specs.LiveFigures.{IsLiveChange};
 ghost use Rattle.tlsf_c.specs.Lying.{LiesIn};
 ghost use Rattle.tlsf_c.specs.PlacedHeaps.{IsLiveAt, IsResizedAt, IsNotResized};
 ghost use Rattle.tlsf_c.specs.Status.{number};
@@ -15,7 +16,7 @@ use crate::block::Block;
 use crate::blocks::tlsf_heap_realloc;
 use crate::front::mark_of;
 use crate::handle::Handle;
-use crate::placed_blocks::{FRONT, MOST, find, place_block};
+use crate::placed_blocks::{FRONT, MOST, Sized, find, place_block};
 use crate::placed_heap::PlacedHeap;
 use crate::status::{SERVED, number};
 use tlsf_heap::{Ptr, Refusal};
@@ -27,19 +28,29 @@ pub extern "C" fn tlsf_placed_block_size(heap: &mut PlacedHeap, address: u64, wo
     ensures size { IsLiveAt address word heap.old.pools heap.old.handle.value.content → result ≡ told_size word address - front }
     ensures live { 0 < result → IsLiveAt address word heap.old.pools heap.old.handle.value.content }
     ensures pools { heap.new.pools ≡ heap.old.pools }
+    ensures figures { heap.new.figures ≡ heap.old.figures }
     ensures read { Reads block_size_touches heap.old.handle.value heap.new.handle.value }
 {
     match find(heap, address, word) {
-        Some(_) => mark_of(word, address).size.saturating_sub(FRONT),
+        Some(block) => block.size - FRONT,
         None => 0,
     }
 }
 
-/// A live block, and its size in bytes.
-#[derive(Clone, Copy)]
-struct Resized {
-    ptr: Ptr,
-    size: u64,
+/// The bytes that a word in front of an address tells, without the eight in front; 0 where it is no word for this address, or is
+/// that of a freed block.
+#[unsafe(no_mangle)]
+pub extern "C" fn tlsf_placed_told_size(address: u64, word: u64) -> u64
+    ensures told { 0 < result → told_size word address ≡ result + front }
+    ensures most { 0 < result → told_size word address < 2 ^ 30 }
+    ensures none { result ≡ 0 → (told_size word address ≤ front) ⊎ (2 ^ 30 ≤ told_size word address) }
+{
+    let size = mark_of(word, address).size;
+    if size < 1 << 30 {
+        size.saturating_sub(FRONT)
+    } else {
+        0
+    }
 }
 
 /// `tlsf_heap_realloc` of a block to some bytes. The library has the code of `Heap::realloc` once, in that export.
@@ -60,39 +71,50 @@ fn reallocate(handle: &mut Handle, ptr: Ptr, bytes: u64) -> Result<Ptr, u32>
     }
 }
 
-/// The same, and what is known of the block then: it lies in a pool, at a multiple of the unit, and has these bytes or more, a
-/// multiple of the unit.
+/// The same of a block that has a size, and what is known of the block then: it lies in a pool, at a multiple of the unit, and
+/// has these bytes or more, a multiple of the unit.
 #[inline(always)]
-fn resize(handle: &mut Handle, ptr: Ptr, bytes: u64) -> Result<Resized, u32>
+fn resize(handle: &mut Handle, block: Sized, bytes: u64) -> Result<Sized, u32>
     requires some { 0 < bytes }
-    ensures ok { IfOk result (λ r. IsMoved (realloc_ptr (Some ptr) bytes) (Some ptr) (Some r.ptr) handle.old.value.content handle.new.value.content) }
+    requires sized { block_size_ptr block.ptr handle.old.value.content ≡ Ok block.size }
+    ensures ok { IfOk result (λ r. IsMoved (realloc_ptr (Some block.ptr) bytes) (Some block.ptr) (Some r.ptr) handle.old.value.content handle.new.value.content) }
     ensures in_units { IfOk result (λ r. r.ptr.place % 16 ≡ 0) }
     ensures units { IfOk result (λ r. r.size % 16 ≡ 0) }
     ensures most { IfOk result (λ r. r.size < 2 ^ 30) }
     ensures holds { IfOk result (λ r. bytes ≤ r.size) }
     ensures lies { IfOk result (λ r. LiesIn r.ptr.place r.size (map range_of handle.old.value.content.pools)) }
     ensures size { IfOk result (λ r. block_size_ptr r.ptr handle.new.value.content ≡ Ok r.size) }
+    ensures live { IfOk result (λ r. IsLiveChange 1 block.size 1 r.size handle.old.value.content handle.new.value.content) }
     ensures ranges { OnOk result (map range_of handle.new.value.content.pools ≡ map range_of handle.old.value.content.pools) }
-    ensures refused { IfErr result (λ status. (refusal : Refusal) × (status ≡ number refusal) × (realloc_ptr (Some ptr) bytes ptr.slot handle.old.value.content ≡ Err refusal)) }
+    ensures refused { IfErr result (λ status. (refusal : Refusal) × (status ≡ number refusal) × (realloc_ptr (Some block.ptr) bytes block.ptr.slot handle.old.value.content ≡ Err refusal)) }
     ensures unchanged { OnErr result (IsUnchanged handle.old.value handle.new.value) }
     ensures bound { AtMost (realloc_touches + block_size_touches) handle.old.value.touches handle.new.value.touches }
 {
     handle.heap().keeps_good();
-    let new = reallocate(handle, ptr, bytes)?;
+    let new = reallocate(handle, block.ptr, bytes)?;
     let heap = handle.heap();
     heap.keeps_good();
     let Ok(size) = heap.block_size(new) else {
         unreachable!();
     };
-    Ok(Resized {
+    Ok(Sized {
         ptr: new,
         size: u64::from(size),
     })
 }
 
+/// How many bytes are copied of a block that had some and has others: none where it stays.
+#[inline(always)]
+fn to_copy(stays: bool, had: u64, has: u64) -> u64
+    ensures stays { stays ≡ true → result ≡ 0 }
+    ensures moves { stays ≡ false → result ≡ min had has }
+{
+    if stays { 0 } else { had.min(has) }
+}
+
 /// The live block at an address gets room for `bytes` bytes, where `word` is the word in front of it. The answer is its address
-/// then, which may be another one: its bytes are the caller's to copy. `word` gets what stands in front of that. At most 60
-/// touches.
+/// then. Where that is another one, `copied` gets how many bytes the caller has to copy there, and else 0. `word` gets what
+/// stands in front of it. At most 60 touches.
 ///
 /// Where that is refused the answer is 0, and all is as it was. Then `word` gets the number of `BadPointer` unless the block is
 /// live, and else that of `NoFit` or `TableFull`.
@@ -102,15 +124,19 @@ pub extern "C" fn tlsf_placed_realloc(
     address: u64,
     bytes: u64,
     word: &mut u64,
+    copied: &mut u64,
 ) -> u64
     ensures given { 0 < result → IsResizedAt address word.old bytes result heap.old.pools heap.old.handle.value.content heap.new.handle.value.content }
     ensures live { 0 < result → IsLiveAt result word.new heap.old.pools heap.new.handle.value.content }
     ensures multiple { result % 16 ≡ 0 }
+    ensures stays { 0 < result → result ≡ address → copied.new ≡ 0 }
+    ensures moves { 0 < result → result ≢ address → copied.new ≡ min (told_size word.old address - front) (told_size word.new result - front) }
     ensures refused { result ≡ 0 → IsNotResized address word.old bytes word.new heap.old.pools heap.old.handle.value heap.new.handle.value }
     ensures pools { heap.new.pools ≡ heap.old.pools }
+    ensures most { heap.new.figures.most_bytes ≡ max heap.old.figures.most_bytes heap.new.figures.bytes }
     ensures bound { AtMost (realloc_touches + 2) heap.old.handle.value.touches heap.new.handle.value.touches }
 {
-    let Some(ptr) = find(heap, address, *word) else {
+    let Some(block) = find(heap, address, *word) else {
         *word = u64::from(number(Refusal::BadPointer));
         return 0;
     };
@@ -118,8 +144,15 @@ pub extern "C" fn tlsf_placed_realloc(
         *word = u64::from(number(Refusal::NoFit));
         return 0;
     }
-    match resize(&mut heap.handle, ptr, bytes + FRONT) {
-        Ok(new) => place_block(&heap.pools, new.ptr, new.size, word),
+    let had = block.size - FRONT;
+    match resize(&mut heap.handle, block, bytes + FRONT) {
+        Ok(new) => {
+            let has = new.size - FRONT;
+            heap.figures.resized(had, has);
+            let now = place_block(&heap.pools, new.ptr, new.size, word);
+            *copied = to_copy(now == address, had, has);
+            now
+        }
         Err(status) => {
             *word = u64::from(status);
             0

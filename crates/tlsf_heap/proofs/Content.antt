@@ -4,6 +4,7 @@ pub mod Blocks
 pub mod Replacing
 pub mod FreeLists
 pub mod MallocCases
+pub mod OwnCases
 pub mod ReallocCases
 pub mod Results
 pub mod ServedCalls

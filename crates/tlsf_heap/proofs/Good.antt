@@ -14,4 +14,6 @@ pub mod StaysLive
 pub mod AlignedStaysLive
 pub mod LiveBlocks
 pub mod GivenSizes
+pub mod OwnClass
+pub mod LiveBytes
 pub mod LastAsked

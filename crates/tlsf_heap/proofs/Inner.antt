@@ -25,6 +25,7 @@ pub mod SplitAligned
 pub mod Allotted
 pub mod Spans
 pub mod TakenBlock
+pub mod OwnClass
 pub mod Picked
 pub mod Empty
 pub mod Standing

@@ -1,5 +1,6 @@
 -- Worked rows, computed by the definitions.
 mod Heap
+mod OwnClass
 mod Run
 mod Sizing
 mod OneSize

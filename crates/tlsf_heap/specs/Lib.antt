@@ -3,6 +3,7 @@ pub mod Content
 pub mod Pointer
 pub mod Lists
 pub mod Malloc
+pub mod OwnClass
 pub mod Pools
 pub mod Good
 pub mod Free

@@ -16,6 +16,9 @@ remove_pool_touches = 26
 abbrev pub malloc_touches : ℕ
 malloc_touches = 23
 
+abbrev pub malloc_or_own_touches : ℕ
+malloc_or_own_touches = 25
+
 abbrev pub memalign_touches : ℕ
 memalign_touches = 38
 

@@ -5,7 +5,7 @@ use crate::entries::entries;
 use crate::free::free;
 use crate::image::{Image, is_whole, put_image};
 use crate::load::stored;
-use crate::malloc::malloc;
+use crate::malloc::{malloc, malloc_or_own};
 use crate::memalign::memalign;
 use crate::readings::{block_size, first, largest_request, records_used, row};
 use crate::realloc::realloc;
@@ -43,13 +43,14 @@ impl Heap {
     ghost use Rattle.std.specs.Prelude.{◌≡◌, true, ℕ, ◌+◌, ◌*◌, ◌%◌, ◌<◌, ◌≤◌, ◌⊎◌, ◌↔◌, map, Some, None, Ok, Err, IfOk, IfErr, IsOk, MatchResult, OnOk, OnErr};
     ghost use Rattle.tlsf_store.specs.declared.errors.StoreError.TheVariants.{BadCount};
     ghost use Rattle.tlsf_store.specs.Records.{most_records};
-    ghost use Rattle.tlsf_heap.specs.Touches.{AtMost, add_pool_touches, remove_pool_touches, malloc_touches, memalign_touches, free_touches, realloc_touches, block_size_touches};
+    ghost use Rattle.tlsf_heap.specs.Touches.{AtMost, add_pool_touches, remove_pool_touches, malloc_touches, malloc_or_own_touches, memalign_touches, free_touches, realloc_touches, block_size_touches};
     ghost use Rattle.tlsf_heap.specs.Good.{IsGood};
     ghost use Rattle.tlsf_heap.specs.GoodSlots.{HasGoodSlots};
     ghost use Rattle.tlsf_heap.specs.Served.{IsServed, IsMoved, Refuses};
     ghost use Rattle.tlsf_heap.specs.Readings.{FindsRows, GivesRow, TouchesForRow, IsLargestRequest};
     ghost use Rattle.tlsf_heap.specs.Content.{Content, used_records};
     ghost use Rattle.tlsf_heap.specs.Malloc.{malloc};
+    ghost use Rattle.tlsf_heap.specs.OwnClass.{malloc_or_own};
     ghost use Rattle.tlsf_heap.specs.Memalign.{memalign};
     ghost use Rattle.tlsf_heap.specs.Pointer.{free_ptr, realloc_ptr, block_size_ptr};
     ghost use Rattle.tlsf_heap.specs.Rows.{rows_from};
@@ -185,6 +186,24 @@ impl Heap {
         ensures bound { AtMost malloc_touches self.old.touches self.new.touches }
     {
         malloc(&mut self.store, n)
+    }
+
+    /// As `malloc`. Where that finds no block, the first of the class that `n` bytes, rounded up, are in is taken, if it
+    /// has as many. At most 25 touches.
+    ///
+    /// # Errors
+    ///
+    /// `ZeroSize` for 0. `NoFit` where `malloc` would answer it, and the list of that class is empty or its first block is
+    /// too small. `TableFull` where a rest would be left and each record is in use. Neither comes where `malloc` promises
+    /// that neither does.
+    #[inline(always)]
+    pub fn malloc_or_own(&mut self, n: u64) -> Result<Ptr, Refusal>
+        ensures ok { IfOk result (λ ptr. IsServed (λ slot. malloc_or_own slot n) ptr self.old.content self.new.content) }
+        ensures refused { Refuses result (λ refusal. (slot : ℕ) → malloc_or_own slot n self.old.content ≡ Err refusal) (IsUnchanged self.old self.new) }
+        ensures room { HasRoom n self.old.content → IsOk result }
+        ensures bound { AtMost malloc_or_own_touches self.old.touches self.new.touches }
+    {
+        malloc_or_own(&mut self.store, n)
     }
 
     /// A live block of at least `n` bytes, rounded up to the unit, that begins at a multiple of `align`. It is split

@@ -3,16 +3,17 @@
 ghost use Rattle.std.specs.Prelude.{◌≡◌, ℕ, false, ◌%◌, ◌<◌, ◌≤◌, Some, None, Err, MatchOption};
 ghost use Rattle.tlsf_class.specs.Classes.{unit};
 ghost use Rattle.tlsf_store.specs.Records.{record_at, vacant_count};
-ghost use Rattle.tlsf_heap.specs.Touches.{AtMost, malloc_touches};
+ghost use Rattle.tlsf_heap.specs.Touches.{AtMost, malloc_touches, malloc_or_own_touches};
 ghost use Rattle.tlsf_heap.specs.Content.{IsSize};
 ghost use Rattle.tlsf_heap.specs.Lists.{pick};
-ghost use Rattle.tlsf_heap.specs.Malloc.{malloc, malloc_rounded};
+ghost use Rattle.tlsf_heap.specs.Malloc.{malloc, malloc_picked, malloc_rounded};
+ghost use Rattle.tlsf_heap.specs.OwnClass.{own_first, picked_or_own, malloc_or_own};
 ghost use Rattle.tlsf_heap.specs.Served.{IsServed};
 ghost use Rattle.tlsf_heap.specs.Inner.Following.{Stands, content_of};
 ghost use Rattle.tlsf_heap.specs.Inner.Nodes.{NodeState, InUse, Listed, is_listed};
 ghost use Rattle.tlsf_heap.specs.Inner.At.{At, StandsAt, with_slot, at_turned, at_taken, at_split_off, at_split_rest};
 ghost use Rattle.tlsf_heap.specs.Inner.Spans.{IsRead, IsOfClass};
-ghost use Rattle.tlsf_heap.specs.Inner.Answers.{AnswersOver, IsPick, Leaves};
+ghost use Rattle.tlsf_heap.specs.Inner.Answers.{AnswersOver, IsPick, IsTakeable, IsTakenFor, Leaves};
 
 use crate::chains::{split, turn};
 use crate::free_lists::{link, unlink};
@@ -54,6 +55,59 @@ pub(crate) fn allocate(store: &mut Store, asked: u32) -> Result<Ptr, Refusal>
     take(store, class, slot, asked)
 }
 
+/// The same. Where no block is picked the first of the class that the bytes are in is taken, if it has them. At
+/// most 25 touches.
+///
+/// # Errors
+///
+/// As `Heap::malloc_or_own`.
+#[inline(always)]
+pub(crate) fn malloc_or_own(store: &mut Store, n: u64) -> Result<Ptr, Refusal>
+    requires { Stands store.old.cells }
+    ensures { AnswersOver result (IsServed (λ slot. malloc_or_own slot n)) (λ refusal old. (slot : ℕ) → malloc_or_own slot n old ≡ Err refusal) malloc_or_own_touches store.old store.new }
+{
+    if n == 0 {
+        return Err(Refusal::ZeroSize);
+    }
+    let asked = round(n).ok_or(Refusal::NoFit)?;
+    let (class, slot) = pick_or_own(store, asked).ok_or(Refusal::NoFit)?;
+    take(store, class, slot, asked)
+}
+
+/// The block picked for `asked` bytes; where none is, the first of their own class, if it has them. With its
+/// class. At most six touches.
+#[inline(always)]
+fn pick_or_own(store: &mut Store, asked: u32) -> Option<(Class, Slot)>
+    requires stands { Stands store.old.cells }
+    requires size { IsSize asked }
+    ensures found { MatchOption result (picked_or_own asked (content_of store.old.cells) (pick asked (content_of store.old.cells).lists) ≡ None) (λ first. IsTakenFor asked (picked_or_own asked (content_of store.old.cells) (pick asked (content_of store.old.cells).lists)) first.0 first.1 store.old.cells) }
+    ensures left { Leaves store.old.cells 6 store.old store.new }
+{
+    match pick(store, asked) {
+        Some(found) => Some(found),
+        None => own_first(store, asked),
+    }
+}
+
+/// The first block of the class that `asked` bytes are in, if it has as many; with that class. At most two
+/// touches.
+#[cold]
+#[inline(never)]
+fn own_first(store: &mut Store, asked: u32) -> Option<(Class, Slot)>
+    requires stands { Stands store.old.cells }
+    requires size { IsSize asked }
+    ensures found { MatchOption result (own_first asked (content_of store.old.cells) ≡ None) (λ first. IsTakenFor asked (own_first asked (content_of store.old.cells)) first.0 first.1 store.old.cells) }
+    ensures left { Leaves store.old.cells 2 store.old store.new }
+{
+    let class = class_of(asked);
+    let slot = store.head(class)?;
+    let block = store.read_used(slot);
+    if block.size < asked {
+        return None;
+    }
+    Some((class, slot))
+}
+
 /// The first block of the first list that isn't empty, at or above the class from which each block holds
 /// `asked` bytes; with its class. At most four touches.
 #[inline(always)]
@@ -70,7 +124,7 @@ pub(crate) fn pick(store: &mut Store, asked: u32) -> Option<(Class, Slot)>
     Some((found, slot))
 }
 
-/// The first `asked` bytes of the block picked, of this class, are a live block. At most 19 touches.
+/// The first `asked` bytes of a block that may be taken, of this class, are a live block. At most 19 touches.
 ///
 /// # Errors
 ///
@@ -79,8 +133,8 @@ pub(crate) fn pick(store: &mut Store, asked: u32) -> Option<(Class, Slot)>
 fn take(store: &mut Store, class: Class, slot: Slot, asked: u32) -> Result<Ptr, Refusal>
     requires stands { Stands store.old.cells }
     requires size { IsSize asked }
-    requires picked { IsPick asked class slot store.old.cells }
-    ensures { AnswersOver result (IsServed (λ owner. malloc_rounded owner (Some asked))) (λ refusal old. (owner : ℕ) → malloc_rounded owner (Some asked) old ≡ Err refusal) 19 store.old store.new }
+    requires takeable { IsTakeable asked class slot store.old.cells }
+    ensures { AnswersOver result (IsServed (λ owner. malloc_picked owner asked (Some (record_at store.old.cells.records slot).place))) (λ refusal old. (owner : ℕ) → malloc_picked owner asked (Some (record_at store.old.cells.records slot).place) old ≡ Err refusal) 19 store.old store.new }
 {
     let block = store.read_used(slot);
     if block.size == asked {

@@ -9,6 +9,7 @@ use Rattle.tlsf_heap.specs.declared.refusal.Refusal.TheVariants.{ZeroSize, Table
 use Rattle.tlsf_heap.specs.Content.{Block, Pool, Content, blocks_of, size_at, used_records}
 use Rattle.tlsf_heap.specs.Counted.{Counted, IsUnchanged, range_of}
 use Rattle.tlsf_heap.specs.Lists.{pick}
+use Rattle.tlsf_heap.specs.OwnClass.{picked_or_own, malloc_or_own_rounded, malloc_or_own}
 use Rattle.tlsf_heap.specs.Malloc.{gap, replaced_in, split, allocated, malloc_picked, malloc_rounded, malloc}
 use Rattle.tlsf_heap.specs.Free.{is_live, free_next, without_block, after_free, free}
 use Rattle.tlsf_heap.specs.Realloc.{fits_in_place, resized, moved, realloc_sized, realloc_rounded, given_anew, realloc}
@@ -38,18 +39,26 @@ module _ {A : Type 0} where
   ranges-without (Some block) pools = ranges-replaced block.place [] pools
 
   -- malloc
+  picked_ranges : (owner : A) (m : ℕ) (found : Option ℕ) (content : Content A) → IfOk (malloc_picked owner m found content) (λ given. ranges given.1 ≡ ranges content)
+  picked_ranges owner m None content = tt
+  picked_ranges owner m (Some place) content =
+      let size : ℕ = size_at place (blocks_of content.pools) in
+      unless (nat_lt m size && nat_le content.records (used_records content)) TableFull (Ok (place, allocated owner place m size content)) (λ given. ranges given.1 ≡ ranges content) (ranges-replaced place (split owner place m size) content.pools)
+
   rounded_ranges : (owner : A) (m : Option ℕ) (content : Content A) → IfOk (malloc_rounded owner m content) (λ given. ranges given.1 ≡ ranges content)
   rounded_ranges owner None content = tt
-  rounded_ranges owner (Some m) content = of (pick m content.lists)
-    where
-      of : (found : Option ℕ) → IfOk (malloc_picked owner m found content) (λ given. ranges given.1 ≡ ranges content)
-      of None = tt
-      of (Some place) =
-          let size : ℕ = size_at place (blocks_of content.pools) in
-          unless (nat_lt m size && nat_le content.records (used_records content)) TableFull (Ok (place, allocated owner place m size content)) (λ given. ranges given.1 ≡ ranges content) (ranges-replaced place (split owner place m size) content.pools)
+  rounded_ranges owner (Some m) content = picked_ranges owner m (pick m content.lists) content
 
   pub malloc_ranges : (owner : A) (n : ℕ) (content : Content A) → IfOk (malloc owner n content) (λ given. ranges given.1 ≡ ranges content)
   malloc_ranges owner n content = unless (n == 0) ZeroSize (malloc_rounded owner (round n) content) (λ given. ranges given.1 ≡ ranges content) (rounded_ranges owner (round n) content)
+
+  -- malloc that may take a block of the bytes' own class
+  rounded_or_own_ranges : (owner : A) (m : Option ℕ) (content : Content A) → IfOk (malloc_or_own_rounded owner m content) (λ given. ranges given.1 ≡ ranges content)
+  rounded_or_own_ranges owner None content = tt
+  rounded_or_own_ranges owner (Some m) content = picked_ranges owner m (picked_or_own m content (pick m content.lists)) content
+
+  pub malloc_or_own_ranges : (owner : A) (n : ℕ) (content : Content A) → IfOk (malloc_or_own owner n content) (λ given. ranges given.1 ≡ ranges content)
+  malloc_or_own_ranges owner n content = unless (n == 0) ZeroSize (malloc_or_own_rounded owner (round n) content) (λ given. ranges given.1 ≡ ranges content) (rounded_or_own_ranges owner (round n) content)
 
   -- free
   pub freed_ranges : (place : ℕ) (content : Content A) → ranges (after_free place content) ≡ ranges content

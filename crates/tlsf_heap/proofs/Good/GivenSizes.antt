@@ -20,6 +20,7 @@ use Rattle.tlsf_heap.proofs.Content.MemalignCases.{IsPicked, split_aligned_of, m
 use Rattle.tlsf_heap.proofs.Content.ReallocCases.{sized_same, sized_in_place, sized_kept, sized_moved, realloc_freed, realloc_resized}
 use Rattle.tlsf_heap.proofs.Content.Replacing.{blocks_of-replaced}
 use Rattle.tlsf_heap.proofs.Good.LiveBlocks.{stands_first, stands_later, stands_first_or_later, gap_is_free, size_here, live_from_after_free, elsewhere_or_other}
+use Rattle.tlsf_heap.proofs.Good.MallocIsGood.{picked}
 use Rattle.tlsf_heap.proofs.Good.StaysLive.{is_free_at, picked_stands, given_replaced}
 use Rattle.tlsf_heap.proofs.Meaning.AlignedIsGood.{memalign_is_good}
 
@@ -35,7 +36,7 @@ module _ {A : Type 0} where
   abbrev is_sized : ℕ → ℕ → Block A → Bool
   is_sized place m b = is_at place b && (b.size == m)
 
-  found_counted : (test : Block A → Bool) (blocks : List (Block A)) → 1 ≤ count_by test blocks → (b : Block A) × Contains blocks b × (test b ≡ true)
+  pub found_counted : (test : Block A → Bool) (blocks : List (Block A)) → 1 ≤ count_by test blocks → (b : Block A) × Contains blocks b × (test b ≡ true)
   found_counted test [] some = absurd (omega (arith, some))
   found_counted test (block ∷ blocks) some = elim (cases_Bool (test block)) [
     | inl passes ↦ (block, stands_first block blocks, passes)
@@ -66,7 +67,7 @@ module _ {A : Type 0} where
         | inr behind ↦ absurd (let e : true ≡ false = sym (gap_is_free (place + m) (size - m) b behind) ∙ live in cc)
       ]
 
-  replaced_sized : (owner : A) (place m size n : ℕ) (pools : List (Pool A)) (b : Block A) → round n ≡ Some m → Contains (blocks_of (map (replaced_in place (split owner place m size)) pools)) b → is_free b ≡ false → b.place ≡ place → IsRounded n b
+  pub replaced_sized : (owner : A) (place m size n : ℕ) (pools : List (Pool A)) (b : Block A) → round n ≡ Some m → Contains (blocks_of (map (replaced_in place (split owner place m size)) pools)) b → is_free b ≡ false → b.place ≡ place → IsRounded n b
   replaced_sized owner place m size n pools b rounds has live at =
       elim (elsewhere_or_other place (split owner place m size) (blocks_of pools) b (subst (λ (xs : List (Block A)). Contains xs b) (blocks_of-replaced place (split owner place m size) pools) has)) [
         | inl away ↦ absurd (away at)
@@ -89,7 +90,7 @@ module _ {A : Type 0} where
       let counted : 1 ≤ count_by test (blocks_of (map (replaced_in p.place others) content.pools)) = omega (
         arith,
         ap (count_by test) (blocks_of-replaced p.place others content.pools),
-        given_replaced test (is_free_at p.place) p.place others (blocks_of content.pools) (λ block. and_left (is_at p.place block) (is_free block)) (picked_stands (size_asked align p.asked) p.place content good p.found),
+        given_replaced test (is_free_at p.place) p.place others (blocks_of content.pools) (λ block. and_left (is_at p.place block) (is_free block)) (picked_stands (size_asked align p.asked) p.place content (picked (size_asked align p.asked) p.place content good p.found)),
         three_sized owner start p.asked p.place (size_at p.place (blocks_of content.pools)),
       ) in
       let now : Content A = split_aligned_of owner align n content p in

@@ -12,7 +12,7 @@ use Rattle.tlsf_heap.specs.declared.refusal.Refusal.TheVariants.{BadPointer}
 use Rattle.tlsf_heap.specs.Content.{Block, Content, blocks_of, is_free, used_records}
 use Rattle.tlsf_heap.specs.Malloc.{malloc}
 use Rattle.tlsf_heap.specs.Free.{is_live, after_free}
-use Rattle.tlsf_heap.specs.Realloc.{given_anew, realloc}
+use Rattle.tlsf_heap.specs.Realloc.{given_anew}
 use Rattle.tlsf_heap.specs.Pointer.{Pointer, realloc_ptr}
 use Rattle.tlsf_heap.specs.Good.{IsGood}
 use Rattle.tlsf_heap.specs.Implied.{live_blocks}

@@ -82,13 +82,11 @@ pub record Picked {A : Type 0} (m place : ℕ) (content : Content A) : Type 0 wh
   pub once : times place (list_of (class (size_at place (blocks_of content.pools))) content.lists) ≡ 1
 
 module _ {A : Type 0} where
-  pub picked : (m place : ℕ) (content : Content A) → IsGood content → pick m content.lists ≡ Some place → Picked m place content
-  picked m place content good h =
-      let stand = pick_stands m place content.lists h in
-      let number : ℕ = stand.1 in
-      let below : number < classes = omega (arith, stand.5, good.lists_count) in
+  -- a block that stands in a list and has the bytes may be picked for them
+  pub listed_picked : (m place number : ℕ) (content : Content A) → IsGood content → number < classes → 1 ≤ times place (list_of number content.lists) → m ≤ size_at place (blocks_of content.pools) → Picked m place content
+  listed_picked m place number content good below stands holds =
       let listed = good.listed number place below in
-      let counted : 1 ≤ count_by (is_listed number place) (blocks_of content.pools) = omega (arith, listed, stand.4) in
+      let counted : 1 ≤ count_by (is_listed number place) (blocks_of content.pools) = omega (arith, listed, stands) in
       let block = found_listed number place 0 (blocks_of content.pools) (Ascends-pools 0 content.pools good.pools_good) counted in
       let size = sym (size_at-found place (blocks_of content.pools) block.0) in
       let of_class : class (size_at place (blocks_of content.pools)) ≡ number = ap class (sym size) ∙ block.2 in
@@ -99,16 +97,34 @@ module _ {A : Type 0} where
         found = block.0;
         free = block.1;
         size_is = size;
-        holds = need_holds m stand.0 (size_at place (blocks_of content.pools)) stand.2 (omega (arith, stand.3, of_class));
+        holds = holds;
         whole = (all_behind IsWholeBlock block.0.front (block.0.block ∷ block.0.back) all).0;
         once = (let P : ℕ → Type 0 = λ c. times place (list_of c content.lists) ≡ 1 in subst P (sym of_class) once);
       }
 
-  -- to split the block that was picked keeps the content good
-  pub allocated_is_good : (owner : A) (m place : ℕ) (content : Content A) → IsGood content → pick m content.lists ≡ Some place → 0 < m → m % unit ≡ 0
+  -- the block that is picked for some bytes has them
+  pick_holds : (m place c number : ℕ) (content : Content A) → IsGood content → need m ≡ Some c → c ≤ number → 1 ≤ times place (list_of number content.lists) → number < classes → m ≤ size_at place (blocks_of content.pools)
+  pick_holds m place c number content good needs above stands below =
+      let counted : 1 ≤ count_by (is_listed number place) (blocks_of content.pools) = omega (arith, good.listed number place below, stands) in
+      let block = found_listed number place 0 (blocks_of content.pools) (Ascends-pools 0 content.pools good.pools_good) counted in
+      let of_class : class (size_at place (blocks_of content.pools)) ≡ number = ap class (size_at-found place (blocks_of content.pools) block.0) ∙ block.2 in
+      need_holds m c (size_at place (blocks_of content.pools)) needs (omega (arith, above, of_class))
+
+  -- what is picked stands in a list, and has the bytes
+  pub pick_listed : (m place : ℕ) (content : Content A) → IsGood content → pick m content.lists ≡ Some place
+      → (number : ℕ) × (number < classes) × (1 ≤ times place (list_of number content.lists)) × (m ≤ size_at place (blocks_of content.pools))
+  pick_listed m place content good h =
+      let stand = pick_stands m place content.lists h in
+      let below : stand.1 < classes = omega (arith, stand.5, good.lists_count) in
+      (stand.1, below, stand.4, pick_holds m place stand.0 stand.1 content good stand.2 stand.3 stand.4 below)
+
+  pub picked : (m place : ℕ) (content : Content A) → IsGood content → pick m content.lists ≡ Some place → Picked m place content
+  picked m place content good h = let stand = pick_listed m place content good h in listed_picked m place stand.0 content good stand.1 stand.2 stand.3
+
+  -- to split a block that may be picked keeps the content good
+  pub allocated_is_good : (owner : A) (m place : ℕ) (content : Content A) → IsGood content → Picked m place content → 0 < m → m % unit ≡ 0
       → (m < size_at place (blocks_of content.pools) → used_records content < content.records) → IsGood (allocated owner place m (size_at place (blocks_of content.pools)) content)
-  allocated_is_good owner m place content good h positive in_units room =
-      let is = picked m place content good h in
+  allocated_is_good owner m place content good is positive in_units room =
       let size : ℕ = size_at place (blocks_of content.pools) in
       let more : List (Block A) = split owner place m size in
       let none : place - place ≡ 0 = omega arith in
@@ -122,9 +138,9 @@ module _ {A : Type 0} where
       subst P same (aligned_is_good owner place m place content good is.once (omega arith) (omega (arith, none, is.holds)) positive in_units (ap (λ g. g % unit) none) (omega (arith, ap used_records same, fits)))
 
   -- what malloc answers with is good
-  allocate_is_good : (owner : A) (m place : ℕ) (content : Content A) (new : ℕ × Content A) → IsGood content → pick m content.lists ≡ Some place → 0 < m → m % unit ≡ 0
+  pub allocate_is_good : (owner : A) (m place : ℕ) (content : Content A) (new : ℕ × Content A) → IsGood content → Picked m place content → 0 < m → m % unit ≡ 0
       → allocate owner place m (size_at place (blocks_of content.pools)) content ≡ Ok new → IsGood new.1
-  allocate_is_good owner m place content new good h positive in_units e =
+  allocate_is_good owner m place content new good is positive in_units e =
       let size : ℕ = size_at place (blocks_of content.pools) in
       elim (cases_Bool (nat_lt m size && nat_le content.records (used_records content))) [
         | inl full ↦ let refused : allocate owner place m size content ≡ Err TableFull = rw full refl in absurd (cc)
@@ -136,13 +152,13 @@ module _ {A : Type 0} where
             ] in
             let same : (place, allocated owner place m size content) ≡ new = cc in
             let P : ℕ × Content A → Type 0 = λ x. IsGood x.1 in
-            subst P same (allocated_is_good owner m place content good h positive in_units room)
+            subst P same (allocated_is_good owner m place content good is positive in_units room)
       ]
 
   picked_is_good : (owner : A) (m : ℕ) (content : Content A) (new : ℕ × Content A) (place : Option ℕ) → pick m content.lists ≡ place → IsGood content → 0 < m → m % unit ≡ 0
       → malloc_picked owner m place content ≡ Ok new → IsGood new.1
   picked_is_good owner m content new None h good positive in_units e = absurd (cc)
-  picked_is_good owner m content new (Some place) h good positive in_units e = allocate_is_good owner m place content new good h positive in_units e
+  picked_is_good owner m content new (Some place) h good positive in_units e = allocate_is_good owner m place content new good (picked m place content good h) positive in_units e
 
   pub rounded_is_good : (owner : A) (n : ℕ) (content : Content A) (new : ℕ × Content A) (m : Option ℕ) → round n ≡ m → IsGood content → 0 < n → malloc_rounded owner m content ≡ Ok new → IsGood new.1
   rounded_is_good owner n content new None h good positive e = absurd (cc)

@@ -1,5 +1,5 @@
 -- Where there is room, a request for bytes is served.
-use Rattle.std.proofs.Common.{◌≡◌, ◌≢◌, ℕ, zero, suc, ◌+◌, ◌-◌, ◌*◌, ◌%◌, ◌<◌, ◌≤◌, Bool, true, false, not, List, [], ◌∷◌, ◌++◌, length, refl, ap, ◌∙◌, arith, count_by, Option, Some, Err, inl, inr, subst}
+use Rattle.std.proofs.Common.{◌≡◌, ◌≢◌, ℕ, zero, suc, ◌+◌, ◌-◌, ◌*◌, ◌%◌, ◌<◌, ◌≤◌, Bool, true, false, not, List, [], ◌∷◌, ◌++◌, length, refl, ap, ◌∙◌, arith, count_by, Option, Some, Ok, Err, Result, inl, inr, subst}
 use Rattle.std.specs.Prelude.{IsTrue, if◌then◌else◌}
 use Rattle.std.specs.List.{AllByRecursion}
 use Rattle.std.proofs.lemmas.List.Elements.{recursion_from_All}
@@ -10,6 +10,7 @@ use Rattle.tlsf_heap.specs.declared.refusal.Refusal.{Refusal}
 use Rattle.tlsf_heap.specs.declared.refusal.Refusal.TheVariants.{BadPointer, BadAlign}
 use Rattle.tlsf_heap.specs.Content.{Block, Pool, Content, blocks_of, is_free}
 use Rattle.tlsf_heap.specs.Malloc.{malloc}
+use Rattle.tlsf_heap.specs.OwnClass.{malloc_or_own}
 use Rattle.tlsf_heap.specs.Memalign.{size_asked, memalign}
 use Rattle.tlsf_heap.specs.Realloc.{realloc}
 use Rattle.tlsf_heap.specs.Good.{Covers, AreGoodPools, IsGood}
@@ -17,6 +18,7 @@ use Rattle.tlsf_heap.specs.Implied.{AreFreeBelow, live_blocks}
 use Rattle.tlsf_heap.specs.Room.{live_bytes, pool_bytes, HasRoomFor, HasRoom, HasRoomAligned}
 use Rattle.tlsf_heap.proofs.Counts.{count-cons, one_if}
 use Rattle.tlsf_heap.proofs.Content.MallocCases.{malloc_reasons}
+use Rattle.tlsf_heap.proofs.Content.OwnCases.{as_malloc}
 use Rattle.tlsf_heap.proofs.Content.MemalignCases.{memalign_reasons}
 use Rattle.tlsf_heap.proofs.Content.ReallocCases.{realloc_reasons}
 use Rattle.tlsf_heap.proofs.Good.Implied.{no_fit, malloc_full, few_blocks}
@@ -41,7 +43,7 @@ module _ {A : Type 0} where
   abbrev free_count : List (Block A) → ℕ
   free_count blocks = count_by (λ block. is_free block) blocks
 
-  live_bytes-append : (front back : List (Block A)) → live_bytes (front ++ back) ≡ live_bytes front + live_bytes back
+  pub live_bytes-append : (front back : List (Block A)) → live_bytes (front ++ back) ≡ live_bytes front + live_bytes back
   live_bytes-append [] back = omega arith
   live_bytes-append (block ∷ front) back = omega (arith, live_bytes-append front back)
 
@@ -127,6 +129,14 @@ module _ {A : Type 0} where
     | inr (inl fit) ↦ one_fits (λ m. m) 1 n content good room (no_fit owner n content good (refused ∙ ap (λ why. Err why) fit) room.m room.c room.rounds room.needed)
     | inr (inr full) ↦ omega (arith, malloc_full owner n content good (refused ∙ ap (λ why. Err why) full), room.records)
   ]
+
+  -- and so does the call that may take a block of their own class
+  pub or_own_room_serves : (owner : A) (n : ℕ) (content : Content A) (refusal : Refusal) → IsGood content → HasRoom n content → malloc_or_own owner n content ≡ Err refusal → ⊥
+  or_own_room_serves owner n content refusal good room refused = by (malloc owner n content) refl
+    where
+      by : (answer : Result (ℕ × Content A) Refusal) → malloc owner n content ≡ answer → ⊥
+      by (Ok new) is = let same = as_malloc owner content n new is in absurd (cc)
+      by (Err why) is = room_serves owner n content why good room is
 
   -- memalign finds both, too, and refuses a bad alignment alone
   pub aligned_room_serves : (owner : A) (align n : ℕ) (content : Content A) (refusal : Refusal) → IsGood content → HasRoomAligned align n content → memalign owner align n content ≡ Err refusal → refusal ≡ BadAlign

@@ -4,7 +4,6 @@ use Rattle.std.specs.Prelude.{⊤, is_none}
 use Rattle.std.specs.List.{list_any}
 use Rattle.std.proofs.lemmas.Bool.{cases_Bool, eq-eqb, ne_eqb, eqb-true, and_left, and_right, or_right}
 use Rattle.tlsf_heap.specs.Content.{Block, Content, blocks_of, is_free, is_at, size_at}
-use Rattle.tlsf_heap.specs.Lists.{pick}
 use Rattle.tlsf_heap.specs.Malloc.{replaced, replaced_in, split, allocated, malloc_rounded, malloc}
 use Rattle.tlsf_heap.specs.Free.{is_owned_by, is_live, after_free, free}
 use Rattle.tlsf_heap.specs.Realloc.{resized, realloc}
@@ -19,7 +18,7 @@ use Rattle.tlsf_heap.proofs.Meaning.FreeFirst.{begins_once}
 use Rattle.tlsf_heap.proofs.Meaning.Gaps.{FailsOnFree, split_counts}
 use Rattle.tlsf_heap.proofs.Meaning.FreedIsGood.{freed_counts}
 use Rattle.tlsf_heap.proofs.Meaning.ResizedIsGood.{resized_counts}
-use Rattle.tlsf_heap.proofs.Good.MallocIsGood.{picked, malloc_is_good}
+use Rattle.tlsf_heap.proofs.Good.MallocIsGood.{Picked, picked, malloc_is_good}
 
 -- whether a free block begins at the place
 abbrev pub is_free_at : {A : Type 0} → ℕ → Block A → Bool
@@ -42,9 +41,8 @@ module _ {A : Type 0} where
   found_stands kind place blocks found passes =
       omega (arith, ap (count_by kind) found.whole, count-append kind found.front (found.block ∷ found.back), count-cons kind found.block found.back, ap one_if passes)
 
-  pub picked_stands : (m place : ℕ) (content : Content A) → IsGood content → pick m content.lists ≡ Some place → 1 ≤ count_by (is_free_at place) (blocks_of content.pools)
-  picked_stands m place content good is =
-      let there = picked m place content good is in
+  pub picked_stands : (m place : ℕ) (content : Content A) → Picked m place content → 1 ≤ count_by (is_free_at place) (blocks_of content.pools)
+  picked_stands m place content there =
       let P : ℕ → Type 0 = λ at. 1 ≤ count_by (is_free_at at) (blocks_of content.pools) in
       subst P there.found.here (found_stands (is_free_at there.found.block.place) place (blocks_of content.pools) there.found (free_at_own there.found.block there.free))
 
@@ -61,25 +59,24 @@ module _ {A : Type 0} where
   ]
 
   -- others come in where a free block was picked
-  pub picked_counts : (m place : ℕ) (others : List (Block A)) (content : Content A) → IsGood content → pick m content.lists ≡ Some place → (test : Block A → Bool) → FailsOnFree test
+  pub picked_counts : (m place : ℕ) (others : List (Block A)) (content : Content A) → Picked m place content → (test : Block A → Bool) → FailsOnFree test
       → count_by test (blocks_of (map (replaced_in place others) content.pools)) ≡ count_by test (blocks_of content.pools) + count_by test others
-  picked_counts m place others content good is test fails =
-      let there = picked m place content good is in
+  picked_counts m place others content there test fails =
       omega (arith, ap (count_by test) (blocks_of-replaced place others content.pools), count_by-replaced place others (blocks_of content.pools) test there.found, ap one_if (fails there.found.block there.free))
 
   -- the block picked was split
-  split_gives : (owner : A) (m place : ℕ) (content : Content A) → IsGood content → pick m content.lists ≡ Some place → Gives owner place content (allocated owner place m (size_at place (blocks_of content.pools)) content)
-  split_gives owner m place content good is =
+  pub split_gives : (owner : A) (m place : ℕ) (content : Content A) → Picked m place content → Gives owner place content (allocated owner place m (size_at place (blocks_of content.pools)) content)
+  split_gives owner m place content there =
       let size : ℕ = size_at place (blocks_of content.pools) in
       record {
         size = m;
-        counts = (λ test fails. omega (arith, picked_counts m place (split owner place m size) content good is test fails, split_counts test fails owner place m size));
+        counts = (λ test fails. omega (arith, picked_counts m place (split owner place m size) content there test fails, split_counts test fails owner place m size));
       }
 
-  malloc_gives : (owner : A) (n place : ℕ) (content new : Content A) → IsGood content → malloc owner n content ≡ Ok (place, new) → Gives owner place content new
+  pub malloc_gives : (owner : A) (n place : ℕ) (content new : Content A) → IsGood content → malloc owner n content ≡ Ok (place, new) → Gives owner place content new
   malloc_gives owner n place content new good e =
       let gave = malloc_gave owner content n (place, new) e in
-      subst (λ (g : ℕ × Content A). Gives owner g.0 content g.1) gave.4 (split_gives owner gave.0 gave.1 content good gave.3)
+      subst (λ (g : ℕ × Content A). Gives owner g.0 content g.1) gave.4 (split_gives owner gave.0 gave.1 content (picked gave.0 gave.1 content good gave.3))
 
 module _ {A : Type 0} (is_meant : A → Bool) where
   not_owned : (owner : Option A) → is_none owner ≡ true → is_owned_by is_meant owner ≡ false
@@ -131,7 +128,7 @@ module _ {A : Type 0} (is_meant : A → Bool) where
   pub live_after : (owner : A) (m p : ℕ) (content : Content A) (given : ℕ × Content A) → IsGood content → is_live is_meant p (blocks_of content.pools) ≡ true → malloc_rounded owner (Some m) content ≡ Ok given → is_live is_meant p (blocks_of given.1.pools) ≡ true
   live_after owner m p content given good live e =
       let gave = rounded_gave owner content (Some m) given e in
-      subst (λ (g : ℕ × Content A). is_live is_meant p (blocks_of g.1.pools) ≡ true) gave.4 (live_still owner p gave.1 content (allocated owner gave.1 gave.0 (size_at gave.1 (blocks_of content.pools)) content) (split_gives owner gave.0 gave.1 content good gave.3) live)
+      subst (λ (g : ℕ × Content A). is_live is_meant p (blocks_of g.1.pools) ≡ true) gave.4 (live_still owner p gave.1 content (allocated owner gave.1 gave.0 (size_at gave.1 (blocks_of content.pools)) content) (split_gives owner gave.0 gave.1 content (picked gave.0 gave.1 content good gave.3)) live)
 
   pub live_given : (owner : A) (n place : ℕ) (content new : Content A) → IsGood content → malloc owner n content ≡ Ok (place, new) → is_meant owner ≡ true → is_live is_meant place (blocks_of new.pools) ≡ true
   live_given owner n place content new good e meant = given_is_live owner place content new (malloc_gives owner n place content new good e) meant

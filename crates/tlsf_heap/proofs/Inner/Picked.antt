@@ -45,14 +45,14 @@ first_in ((other ∷ nodes) ∷ lists) node is = (zero, nodes, ap (λ n. n ∷ n
     same x y e = cc
 
 -- the first of a class's list is in it
-head_listed : (lists : List (List Node)) (number slot : ℕ) → head_at (map first_slot lists) number ≡ Some slot → 1 ≤ count_by (has_slot slot) (nodes_in number lists)
+pub head_listed : (lists : List (List Node)) (number slot : ℕ) → head_at (map first_slot lists) number ≡ Some slot → 1 ≤ count_by (has_slot slot) (nodes_in number lists)
 head_listed [] number slot is = absurd (cc)
 head_listed (nodes ∷ lists) zero slot is = first_stands nodes slot is
 head_listed (nodes ∷ lists) (suc number) slot is = head_listed lists number slot is
 
 module _ (cells : Cells) (stands : Stands cells) where
   -- what the record of the first node of a list says
-  first_says : (number : ℕ) (node : Node) (nodes : List Node) → nodes_in number stands.layout.lists ≡ node ∷ nodes → ((record_at cells.records node.slot).state ≡ Free) × ((record_at cells.records node.slot).place ≡ node.place)
+  pub first_says : (number : ℕ) (node : Node) (nodes : List Node) → nodes_in number stands.layout.lists ≡ node ∷ nodes → ((record_at cells.records node.slot).state ≡ Free) × ((record_at cells.records node.slot).place ≡ node.place)
   first_says number node nodes is =
       let stray = ap (count_by (strays cells.records)) (sym is) ∙ list_strays cells stands.layout stands.represented number in
       let listed = listed_at cells stands number node.slot (omega (arith, ap (count_by (has_slot node.slot)) is, first_stands (node ∷ nodes) node.slot refl)) in (

@@ -11,13 +11,13 @@ use Rattle.tlsf_store.proofs.RecordLaws.{vacant_count-take}
 use Rattle.tlsf_heap.specs.declared.refusal.Refusal.TheVariants.{TableFull}
 use Rattle.tlsf_heap.specs.GoodSlots.{is_slot, slot_times}
 use Rattle.tlsf_heap.specs.Content.{Block, Content, blocks_of, used_records}
-use Rattle.tlsf_heap.specs.Lists.{pick}
 use Rattle.tlsf_heap.specs.Malloc.{allocated, malloc_picked}
 use Rattle.tlsf_heap.specs.Good.{IsGood}
 use Rattle.tlsf_heap.specs.Inner.Nodes.{NodeState, InUse, Listed, Node, Layout, turned, owner_of, block_of, content_by, nodes_of, has_slot, gap_nodes, entered_gap}
 use Rattle.tlsf_heap.specs.Inner.Following.{content_of, Stands}
+use Rattle.tlsf_heap.specs.Inner.Answers.{IsPick, IsTakeable}
 use Rattle.tlsf_heap.specs.Inner.At.{At, areas_at, layout_at, StandsAt, at_taken, at_split_off, at_split_rest}
-use Rattle.tlsf_heap.proofs.Good.MallocIsGood.{picked, allocated_is_good}
+use Rattle.tlsf_heap.proofs.Good.MallocIsGood.{Picked, listed_picked, pick_listed, allocated_is_good}
 use Rattle.tlsf_heap.specs.Inner.Positions.{is_loose}
 use Rattle.tlsf_heap.proofs.Counts.{one_if, count-cons, count-map}
 use Rattle.tlsf_heap.proofs.Inner.Plugs.{count-filled}
@@ -40,9 +40,19 @@ room_left cells stands rest within vacant = omega (arith, used_are cells stands,
 no_room : (cells : Cells) (stands : Stands cells) → vacant_count cells.records ≡ 0 → (content_of cells).records ≤ used_records (content_of cells)
 no_room cells stands none = omega (arith, none, used_are cells stands, records_are cells)
 
-module _ (cells : Cells) (stands : Stands cells) (place slot asked : ℕ) (by : NodeAt place slot Listed cells stands.layout) (some : 0 < asked) (whole : asked % unit ≡ 0) (found : pick asked (content_of cells).lists ≡ Some place) where
+-- a block that may be taken is one that may be picked
+pub takeable_picked : (cells : Cells) (stands : Stands cells) (asked class slot : ℕ) → IsTakeable asked class slot cells → Picked asked (record_at cells.records slot).place (content_of cells)
+takeable_picked cells stands asked class slot is = listed_picked asked (record_at cells.records slot).place is.number (content_of cells) (content_is_good cells stands) is.below is.stands is.holds
+
+-- the block picked may be taken
+pub pick_takeable : (cells : Cells) (stands : Stands cells) (asked class slot : ℕ) → IsPick asked class slot cells → IsTakeable asked class slot cells
+pick_takeable cells stands asked class slot is =
+    let listed = pick_listed asked (record_at cells.records slot).place (content_of cells) (content_is_good cells stands) is.found in
+    record { of_class = is.of_class; free = is.free; number = listed.0; below = listed.1; stands = listed.2; holds = listed.3 }
+
+module _ (cells : Cells) (stands : Stands cells) (place slot asked : ℕ) (by : NodeAt place slot Listed cells stands.layout) (some : 0 < asked) (whole : asked % unit ≡ 0) (is : Picked asked place (content_of cells)) where
   pub holds : asked ≤ by.at.node.size
-  holds = omega (arith, (picked asked place (content_of cells) (content_is_good cells stands) found).holds, node_size cells stands place slot Listed by)
+  holds = omega (arith, is.holds, node_size cells stands place slot Listed by)
 
   -- what malloc gives, where a rest has a record
   gives : (asked < by.at.node.size → used_records (content_of cells) < (content_of cells).records)
@@ -55,7 +65,7 @@ module _ (cells : Cells) (stands : Stands cells) (place slot asked : ℕ) (by : 
       ]) in (
         ap (λ n. cond (nat_lt asked n && nat_le (content_of cells).records (used_records (content_of cells))) (Err TableFull) (Ok (place, allocated slot place asked n (content_of cells)))) (node_size cells stands place slot Listed by)
             ∙ ap (λ b. cond b (Err TableFull) (Ok (place, allocated slot place asked by.at.node.size (content_of cells)))) served,
-        subst P (node_size cells stands place slot Listed by) (allocated_is_good slot asked place (content_of cells) (content_is_good cells stands) found some whole (λ larger. room (omega (arith, larger, node_size cells stands place slot Listed by)))),
+        subst P (node_size cells stands place slot Listed by) (allocated_is_good slot asked place (content_of cells) (content_is_good cells stands) is some whole (λ larger. room (omega (arith, larger, node_size cells stands place slot Listed by)))),
       )
 
   -- the block taken is the slot's, at its place

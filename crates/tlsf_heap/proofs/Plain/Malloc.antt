@@ -49,7 +49,7 @@ pub allocated_is_plain : (slot place asked size : ℕ) (content : Content ℕ) �
 allocated_is_plain slot place asked size content plain in_units positive is same room below new =
     let P : ℕ → Type 0 = λ s. IsPlain (allocated slot place asked s content) in
     subst P (sym same) (record {
-      good = allocated_is_good slot asked place content plain.good is positive in_units (λ larger. room (omega (arith, larger, same)));
+      good = allocated_is_good slot asked place content plain.good (picked asked place content plain.good is) positive in_units (λ larger. room (omega (arith, larger, same)));
       slots = allocated_slots slot asked place content plain.good is plain.slots below new;
       records_few = plain.records_few;
     })

@@ -1,13 +1,15 @@
 -- What steps over a store promise: the cells that they leave, and how often they touch it.
-use Rattle.std.specs.Prelude.{◌≡◌, ℕ, Some, Result, IfOk, IfErr, OnErr}
+use Rattle.std.specs.Prelude.{◌≡◌, ℕ, ◌<◌, ◌≤◌, Option, Some, Result, IfOk, IfErr, OnErr}
 use Rattle.tlsf_store.specs.declared.records.State.TheVariants.{Free}
 use Rattle.tlsf_store.specs.Records.{record_at}
 use Rattle.tlsf_store.specs.Cells.{Cells}
 use Rattle.tlsf_store.specs.CountedCells.{CountedCells}
 use Rattle.tlsf_heap.specs.declared.refusal.Refusal.{Refusal}
 use Rattle.tlsf_heap.specs.Touches.{AtMost}
-use Rattle.tlsf_heap.specs.Content.{Content}
-use Rattle.tlsf_heap.specs.Lists.{pick}
+use Rattle.tlsf_class.specs.Classes.{classes}
+use Rattle.tlsf_heap.specs.Content.{Content, blocks_of, size_at}
+use Rattle.tlsf_heap.specs.Good.{times}
+use Rattle.tlsf_heap.specs.Lists.{list_of, pick}
 use Rattle.tlsf_heap.specs.Inner.Spans.{IsOfClass}
 use Rattle.tlsf_heap.specs.Inner.Following.{Stands, content_of}
 
@@ -21,6 +23,20 @@ pub record IsPick (asked class slot : ℕ) (cells : Cells) : Type 0 where
   pub of_class : IsOfClass class (record_at cells.records slot)
   pub free : (record_at cells.records slot).state ≡ Free
   pub found : pick asked (content_of cells).lists ≡ Some (record_at cells.records slot).place
+
+-- the slot's block, of this class, is free, stands in a list, and has the bytes asked
+pub record IsTakeable (asked class slot : ℕ) (cells : Cells) : Type 0 where
+  pub of_class : IsOfClass class (record_at cells.records slot)
+  pub free : (record_at cells.records slot).state ≡ Free
+  pub number : ℕ
+  pub below : number < classes
+  pub stands : 1 ≤ times (record_at cells.records slot).place (list_of number (content_of cells).lists)
+  pub holds : asked ≤ size_at (record_at cells.records slot).place (blocks_of (content_of cells).pools)
+
+-- the slot's block, of this class, may be taken, and is the one that was found
+pub record IsTakenFor (asked : ℕ) (place : Option ℕ) (class slot : ℕ) (cells : Cells) : Type 0 where
+  pub takeable : IsTakeable asked class slot cells
+  pub found : place ≡ Some (record_at cells.records slot).place
 
 -- a call over a store that stands, by its content: what it gives, or why it is refused. Refused, it leaves the cells as they
 -- were. At most n touches

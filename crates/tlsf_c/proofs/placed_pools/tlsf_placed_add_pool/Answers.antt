@@ -6,6 +6,8 @@ use Rattle.tlsf_heap.specs.Counted.{Counted, range_of}
 use Rattle.tlsf_c.specs.declared.placed_pool.PlacedPool.{PlacedPool}
 use Rattle.tlsf_c.specs.PlacedPools.{IsPlaced, IsClearOf, CanBePlaced, placed_range}
 use Rattle.tlsf_c.specs.RangeMoves.{IsRangeAdded}
+use Rattle.tlsf_c.specs.LiveFigures.{IsLiveChange}
+use Rattle.tlsf_c.proofs.LiveChanges.{same_figures}
 use Rattle.tlsf_c.proofs.EntriesMoved.{apart_after, entries_added}
 use Rattle.tlsf_c.proofs.placed_pools.tlsf_placed_add_pool.Goals as goal
 
@@ -38,5 +40,6 @@ invariant_of-heap c =
         record { addresses = λ some positive below above. clear i d h some above below; places = λ some positive. begins_elsewhere i d h some },
         record { addresses = λ positive. clear i d h; places = λ positive some same. begins_elsewhere i d h some (sym same) },
       ));
+      figures_are = same_figures heap.figures heap.handle.value.content c.enter.new.heap.content (subst (λ (h : Counted). IsLiveChange 0 0 0 0 h.content c.enter.new.heap.content) c.heap.ensures.value c.in-Ok.ensures.live) heap.figures_are;
       entries = ∥∥₁_map heap.entries (entries_added heap.pools k new within place c.args.bytes (map range_of heap.handle.value.content.pools) (map range_of c.enter.new.heap.content.pools) c.in-Some.ensures.1 added refl (omega (arith, can.long)));
     }

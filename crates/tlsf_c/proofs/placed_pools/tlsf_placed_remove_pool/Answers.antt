@@ -6,6 +6,8 @@ use Rattle.tlsf_heap.specs.Counted.{Counted, range_of}
 use Rattle.tlsf_c.specs.declared.placed_pool.PlacedPool.{PlacedPool}
 use Rattle.tlsf_c.specs.PlacedPools.{IsPlaced}
 use Rattle.tlsf_c.specs.RangeMoves.{IsRangeRemoved}
+use Rattle.tlsf_c.specs.LiveFigures.{IsLiveChange}
+use Rattle.tlsf_c.proofs.LiveChanges.{same_figures}
 use Rattle.tlsf_c.proofs.EntriesMoved.{apart_after, entries_removed}
 use Rattle.tlsf_c.proofs.placed_pools.tlsf_placed_remove_pool.Goals as goal
 
@@ -26,5 +28,6 @@ invariant_of-heap c =
         record { addresses = λ some none. absurd (omega (arith, none)); places = λ some none. absurd (omega (arith, none)) },
         record { addresses = λ none. absurd (omega (arith, none)); places = λ none. absurd (omega (arith, none)) },
       ));
+      figures_are = same_figures heap.figures heap.handle.value.content c.leave.new.heap.content (subst (λ (h : Counted). IsLiveChange 0 0 0 0 h.content c.leave.new.heap.content) c.heap.ensures.value c.in-Ok.ensures.live) heap.figures_are;
       entries = ∥∥₁_map heap.entries (entries_removed heap.pools k new within (map range_of heap.handle.value.content.pools) (map range_of c.leave.new.heap.content.pools) gone heap.apart is (omega (arith, c.if-pool-eq0.false)) removed refl);
     }

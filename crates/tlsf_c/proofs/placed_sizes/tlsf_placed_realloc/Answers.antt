@@ -1,11 +1,12 @@
 use Rattle.std.specs.Prelude.{List, Contains}
-use Rattle.std.proofs.Common.{◌≡◌, ℕ, rules, ◌+◌, map, Some, Err, inl, inr, refl, ◌∙◌, subst, arith}
+use Rattle.std.proofs.Common.{◌≡◌, ℕ, rules, ◌+◌, ◌-◌, min, map, Some, Err, inl, inr, refl, sym, ap, ◌∙◌, subst, arith}
 use Rattle.tlsf_heap.specs.declared.refusal.Refusal.TheVariants.{BadPointer, NoFit}
 use Rattle.tlsf_heap.specs.Content.{Content}
 use Rattle.tlsf_heap.specs.Counted.{range_of}
 use Rattle.tlsf_heap.specs.Pointer.{Pointer, realloc_ptr}
 use Rattle.tlsf_heap.specs.Served.{IsMoved}
-use Rattle.tlsf_c.specs.Fronts.{told_slot, told_size}
+use Rattle.std.proofs.lemmas.Bool.{eq-eqb, ne_eqb}
+use Rattle.tlsf_c.specs.Fronts.{front, told_slot, told_size}
 use Rattle.tlsf_c.specs.Lying.{LiesIn}
 use Rattle.tlsf_c.specs.declared.placed_pool.PlacedPool.{PlacedPool}
 use Rattle.tlsf_c.specs.PlacedHeaps.{told_block}
@@ -25,7 +26,7 @@ pub returns-then-bytes-gt-MOST-clause-refused : goal.returns-then-bytes-gt-MOST-
 returns-then-bytes-gt-MOST-clause-refused c = λ none.
     let heap = c.args.heap.now in
     let some = c.in-Some.ensures.some in
-    let live = found_live c.args.address c.args.word.now c.in-Some.ptr heap.pools heap.handle.value.content some.0 some.1 some.2 in
+    let live = found_live c.args.address c.args.word.now c.in-Some.block.ptr heap.pools heap.handle.value.content some.0 some.1 some.2 in
     record {
       refusal = NoFit;
       refused = inr (live, grows_above (told_slot c.args.word.now c.args.address) (told_block live.place c.args.address c.args.word.now) c.args.bytes (told_size c.args.word.now c.args.address) heap.handle.value.content live.live (omega (arith, c.if-bytes-gt-MOST.true)));
@@ -33,8 +34,8 @@ returns-then-bytes-gt-MOST-clause-refused c = λ none.
       unchanged = search rules;
     }
 
-pub place_block-requires-clause-somewhere : goal.place_block-requires-clause-somewhere
-place_block-requires-clause-somewhere c =
+pub place_block-now-requires-clause-somewhere : goal.place_block-now-requires-clause-somewhere
+place_block-now-requires-clause-somewhere c =
     let heap = c.find.new.heap in
     let ptr = c.in-Ok.new.ptr in
     lies_somewhere ptr.place c.in-Ok.new.size (map range_of heap.handle.value.content.pools) heap.pools heap.entries c.in-Ok.ensures.lies (omega (arith, c.in-Ok.ensures.holds, c.in-Ok.ensures.units))
@@ -45,9 +46,9 @@ returns-in-Ok-clause-given c = λ some.
     let content = heap.handle.value.content in
     let new = c.in-Ok.new in
     let found = c.in-Some.ensures.some in
-    let live = found_live c.args.address c.args.word.now c.in-Some.ptr heap.pools content found.0 found.1 found.2 in
+    let live = found_live c.args.address c.args.word.now c.in-Some.block.ptr heap.pools content found.0 found.1 found.2 in
     let same : c.find.new.heap.handle.value.content ≡ content = c.find.ensures.read.unchanged.content in
-    let there = c.place_block.ensures.at in
+    let there = c.place_block-now.ensures.at in
     let of_pools = subst (λ (pools : List PlacedPool). Contains pools there.0) c.find.ensures.pools there.1 in
     let lies = subst (λ (k : Content ℕ). LiesIn new.ptr.place new.size (map range_of k.pools)) same c.in-Ok.ensures.lies in
     let ends = ends_in_entry new.ptr.place new.size (map range_of content.pools) heap.pools there.0 heap.entries lies of_pools there.2.has in
@@ -56,7 +57,7 @@ returns-in-Ok-clause-given c = λ some.
       pointer = new.ptr;
       pool = there.0;
       moved = subst (λ (p : Pointer). IsMoved (realloc_ptr (Some p) (c.args.bytes + 8)) (Some p) (Some new.ptr) content c.resize.new.handle.value.content) found.0
-          (subst (λ (k : Content ℕ). IsMoved (realloc_ptr (Some c.in-Some.ptr) (c.args.bytes + 8)) (Some c.in-Some.ptr) (Some new.ptr) k c.resize.new.handle.value.content) same c.in-Ok.ensures.ok);
+          (subst (λ (k : Content ℕ). IsMoved (realloc_ptr (Some c.in-Some.block.ptr) (c.args.bytes + 8)) (Some c.in-Some.block.ptr) (Some new.ptr) k c.resize.new.handle.value.content) same c.in-Ok.ensures.ok);
       of_pools = of_pools;
       at = there.2;
       ends = omega (arith, there.2.address_is, there.2.has.0, ends, c.in-Ok.ensures.holds);
@@ -67,7 +68,7 @@ returns-in-Err-clause-refused c = λ none.
     let heap = c.args.heap.now in
     let content = heap.handle.value.content in
     let found = c.in-Some.ensures.some in
-    let live = found_live c.args.address c.args.word.now c.in-Some.ptr heap.pools content found.0 found.1 found.2 in
+    let live = found_live c.args.address c.args.word.now c.in-Some.block.ptr heap.pools content found.0 found.1 found.2 in
     let same : c.find.new.heap.handle.value.content ≡ content = c.find.ensures.read.unchanged.content in
     let why = c.in-Err.ensures.refused in
     record {
@@ -75,8 +76,19 @@ returns-in-Err-clause-refused c = λ none.
       refused = inr (
         live,
         subst (λ (p : Pointer). realloc_ptr (Some p) (c.args.bytes + 8) p.slot content ≡ Err why.0) found.0
-            (subst (λ (k : Content ℕ). realloc_ptr (Some c.in-Some.ptr) (c.args.bytes + 8) c.in-Some.ptr.slot k ≡ Err why.0) same why.2),
+            (subst (λ (k : Content ℕ). realloc_ptr (Some c.in-Some.block.ptr) (c.args.bytes + 8) c.in-Some.block.ptr.slot k ≡ Err why.0) same why.2),
       );
       number_is = c.from-in-Err.ensures ∙ why.1;
       unchanged = record { content = c.in-Err.ensures.unchanged.content ∙ same; rows = c.in-Err.ensures.unchanged.rows ∙ c.find.ensures.read.unchanged.rows };
     }
+
+pub returns-in-Ok-clause-stays : goal.returns-in-Ok-clause-stays
+returns-in-Ok-clause-stays c = λ some same. c.to_copy.ensures.stays (eq-eqb c.place_block-now.result c.args.address same)
+
+pub returns-in-Ok-clause-moves : goal.returns-in-Ok-clause-moves
+returns-in-Ok-clause-moves c = λ some apart.
+    let had_is : c.in-Some.block.size ≡ told_size c.args.word.now c.args.address = c.in-Some.ensures.some.3 in
+    let has_is : c.in-Ok.new.size ≡ told_size c.place_block-now.new.word c.place_block-now.result = sym c.place_block-now.ensures.size in
+    c.to_copy.ensures.moves (ne_eqb c.place_block-now.result c.args.address apart)
+    ∙ ap (λ (n : ℕ). min (n - front) (c.in-Ok.new.size - front)) had_is
+    ∙ ap (λ (n : ℕ). min (told_size c.args.word.now c.args.address - front) (n - front)) has_is

@@ -1,13 +1,10 @@
-use Rattle.std.proofs.Common.{rules, ◌≡◌, ◌≢◌, ℕ, ◌<◌, length, refl, sym, ap, ◌∙◌, arith, Option, Some, Ok, Result}
+use Rattle.std.proofs.Common.{rules, ◌≡◌, ◌≢◌, ℕ, ◌<◌, length, refl, sym, ap, ◌∙◌, arith, Option, Some, Ok}
 use Rattle.tlsf_store.specs.declared.records.Record.{Record}
 use Rattle.tlsf_store.specs.declared.records.State.TheVariants.{Free}
 use Rattle.tlsf_store.specs.Records.{blank, record_at}
 use Rattle.tlsf_store.specs.Cells.{Cells, with_taken}
 use Rattle.tlsf_store.proofs.RecordLaws.{record_at-set_other}
-use Rattle.tlsf_heap.specs.declared.refusal.Refusal.{Refusal}
-use Rattle.tlsf_heap.specs.Content.{Content}
-use Rattle.tlsf_heap.specs.Lists.{pick}
-use Rattle.tlsf_heap.specs.Malloc.{malloc_picked, malloc_rounded}
+use Rattle.tlsf_heap.specs.Malloc.{malloc_picked}
 use Rattle.tlsf_heap.specs.Inner.Nodes.{Listed, Loose}
 use Rattle.tlsf_heap.specs.Inner.Following.{Stands, content_of}
 use Rattle.tlsf_heap.specs.Inner.At.{At, StandsAt, with_slot, at_unlisted}
@@ -16,7 +13,7 @@ use Rattle.tlsf_heap.proofs.Inner.Steps.{size_read}
 use Rattle.tlsf_heap.proofs.Inner.Allotted.{slot_stands, listed_read, read_leaves}
 use Rattle.tlsf_heap.proofs.Inner.Spans.{read_of, read_stays}
 use Rattle.tlsf_heap.proofs.Inner.Live.{free_at}
-use Rattle.tlsf_heap.proofs.Inner.TakenBlock.{room_left, holds, whole_stands, part_stands, full_refused, slot_below, slot_new}
+use Rattle.tlsf_heap.proofs.Inner.TakenBlock.{takeable_picked, room_left, holds, whole_stands, part_stands, full_refused, slot_below, slot_new}
 use Rattle.tlsf_heap.proofs.malloc.take.Goals as goal
 use Rattle.tlsf_heap.proofs.malloc.take.Goals.{In-Some, After-unlink}
 
@@ -40,28 +37,24 @@ kept old before new result slot rest block free same is taken vacant read =
 
 pub take_whole-requires-clause-stands : goal.take_whole-requires-clause-stands
 take_whole-requires-clause-stands c =
-    let by = free_at c.args.store.now.cells c.requires.stands c.args.slot c.requires.picked.free in (by.at, rw c.read_used-block.ensures.left.cells by.stands)
-
--- malloc of the bytes asked is malloc of the block picked for them
-picked : (owner asked place : ℕ) (content : Content ℕ) → pick asked content.lists ≡ Some place → (answer : Result (ℕ × Content ℕ) Refusal) → malloc_picked owner asked (Some place) content ≡ answer → malloc_rounded owner (Some asked) content ≡ answer
-picked owner asked place content found answer is = ap (λ at. malloc_picked owner asked at content) found ∙ is
+    let by = free_at c.args.store.now.cells c.requires.stands c.args.slot c.requires.takeable.free in (by.at, rw c.read_used-block.ensures.left.cells by.stands)
 
 -- what a whole block leaves
 whole : (c : goal.After-new) → Stands c.take_whole.new.store.cells × (malloc_picked c.args.slot c.args.asked (Some (record_at c.args.store.now.cells.records c.args.slot).place) (content_of c.args.store.now.cells) ≡ Ok ((record_at c.args.store.now.cells.records c.args.slot).place, content_of c.take_whole.new.store.cells))
 whole c =
     let old : Cells = c.args.store.now.cells in
-    let by = free_at old c.requires.stands c.args.slot c.requires.picked.free in
+    let by = free_at old c.requires.stands c.args.slot c.requires.takeable.free in
     let size = sym c.if-block-asked.true ∙ size_is old c.args.slot by.at c.read_used-block.result by.stands c.read_used-block.ensures.value in
-    whole_stands old c.requires.stands (record_at old.records c.args.slot).place c.args.slot c.args.asked by c.requires.size.positive c.requires.size.in_units c.requires.picked.found c.take_whole.new.store.cells
+    whole_stands old c.requires.stands (record_at old.records c.args.slot).place c.args.slot c.args.asked by c.requires.size.positive c.requires.size.in_units (takeable_picked c.args.store.now.cells c.requires.stands c.args.asked c.args.class c.args.slot c.requires.takeable) c.take_whole.new.store.cells
     (c.take_whole.ensures.leads by.at (rw c.read_used-block.ensures.left.cells by.stands)) size
 
 pub returns-then-block-asked : goal.returns-then-block-asked
 returns-then-block-asked c = record {
   stands = (whole c).0;
   ok = record {
-    ok = rw (c.new.ensures, c.read_used-block.ensures.value, c.slot.view_is) (picked c.args.slot c.args.asked (record_at c.args.store.now.cells.records c.args.slot).place (content_of c.args.store.now.cells) c.requires.picked.found _ (whole c).1);
-    slot_below = rw (c.new.ensures, c.slot.view_is) (slot_below c.args.store.now.cells c.requires.stands (record_at c.args.store.now.cells.records c.args.slot).place c.args.slot (free_at c.args.store.now.cells c.requires.stands c.args.slot c.requires.picked.free));
-    slot_new = rw (c.new.ensures, c.slot.view_is) (slot_new c.args.store.now.cells c.requires.stands (record_at c.args.store.now.cells.records c.args.slot).place c.args.slot (free_at c.args.store.now.cells c.requires.stands c.args.slot c.requires.picked.free));
+    ok = rw (c.new.ensures, c.read_used-block.ensures.value, c.slot.view_is) ((whole c).1);
+    slot_below = rw (c.new.ensures, c.slot.view_is) (slot_below c.args.store.now.cells c.requires.stands (record_at c.args.store.now.cells.records c.args.slot).place c.args.slot (free_at c.args.store.now.cells c.requires.stands c.args.slot c.requires.takeable.free));
+    slot_new = rw (c.new.ensures, c.slot.view_is) (slot_new c.args.store.now.cells c.requires.stands (record_at c.args.store.now.cells.records c.args.slot).place c.args.slot (free_at c.args.store.now.cells c.requires.stands c.args.slot c.requires.takeable.free));
   };
   refused = search rules;
   cells = search rules;
@@ -74,23 +67,23 @@ returns-in_default c = record {
   ok = search rules;
   refused = λ owner.
       let old : Cells = c.args.store.now.cells in
-      let by = free_at old c.requires.stands c.args.slot c.requires.picked.free in
+      let by = free_at old c.requires.stands c.args.slot c.requires.takeable.free in
       let place : ℕ = (record_at old.records c.args.slot).place in
       let none = rw c.read_used-block.ensures.left.cells at c.in_default.ensures.none in
       let size = size_is old c.args.slot by.at c.read_used-block.result by.stands c.read_used-block.ensures.value in
-      let least = holds old c.requires.stands place c.args.slot c.args.asked by c.requires.size.positive c.requires.size.in_units c.requires.picked.found in
-      picked owner c.args.asked place (content_of old) c.requires.picked.found _ (full_refused old c.requires.stands place c.args.slot c.args.asked by c.requires.size.positive c.requires.size.in_units c.requires.picked.found none (omega (arith, least, size, c.if-block-asked.false)) owner);
+      let least = holds old c.requires.stands place c.args.slot c.args.asked by c.requires.size.positive c.requires.size.in_units (takeable_picked c.args.store.now.cells c.requires.stands c.args.asked c.args.class c.args.slot c.requires.takeable) in
+      full_refused old c.requires.stands place c.args.slot c.args.asked by c.requires.size.positive c.requires.size.in_units (takeable_picked c.args.store.now.cells c.requires.stands c.args.asked c.args.class c.args.slot c.requires.takeable) none (omega (arith, least, size, c.if-block-asked.false)) owner;
   cells = search rules;
   touches = search rules;
 }
 
 -- the free block as it stands and as it was read, once a record was taken for the rest
-ready : (c : In-Some) → StandsAt c.args.slot Listed c.take_vacant.new.self.cells (with_slot c.in-Some.rest (free_at c.args.store.now.cells c.requires.stands c.args.slot c.requires.picked.free).at) × (c.read_used-block.result ≡ record_at c.take_vacant.new.self.cells.records c.args.slot)
+ready : (c : In-Some) → StandsAt c.args.slot Listed c.take_vacant.new.self.cells (with_slot c.in-Some.rest (free_at c.args.store.now.cells c.requires.stands c.args.slot c.requires.takeable.free).at) × (c.read_used-block.result ≡ record_at c.take_vacant.new.self.cells.records c.args.slot)
 ready c =
     let old : Cells = c.args.store.now.cells in
-    let by = free_at old c.requires.stands c.args.slot c.requires.picked.free in (
+    let by = free_at old c.requires.stands c.args.slot c.requires.takeable.free in (
       spared old c.read_used-block.new.self.cells c.take_vacant.new.self.cells c.take_vacant.result c.args.slot c.in-Some.rest by.at by.stands c.read_used-block.ensures.left.cells c.in-Some.is c.take_vacant.ensures.left.cells c.in-Some.ensures.within c.in-Some.ensures.vacant,
-      kept old c.read_used-block.new.self.cells c.take_vacant.new.self.cells c.take_vacant.result c.args.slot c.in-Some.rest c.read_used-block.result c.requires.picked.free c.read_used-block.ensures.left.cells c.in-Some.is c.take_vacant.ensures.left.cells c.in-Some.ensures.vacant c.read_used-block.ensures.value,
+      kept old c.read_used-block.new.self.cells c.take_vacant.new.self.cells c.take_vacant.result c.args.slot c.in-Some.rest c.read_used-block.result c.requires.takeable.free c.read_used-block.ensures.left.cells c.in-Some.is c.take_vacant.ensures.left.cells c.in-Some.ensures.vacant c.read_used-block.ensures.value,
     )
 
 pub unlink-requires-clause-prev_used : goal.unlink-requires-clause-prev_used
@@ -100,20 +93,20 @@ pub unlink-requires-clause-next_used : goal.unlink-requires-clause-next_used
 unlink-requires-clause-next_used c = let r = ready (goal.at.unlink-requires-clause-next_used c).In-Some in (listed_read c.take_vacant.new.self.cells c.args.slot c.read_used-block.result _ r.0 r.1).next_used
 
 -- and once it left its list
-unlisted : (c : After-unlink) → StandsAt c.args.slot Listed c.take_vacant.new.self.cells (with_slot c.in-Some.rest (free_at c.args.store.now.cells c.requires.stands c.args.slot c.requires.picked.free).at) × (c.read_used-block.result ≡ record_at c.take_vacant.new.self.cells.records c.args.slot)
-    → StandsAt c.args.slot Loose c.unlink.new.store.cells (with_slot c.in-Some.rest (at_unlisted (free_at c.args.store.now.cells c.requires.stands c.args.slot c.requires.picked.free).at))
+unlisted : (c : After-unlink) → StandsAt c.args.slot Listed c.take_vacant.new.self.cells (with_slot c.in-Some.rest (free_at c.args.store.now.cells c.requires.stands c.args.slot c.requires.takeable.free).at) × (c.read_used-block.result ≡ record_at c.take_vacant.new.self.cells.records c.args.slot)
+    → StandsAt c.args.slot Loose c.unlink.new.store.cells (with_slot c.in-Some.rest (at_unlisted (free_at c.args.store.now.cells c.requires.stands c.args.slot c.requires.takeable.free).at))
 unlisted c r =
-    let by = free_at c.args.store.now.cells c.requires.stands c.args.slot c.requires.picked.free in
-    read_leaves c.take_vacant.new.self.cells c.unlink.new.store.cells c.args.slot c.args.class c.read_used-block.result (with_slot c.in-Some.rest by.at) r.0 r.1 (rw c.read_used-block.ensures.value c.requires.picked.of_class) c.unlink.ensures.cells
+    let by = free_at c.args.store.now.cells c.requires.stands c.args.slot c.requires.takeable.free in
+    read_leaves c.take_vacant.new.self.cells c.unlink.new.store.cells c.args.slot c.args.class c.read_used-block.result (with_slot c.in-Some.rest by.at) r.0 r.1 (rw c.read_used-block.ensures.value c.requires.takeable.of_class) c.unlink.ensures.cells
 
 pub split_off-requires-clause-stands : goal.split_off-requires-clause-stands
 split_off-requires-clause-stands c =
-    let by = free_at c.args.store.now.cells c.requires.stands c.args.slot c.requires.picked.free in
+    let by = free_at c.args.store.now.cells c.requires.stands c.args.slot c.requires.takeable.free in
     rw c.of.ensures (Loose, at_unlisted by.at, refl, unlisted (goal.at.split_off-requires-clause-stands c).After-unlink (ready (goal.at.split_off-requires-clause-stands c).In-Some))
 
 pub split_off-requires-clause-read : goal.split_off-requires-clause-read
 split_off-requires-clause-read c =
-    let by = free_at c.args.store.now.cells c.requires.stands c.args.slot c.requires.picked.free in
+    let by = free_at c.args.store.now.cells c.requires.stands c.args.slot c.requires.takeable.free in
     let at : At = with_slot c.in-Some.rest by.at in
     let r = ready (goal.at.split_off-requires-clause-read c).In-Some in
     rw c.of.ensures (read_stays c.take_vacant.new.self.cells c.unlink.new.store.cells (span_of c.args.slot c.read_used-block.result) Listed Loose at (at_unlisted at) r.0 (unlisted (goal.at.split_off-requires-clause-read c).After-unlink r) refl
@@ -122,22 +115,22 @@ split_off-requires-clause-read c =
 pub split_off-requires-clause-less : goal.split_off-requires-clause-less
 split_off-requires-clause-less c =
     let old : Cells = c.args.store.now.cells in
-    let by = free_at old c.requires.stands c.args.slot c.requires.picked.free in
+    let by = free_at old c.requires.stands c.args.slot c.requires.takeable.free in
     let size = size_is old c.args.slot by.at c.read_used-block.result by.stands c.read_used-block.ensures.value in
-    let least = holds old c.requires.stands (record_at old.records c.args.slot).place c.args.slot c.args.asked by c.requires.size.positive c.requires.size.in_units c.requires.picked.found in
+    let least = holds old c.requires.stands (record_at old.records c.args.slot).place c.args.slot c.args.asked by c.requires.size.positive c.requires.size.in_units (takeable_picked c.args.store.now.cells c.requires.stands c.args.asked c.args.class c.args.slot c.requires.takeable) in
     rw c.of.ensures (omega (arith, least, size, c.if-block-asked.false))
 
 -- what a part leaves
-part : (c : goal.After-new-2) → StandsAt c.args.slot Loose c.unlink.new.store.cells (with_slot c.in-Some.rest (at_unlisted (free_at c.args.store.now.cells c.requires.stands c.args.slot c.requires.picked.free).at))
+part : (c : goal.After-new-2) → StandsAt c.args.slot Loose c.unlink.new.store.cells (with_slot c.in-Some.rest (at_unlisted (free_at c.args.store.now.cells c.requires.stands c.args.slot c.requires.takeable.free).at))
     → Stands c.split_off.new.store.cells × (malloc_picked c.args.slot c.args.asked (Some (record_at c.args.store.now.cells.records c.args.slot).place) (content_of c.args.store.now.cells) ≡ Ok ((record_at c.args.store.now.cells.records c.args.slot).place, content_of c.split_off.new.store.cells))
 part c left =
     let old : Cells = c.args.store.now.cells in
-    let by = free_at old c.requires.stands c.args.slot c.requires.picked.free in
+    let by = free_at old c.requires.stands c.args.slot c.requires.takeable.free in
     let place : ℕ = (record_at old.records c.args.slot).place in
     let size = size_is old c.args.slot by.at c.read_used-block.result by.stands c.read_used-block.ensures.value in
-    let least = holds old c.requires.stands place c.args.slot c.args.asked by c.requires.size.positive c.requires.size.in_units c.requires.picked.found in
+    let least = holds old c.requires.stands place c.args.slot c.args.asked by c.requires.size.positive c.requires.size.in_units (takeable_picked c.args.store.now.cells c.requires.stands c.args.asked c.args.class c.args.slot c.requires.takeable) in
     let room = room_left old c.requires.stands c.in-Some.rest (rw c.read_used-block.ensures.left.cells at c.in-Some.ensures.within) (rw c.read_used-block.ensures.left.cells at c.in-Some.ensures.vacant) in
-    part_stands old c.requires.stands place c.args.slot c.args.asked by c.requires.size.positive c.requires.size.in_units c.requires.picked.found c.split_off.new.store.cells c.in-Some.rest
+    part_stands old c.requires.stands place c.args.slot c.args.asked by c.requires.size.positive c.requires.size.in_units (takeable_picked c.args.store.now.cells c.requires.stands c.args.asked c.args.class c.args.slot c.requires.takeable) c.split_off.new.store.cells c.in-Some.rest
     (c.split_off.ensures.leads Loose (at_unlisted by.at) refl (rw c.of.ensures left)) (omega (arith, least, size, c.if-block-asked.false)) room
 
 pub returns : goal.returns
@@ -146,9 +139,9 @@ returns c =
     record {
       stands = (part c left).0;
       ok = record {
-        ok = rw (c.new-2.ensures, c.read_used-block.ensures.value, c.slot-2.view_is) (picked c.args.slot c.args.asked (record_at c.args.store.now.cells.records c.args.slot).place (content_of c.args.store.now.cells) c.requires.picked.found _ (part c left).1);
-        slot_below = rw (c.new-2.ensures, c.slot-2.view_is) (slot_below c.args.store.now.cells c.requires.stands (record_at c.args.store.now.cells.records c.args.slot).place c.args.slot (free_at c.args.store.now.cells c.requires.stands c.args.slot c.requires.picked.free));
-        slot_new = rw (c.new-2.ensures, c.slot-2.view_is) (slot_new c.args.store.now.cells c.requires.stands (record_at c.args.store.now.cells.records c.args.slot).place c.args.slot (free_at c.args.store.now.cells c.requires.stands c.args.slot c.requires.picked.free));
+        ok = rw (c.new-2.ensures, c.read_used-block.ensures.value, c.slot-2.view_is) ((part c left).1);
+        slot_below = rw (c.new-2.ensures, c.slot-2.view_is) (slot_below c.args.store.now.cells c.requires.stands (record_at c.args.store.now.cells.records c.args.slot).place c.args.slot (free_at c.args.store.now.cells c.requires.stands c.args.slot c.requires.takeable.free));
+        slot_new = rw (c.new-2.ensures, c.slot-2.view_is) (slot_new c.args.store.now.cells c.requires.stands (record_at c.args.store.now.cells.records c.args.slot).place c.args.slot (free_at c.args.store.now.cells c.requires.stands c.args.slot c.requires.takeable.free));
       };
       refused = search rules;
       cells = search rules;

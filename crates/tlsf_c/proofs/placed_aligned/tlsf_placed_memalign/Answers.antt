@@ -1,0 +1,73 @@
+use Rattle.std.proofs.Common.{rules, ◌+◌, ◌*◌, ◌/◌, map, sym, ◌∙◌, subst, arith}
+use Rattle.std.proofs.lemmas.List.Elements.{All-contains}
+use Rattle.tlsf_heap.specs.declared.refusal.Refusal.TheVariants.{ZeroSize, NoFit, BadAlign}
+use Rattle.tlsf_heap.specs.Counted.{Counted, range_of}
+use Rattle.tlsf_heap.specs.Memalign.{memalign}
+use Rattle.tlsf_heap.specs.Served.{IsServed}
+use Rattle.tlsf_c.specs.Lying.{LiesIn}
+use Rattle.tlsf_c.specs.PlacedPools.{IsAlike}
+use Rattle.tlsf_c.proofs.Alike.{aligns_none, aligns_above, aligned_with_front, aligns_bad, address_aligned}
+use Rattle.tlsf_c.proofs.PlacedLemmas.{lies_somewhere, ends_in_entry}
+use Rattle.tlsf_c.proofs.placed_aligned.tlsf_placed_memalign.Goals as goal
+use Rattle.tlsf_c.proofs.placed_aligned.tlsf_placed_memalign.Goals.{then-not-is_alignment-via-then-not-is_alignment, then-not-is_alignment-via-else-not-is_alignment+then-not-are_alike}
+
+pub returns-then-not-is_alignment-clause-refused : goal.returns-then-not-is_alignment-clause-refused
+returns-then-not-is_alignment-clause-refused c = λ none alike. elim c.then-not-is_alignment.branch [
+  | then-not-is_alignment-via-then-not-is_alignment w ↦ record {
+    refusal = BadAlign;
+    refused = λ slot. aligns_bad c.args.align slot c.args.bytes c.args.heap.now.handle.value.content (sym c.is_alignment.ensures ∙ w.if-not-is_alignment.true);
+    number_is = search rules;
+    unchanged = search rules;
+  }
+  | then-not-is_alignment-via-else-not-is_alignment+then-not-are_alike w ↦ absurd (w.are_alike.ensures.no w.if-not-are_alike.true alike)
+]
+
+pub returns-then-bytes-eq0-clause-refused : goal.returns-then-bytes-eq0-clause-refused
+returns-then-bytes-eq0-clause-refused c = λ none alike. record {
+  refusal = ZeroSize;
+  refused = λ slot. aligns_none c.args.align slot c.args.bytes c.args.heap.now.handle.value.content (sym c.is_alignment.ensures ∙ c.if-not-is_alignment.false) c.if-bytes-eq0.true;
+  number_is = search rules;
+  unchanged = search rules;
+}
+
+pub returns-then-bytes-gt-MOST-clause-refused : goal.returns-then-bytes-gt-MOST-clause-refused
+returns-then-bytes-gt-MOST-clause-refused c = λ none alike. record {
+  refusal = NoFit;
+  refused = λ slot. aligns_above c.args.align slot c.args.bytes c.args.heap.now.handle.value.content (sym c.is_alignment.ensures ∙ c.if-not-is_alignment.false) (omega (arith, c.if-bytes-gt-MOST.true));
+  number_is = search rules;
+  unchanged = search rules;
+}
+
+pub place_block-requires-clause-somewhere : goal.place_block-requires-clause-somewhere
+place_block-requires-clause-somewhere c =
+    let heap = c.args.heap.now in
+    let lies = subst (λ (h : Counted). LiesIn c.in-Ok.ptr.place ((c.args.bytes + 8 + 15) / 16 * 16) (map range_of h.content.pools)) c.heap.ensures.value c.in-Ok.ensures.lies in
+    lies_somewhere c.in-Ok.ptr.place ((c.args.bytes + 8 + 15) / 16 * 16) (map range_of heap.handle.value.content.pools) heap.pools heap.entries lies (omega arith)
+
+pub returns-in-Ok-clause-given : goal.returns-in-Ok-clause-given
+returns-in-Ok-clause-given c = λ some.
+    let heap = c.args.heap.now in
+    let ptr = c.in-Ok.ptr in
+    let there = c.place_block.ensures.at in
+    let lies = subst (λ (h : Counted). LiesIn ptr.place ((c.args.bytes + 8 + 15) / 16 * 16) (map range_of h.content.pools)) c.heap.ensures.value c.in-Ok.ensures.lies in
+    let ends = ends_in_entry ptr.place ((c.args.bytes + 8 + 15) / 16 * 16) (map range_of heap.handle.value.content.pools) heap.pools there.0 heap.entries lies there.1 there.2.has in
+    let same = aligned_with_front c.args.align ptr.slot c.args.bytes heap.handle.value.content c.if-bytes-eq0.false in
+    let served = subst (λ (h : Counted). IsServed (λ slot. memalign slot c.args.align (c.args.bytes + 8)) ptr h.content c.allocate_aligned.new.heap.content) c.heap.ensures.value c.in-Ok.ensures.ok in
+    record {
+      pointer = ptr;
+      pool = there.0;
+      served = record { ok = same ∙ served.ok; slot_below = served.slot_below; slot_new = served.slot_new };
+      of_pools = there.1;
+      at = there.2;
+      ends = omega (arith, there.2.address_is, there.2.has.0, ends);
+    }
+
+pub returns-in-Ok-clause-multiple : goal.returns-in-Ok-clause-multiple
+returns-in-Ok-clause-multiple c =
+    let heap = c.args.heap.now in
+    let there = c.place_block.ensures.at in
+    let alike = All-contains (IsAlike c.args.align) heap.pools there.0 (c.are_alike.ensures.yes c.if-not-are_alike.false) there.1 in
+    address_aligned c.args.align c.in-Ok.ptr.place c.place_block.result there.0 alike there.2 c.in-Ok.ensures.multiple
+
+pub returns-in-Ok-clause-unlike : goal.returns-in-Ok-clause-unlike
+returns-in-Ok-clause-unlike c = λ unlike. absurd (unlike (c.are_alike.ensures.yes c.if-not-are_alike.false))

@@ -1,0 +1,56 @@
+//! Figures of what is live in a heap with addresses.
+
+ghost use Rattle.std.specs.Prelude.{◌≡◌, ◌+◌, ◌-◌, ◌^◌, ◌<◌, ◌≤◌, max};
+
+/// How many blocks are live, and their bytes, without the eight in front of each.
+#[repr(C)]
+#[derive(Clone, Copy)]
+pub struct LiveFigures {
+    /// The bytes of the live blocks.
+    pub bytes: u64,
+    /// The most that `bytes` has been.
+    pub most_bytes: u64,
+    /// How many blocks are live.
+    pub blocks: u64,
+}
+
+impl LiveFigures {
+    /// A live block that had some bytes has others.
+    #[inline(always)]
+    pub(crate) fn resized(&mut self, had: u64, has: u64)
+        requires counted { had ≤ self.old.bytes }
+        requires few { self.old.bytes - had + has < 2 ^ 64 }
+        ensures bytes { self.new.bytes ≡ self.old.bytes - had + has }
+        ensures blocks { self.new.blocks ≡ self.old.blocks }
+        ensures most { self.new.most_bytes ≡ max self.old.most_bytes self.new.bytes }
+    {
+        self.bytes = self.bytes - had + has;
+        self.most_bytes = self.most_bytes.max(self.bytes);
+    }
+
+    /// A block of these bytes is live.
+    #[inline(always)]
+    pub(crate) fn given(&mut self, bytes: u64)
+        requires few { self.old.bytes + bytes < 2 ^ 64 }
+        requires few_blocks { self.old.blocks + 1 < 2 ^ 64 }
+        ensures bytes { self.new.bytes ≡ self.old.bytes + bytes }
+        ensures blocks { self.new.blocks ≡ self.old.blocks + 1 }
+        ensures most { self.new.most_bytes ≡ max self.old.most_bytes self.new.bytes }
+    {
+        self.resized(0, bytes);
+        self.blocks += 1;
+    }
+
+    /// A block of these bytes isn't live any more.
+    #[inline(always)]
+    pub(crate) fn freed(&mut self, bytes: u64)
+        requires counted { bytes ≤ self.old.bytes }
+        requires some { 0 < self.old.blocks }
+        ensures bytes { self.new.bytes + bytes ≡ self.old.bytes }
+        ensures blocks { self.new.blocks + 1 ≡ self.old.blocks }
+        ensures most { self.new.most_bytes ≡ self.old.most_bytes }
+    {
+        self.bytes -= bytes;
+        self.blocks -= 1;
+    }
+}

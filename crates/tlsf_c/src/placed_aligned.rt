@@ -1,0 +1,100 @@
+//! Aligned blocks of a heap with addresses.
+
+ghost use Rattle.std.specs.Prelude.{◌≡◌, ℕ, ◌+◌, ◌*◌, ◌/◌, ◌%◌, ◌<◌, All, map, max, true, false, Ok, Err, IfOk, IfErr, OnOk, OnErr};
+ghost use Rattle.tlsf_heap.specs.declared.refusal.Refusal.TheVariants.{BadAlign};
+ghost use Rattle.tlsf_heap.specs.Counted.{IsUnchanged, range_of};
+ghost use Rattle.tlsf_heap.specs.Memalign.{is_alignment, memalign};
+ghost use Rattle.tlsf_heap.specs.Pointer.{block_size_ptr};
+ghost use Rattle.tlsf_heap.specs.Served.{IsServed};
+ghost use Rattle.tlsf_heap.specs.Touches.{AtMost, memalign_touches};
+ghost use Rattle.tlsf_c.specs.LiveFigures.{IsLiveChange};
+ghost use Rattle.tlsf_c.specs.Lying.{LiesIn};
+ghost use Rattle.tlsf_c.specs.PlacedPools.{IsAlike};
+ghost use Rattle.tlsf_c.specs.PlacedHeaps.{IsLiveAt, IsGivenAt, IsRefusedAt, memalign_with_front};
+ghost use Rattle.tlsf_c.specs.Status.{number};
+
+use crate::placed_blocks::{FRONT, MOST, place_block};
+use crate::placed_heap::PlacedHeap;
+use crate::placed_pool::PlacedPool;
+use crate::status::number;
+use tlsf_heap::{Heap, Ptr, Refusal, is_alignment};
+
+/// Whether addresses are multiples of the alignment where places are, in each pool.
+fn are_alike(pools: &[PlacedPool; 8], align: u64) -> bool
+    requires { is_alignment align ≡ true }
+    ensures yes { result ≡ true → All (IsAlike align) pools.now }
+    ensures no { result ≡ false → All (IsAlike align) pools.now → ⊥ }
+{
+    let mask = align - 1;
+    for pool in pools {
+        if pool.reach != 0 && pool.first & mask != u64::from(pool.place) & mask {
+            return false;
+        }
+    }
+    true
+}
+
+/// `Heap::memalign`, and what is known of the block: it lies in a pool, and has the bytes rounded up.
+fn allocate_aligned(heap: &mut Heap, align: u64, bytes: u64) -> Result<Ptr, Refusal>
+    ensures ok { IfOk result (λ ptr. IsServed (λ slot. memalign slot align bytes) ptr heap.old.content heap.new.content) }
+    ensures in_units { IfOk result (λ ptr. ptr.place % 16 ≡ 0) }
+    ensures multiple { IfOk result (λ ptr. ptr.place % align ≡ 0) }
+    ensures lies { IfOk result (λ ptr. LiesIn ptr.place ((bytes + 15) / 16 * 16) (map range_of heap.old.content.pools)) }
+    ensures size { IfOk result (λ ptr. block_size_ptr ptr heap.new.content ≡ Ok ((bytes + 15) / 16 * 16)) }
+    ensures live { OnOk result (IsLiveChange 0 0 1 ((bytes + 15) / 16 * 16) heap.old.content heap.new.content) }
+    ensures ranges { OnOk result (map range_of heap.new.content.pools ≡ map range_of heap.old.content.pools) }
+    ensures refused { IfErr result (λ refusal. (slot : ℕ) → memalign slot align bytes heap.old.content ≡ Err refusal) }
+    ensures unchanged { OnErr result (IsUnchanged heap.old heap.new) }
+    ensures bound { AtMost memalign_touches heap.old.touches heap.new.touches }
+{
+    heap.keeps_good();
+    let given = heap.memalign(align, bytes);
+    heap.keeps_good();
+    given
+}
+
+/// A live block of at least `bytes` bytes, as by `tlsf_placed_malloc`, whose address is a multiple of `align`. At most 38 touches.
+///
+/// Where the heap refuses the answer is 0. Then `word` gets the number of `BadAlign`, `ZeroSize`, `NoFit` or `TableFull`. It is
+/// that of `BadAlign` also where addresses aren't multiples of `align` as places are, in some pool.
+#[unsafe(no_mangle)]
+pub extern "C" fn tlsf_placed_memalign(
+    heap: &mut PlacedHeap,
+    align: u64,
+    bytes: u64,
+    word: &mut u64,
+) -> u64
+    ensures given { 0 < result → IsGivenAt (λ slot. memalign_with_front align slot bytes) bytes result heap.old.pools heap.old.handle.value.content heap.new.handle.value.content }
+    ensures live { 0 < result → IsLiveAt result word.new heap.old.pools heap.new.handle.value.content }
+    ensures multiple { result % align ≡ 0 }
+    ensures refused { result ≡ 0 → All (IsAlike align) heap.old.pools → IsRefusedAt (λ slot. memalign_with_front align slot bytes) word.new heap.old.handle.value heap.new.handle.value }
+    ensures unlike { (All (IsAlike align) heap.old.pools → ⊥) → (result ≡ 0) × (word.new ≡ number BadAlign) }
+    ensures unchanged { result ≡ 0 → IsUnchanged heap.old.handle.value heap.new.handle.value }
+    ensures pools { heap.new.pools ≡ heap.old.pools }
+    ensures most { heap.new.figures.most_bytes ≡ max heap.old.figures.most_bytes heap.new.figures.bytes }
+    ensures bound { AtMost memalign_touches heap.old.handle.value.touches heap.new.handle.value.touches }
+{
+    if !is_alignment(align) || !are_alike(&heap.pools, align) {
+        *word = u64::from(number(Refusal::BadAlign));
+        return 0;
+    }
+    if bytes == 0 {
+        *word = u64::from(number(Refusal::ZeroSize));
+        return 0;
+    }
+    if bytes > MOST {
+        *word = u64::from(number(Refusal::NoFit));
+        return 0;
+    }
+    match allocate_aligned(heap.handle.heap(), align, bytes + FRONT) {
+        Ok(ptr) => {
+            let size = (bytes + FRONT + 15) / 16 * 16;
+            heap.figures.given(size - FRONT);
+            place_block(&heap.pools, ptr, size, word)
+        }
+        Err(refusal) => {
+            *word = u64::from(number(refusal));
+            0
+        }
+    }
+}
