@@ -130,7 +130,12 @@ start:
   ret i64 0
 }
 
-define noundef i64 @tlsf_placed_realloc(ptr noundef %a0, i64 noundef %a1, i64 noundef %a2, ptr noundef %a3) #0 {
+define noundef i64 @tlsf_placed_memalign(ptr noundef %a0, i64 noundef %a1, i64 noundef %a2, ptr noundef %a3) #0 {
+start:
+  ret i64 0
+}
+
+define noundef i64 @tlsf_placed_realloc(ptr noundef %a0, i64 noundef %a1, i64 noundef %a2, ptr noundef %a3, ptr noundef %a4) #0 {
 start:
   ret i64 0
 }
@@ -138,6 +143,11 @@ start:
 define noundef i32 @tlsf_placed_remove_pool(ptr noundef %a0, i32 noundef %a1) #0 {
 start:
   ret i32 0
+}
+
+define noundef i64 @tlsf_placed_told_size(i64 noundef %a0, i64 noundef %a1) #0 {
+start:
+  ret i64 0
 }
 
 declare { i64, i64 } @rattle_alloc(i64 noundef, i64 noundef) #1
