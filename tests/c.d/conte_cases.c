@@ -978,7 +978,7 @@ static void each_byte_of_control(tlsf_t tlsf, const pool_t pools[3])
         *at ^= change;
     }
     expect(told == changes, "each byte of the control part, changed to each other value, is told");
-    expect(of_pool[0] == changes - 255 * 2 * sizeof(size_t) && of_pool[1] == of_pool[0] && of_pool[2] == of_pool[0],
+    expect(of_pool[0] == changes - 255 * 2 * sizeof(uint64_t) && of_pool[1] == of_pool[0] && of_pool[2] == of_pool[0],
            "and by the check of a pool, but for two figures");
 }
 
