@@ -273,11 +273,13 @@ RARE static void *refuse_pointer(struct control *control, const void *ptr, size_
 RARE static void *refuse_bytes(struct control *control, enum tlsf_status status, const void *ptr,
                                size_t bytes)
 {
-    enum tlsf_refusal what = TLSF_REFUSED_NO_FIT;
+    enum tlsf_refusal what;
     if (status == TLSF_TABLE_FULL) {
         what = TLSF_REFUSED_TABLE_FULL;
     } else if (status == TLSF_BAD_ALIGN) {
         what = TLSF_REFUSED_ALIGNMENT;
+    } else {
+        what = TLSF_REFUSED_NO_FIT;
     }
     return refuse(control, what, ptr, bytes);
 }
