@@ -98,7 +98,7 @@ size_t tlsf_live_size(tlsf_t tlsf, const void *ptr);
 enum tlsf_refusal {
     TLSF_REFUSED_NO_FIT = 0,     /* no free block is surely large enough, or none can be */
     TLSF_REFUSED_TABLE_FULL = 1, /* a rest would be left, and no record is vacant */
-    TLSF_REFUSED_POINTER = 2,    /* no live block has the pointer */
+    TLSF_REFUSED_POINTER = 2,    /* no live block has the pointer, as one in front of which are zeros */
     TLSF_REFUSED_ALIGNMENT = 3,  /* no power of two, or above 2^21 */
     TLSF_REFUSED_FRONT = 4,      /* the 8 bytes in front are no block's: changed, or none begins there */
     TLSF_REFUSALS = 5
