@@ -1,7 +1,7 @@
 // ---- the head: what was read, who holds the peak, what isn't freed, who grows, and the pools to give
 
-// How many groups are named for the peak and for the end, and how many are looked at for the one that grows.
-const TENTHS = 10, NAMED = 3, MOST_LOOKED_AT = 1000;
+// How many groups are named, and how many are looked at for those that grow.
+const NAMED = 3, MOST_LOOKED_AT = 1000;
 const KIND_NAMES = ["too long", "not a line", "not held", "already held", "refused", "half of a reallocation", "no < before >"];
 
 // The groups that hold most, by one of their numbers, in words, each with its share.
@@ -13,60 +13,66 @@ function greatest(groups, place) {
     .map(([bytes, name]) => `${name}: ${told(bytes)} (${(100 * bytes / whole).toFixed(0)} %)`).join("; ");
 }
 
-// The point from `first` on, and before `end`, at which least is held.
-function leastBetween(values, first, end) {
-  let low = first;
-  for (let point = first; point < end; point++) if (values[point] < values[low]) low = point;
-  return low;
+// ---- who grows steadily
+//
+// A step leads from one line that is drawn to the next. The end of the log is made of its last steps that free at least two blocks for
+// each that they ask for, and of the step before these. It isn't looked at, nor is the first tenth of the lines before it, in which a
+// program starts. The rest is cut in eight parts of equally many lines. Of each part the least counts that a group holds at a line drawn.
+// A group grows steadily where this least never falls from a part to the next, and rises from each quarter to the next. A block that is
+// taken once, and bytes that rise and fall, don't do so.
+const EIGHTHS = 8, FREED_FOR_ONE = 2;
+
+// How many blocks are asked for in the step that leads to each point.
+function callsOfSteps() {
+  const calls = data.points.map(() => 0);
+  data.changes.forEach((changes) => changes.forEach((point, at) => { if (at % 6 === 0) calls[point] += changes[at + 3]; }));
+  return calls;
 }
 
-// By how much a group's bytes grew and stay: the least of the last tenth of the lines over the least before. Of the first tenth it is
-// what is held at its end, since what a program takes at its start is no growth. And the point of that least.
-function keptGrowth(values) {
-  const edge = (tenth) => Math.ceil(tenth * values.length / TENTHS);
-  const first = Math.max(edge(1) - 1, 0), last = Math.min(edge(TENTHS - 1), values.length - 1);
-  const low = leastBetween(values, first, Math.max(last, first + 1));
-  return { low, growth: values[leastBetween(values, last, values.length)] - values[low] };
+// The last point before the end of the log.
+function pointBeforeEnd() {
+  const calls = callsOfSteps(), blocks = data.points.map((point) => point[2]);
+  const isOfEnd = (point) => calls[point] + blocks[point - 1] - blocks[point] >= FREED_FOR_ONE * calls[point];
+  let point = data.points.length - 1;
+  while (point > 0 && isOfEnd(point)) point--;
+  return Math.max(point - 1, 0);
 }
 
-// Whether a group is first at its most in the last quarter of the log.
-function isRising(values) {
-  return 4 * data.points[values.indexOf(Math.max(...values))][0] >= 3 * data.lines;
+// The first point of each part, and the one behind the last part: the part k begins at 1/10 + 9/10 k/8 of the lines.
+function beginsOfEighths(end) {
+  const last = data.points[end][0];
+  const begins = Array.from({ length: EIGHTHS }, (_, part) => data.points.findIndex(([line]) => 80 * line >= (8 + 9 * part) * last));
+  return [...begins, end + 1];
 }
 
-// Bytes in 1,000 lines over the last half of the log, by the line that is nearest to all its points. What is given back when a program
-// ends is no part of it: of a group that is at its most in the last quarter points behind that are left out.
-function slopeOf(values) {
-  const end = isRising(values) ? values.indexOf(Math.max(...values)) : values.length - 1;
-  const points = data.points.slice(0, end + 1).map(([line], point) => [line, values[point]]).filter(([line]) => 2 * line >= data.lines);
-  const middle = points.reduce((sum, [line]) => sum + line, 0) / points.length;
-  const spread = points.reduce((sum, [line]) => sum + (line - middle) ** 2, 0);
-  return spread ? 1000 * points.reduce((sum, [line, value]) => sum + (line - middle) * value, 0) / spread : 0;
+function isSteady(lows) {
+  const quarters = lows.filter((_, part) => part % 2 === 0);
+  return lows.every((low, part) => part === 0 || low >= lows[part - 1]) && quarters.every((low, part) => part === 0 || low > quarters[part - 1]);
 }
 
-function slopeWords(slope) {
-  return Math.round(slope) ? `${signed(Math.round(slope))} bytes in 1,000 lines` : "it stays as it is";
+// Whether a group holds at the end what it grew to.
+const keeps = ({ numbers }, lows) => numbers[numbers.length - 1] >= lows[EIGHTHS - 1];
+
+// What a group grew to, in words: at the end of the log, or until that end begins, where it is given back then.
+function growthWords(group, lows, end) {
+  const { numbers } = group, atEnd = numbers[numbers.length - 1], early = `${group.told}: from ${counted(lows[0], "byte")} early on to`;
+  if (keeps(group, lows)) return `${early} ${told(atEnd)} at the end`;
+  return `${early} ${told(numbers[end])} until line ${told(data.points[end][0])}, then given back: ${told(atEnd)} at the end`;
 }
 
-// The first of the entries with the most of something, or nothing.
-function mostOf(entries, measure) {
-  return entries.reduce((best, entry) => best === null || measure(entry) > measure(best) ? entry : best, null);
-}
-
-// The group that grows most and keeps what it grew to, in words; and the one that rises fastest over the last half, where that is
-// another. Of many groups those that held most are looked at.
-function grownMost(groups) {
+// Those that grow steadily, in words, those first that grew most. Of many groups those that held most are looked at.
+function growsSteadily(groups) {
+  const end = pointBeforeEnd(), begins = beginsOfEighths(end);
+  if (begins.some((begin, part) => begin >= begins[part + 1])) return "Not told: too few lines are drawn.";
+  const lowsOf = (values) => begins.slice(1).map((next, part) => Math.min(...values.slice(begins[part], next)));
   const held = groups.filter((group) => !areOthers(group)).map((group) => [group, Math.max(...group.numbers)]);
-  const looked = held.sort(([, one], [, other]) => other - one).slice(0, MOST_LOOKED_AT).map(([group]) => group);
-  const kept = looked.filter(({ numbers }) => numbers[numbers.length - 1]).map((group) => ({ group, ...keptGrowth(group.numbers) }));
-  const best = mostOf(kept, ({ growth }) => growth);
-  const rising = mostOf(looked.filter((group) => isRising(group.numbers)).map((group) => ({ group, slope: slopeOf(group.numbers) })), ({ slope }) => slope);
-  const alsoRises = rising && rising.slope >= 1 ? ` Rises fastest over the last half: ${rising.group.told}, ${slopeWords(rising.slope)}.` : "";
-  if (!best || best.growth <= 0) return `Nothing: what grew was given back.${alsoRises}`;
-  const values = best.group.numbers;
-  const words = `${best.group.told}: ${counted(values[best.low], "byte")} after line ${told(data.points[best.low][0])}, ` +
-    `${told(values[values.length - 1])} at the end; over the last half ${slopeWords(slopeOf(values))}.`;
-  return rising && rising.group === best.group ? words : words + alsoRises;
+  const looked = held.sort(([, one], [, other]) => other - one).slice(0, MOST_LOOKED_AT).map(([group]) => [group, lowsOf(group.numbers)]);
+  const growth = (lows) => lows[EIGHTHS - 1] - lows[0];
+  const grown = looked.filter(([, lows]) => isSteady(lows)).sort(([, one], [, other]) => growth(other) - growth(one)).slice(0, NAMED);
+  const words = grown.map(([group, lows]) => growthWords(group, lows, end)).join("; ");
+  const whatLine = grown.every(([group, lows]) => keeps(group, lows)) ? ""
+    : ` The log's end begins at line ${told(data.points[end][0])}: what is given back there doesn't count.`;
+  return words ? `${words}.${whatLine}` : `Nothing: no ${CHOICES[choice]} holds more and more all along.`;
 }
 
 // ---- the pools to give, by the report of fit
@@ -150,7 +156,7 @@ function headLines() {
     ["Peak", `${counted(atPeak[1], "byte")} in ${counted(atPeak[2], "block")}, after line ${told(atPeak[0])}${holders}.`],
     ["Not freed", atEnd[2] ? `${counted(atEnd[1], "byte")} in ${counted(atEnd[2], "block")}. ${notFreedWords(groups)}`
       : "Nothing: no memory leaks."],
-    ["Grows most", grownMost(seriesOf())],
+    ["Grows steadily", growsSteadily(seriesOf())],
     ["Pools to give", poolWords()],
   ];
 }
