@@ -3,6 +3,7 @@ pub mod EnoughBlocks
 pub mod EnoughRecords
 pub mod FittedPool
 pub mod HeldBytes
+pub mod LineOnHeap
 pub mod OneSizeLog
 pub mod OneSizeRows
 pub mod SurePool

@@ -2,10 +2,11 @@
 pub mod ArrangeLemmas
 pub mod Flat
 pub mod GapLemmas
+pub mod HeldChanges
 pub mod HoldingLemmas
 pub mod IndexLemmas
 pub mod KeyLemmas
 pub mod KeysLemmas
 pub mod LookLemmas
-pub mod SearchLemmas
 pub mod MappedLemmas
+pub mod SearchLemmas

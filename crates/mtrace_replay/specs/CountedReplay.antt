@@ -35,5 +35,6 @@ counted_rules = record {
   added = λ start. added_served;
   lines = λ replay. replay.ledger.lines;
   IsReady = λ replay. AreFew replay.ledger.lines replay.spans;
+  fixed = λ replay. 0;
   Lacks = Unit {0};
 }

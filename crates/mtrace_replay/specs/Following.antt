@@ -67,6 +67,7 @@ pub record FollowsLines {R : Type 0} (rules : LineRules R) (result : Result Bool
   pub done : IfOk result (λ has_diagnostics. (start : rules.Start) → rules.Stands start old []
       → HasFollowed (rules.Stands start new) (rules.added start) has_diagnostics reader_old reader_new writer_old writer_new)
   pub whole : reader_new.whole ≡ reader_old.whole
+  pub fixed : rules.fixed new ≡ rules.fixed old
   pub reader_ended : OnOk result (HasGivenAll reader_old.calls reader_new.calls)
   pub reader_not_failed : result ≢ Err Reader → HasNotFailed reader_old.calls reader_new.calls
   pub writer_took : result ≢ Err Writer → HasTaken writer_old.calls writer_new.calls

@@ -1,10 +1,6 @@
 -- The locations of a log, by number.
-use Rattle.std.specs.Prelude.{◌≡◌, ℕ, List, Option, None, Some, slice_get, Vec}
+use Rattle.std.specs.Prelude.{◌≡◌, ℕ, List, Option, None, Some, slice_get}
 use Rattle.std.specs.Option.{IsSome}
-
--- the bytes that a `Vec` keeps
-abbrev pub bytes_of : {A : Type 0} → Vec ℕ A → List ℕ
-bytes_of kept = kept.items
 
 -- each location keeps its number
 abbrev pub Extends : List (List ℕ) → List (List ℕ) → Type 0

@@ -15,7 +15,7 @@ use Rattle.mtrace_replay.specs.History.{moments}
 use Rattle.mtrace_replay.specs.Totals.{blocks_in, rounded_bytes_in, Measures, IsMost}
 use Rattle.mtrace_replay.specs.Asked.{greatest_class}
 use Rattle.mtrace_replay.specs.LineReplay.{LineRules}
-use Rattle.mtrace_replay.specs.Replay.{added_diagnostics, heap_rules}
+use Rattle.mtrace_replay.specs.Replay.{added_diagnostics, StandsFor}
 use Rattle.mtrace_replay.specs.Run.{EndsAt}
 
 -- what one that there may be is in a sum
@@ -52,10 +52,11 @@ pub record AreNeeds (start : Bare) (past : List ReadLine) (needs : Needs) : Type
 abbrev pub needs_rules : LineRules NeedsReplay
 needs_rules = record {
   Start = Settings;
-  Stands = λ settings replay past. heap_rules.Stands settings replay.replay past × AreNeeds (started settings) past replay.needs;
+  Stands = λ settings replay past. StandsFor replay.replay settings past × AreNeeds (started settings) past replay.needs;
   added = added_diagnostics;
   lines = λ replay. replay.replay.totals.lines;
   IsReady = λ replay. Unit {0};
+  fixed = λ replay. replay.replay.content.records;
   Lacks = ⊥;
 }
 

@@ -79,9 +79,10 @@ pub record TellsEnd {N : Type 0} (lacks : Type 0) (items : N → List Diagnostic
 abbrev pub heap_rules : LineRules Replayed
 heap_rules = record {
   Start = Settings;
-  Stands = λ settings replay past. StandsFor replay settings past × (replay.content.records ≡ settings.records);
+  Stands = λ settings replay past. StandsFor replay settings past;
   added = added_diagnostics;
   lines = λ replay. replay.totals.lines;
   IsReady = λ replay. Unit {0};
+  fixed = λ replay. replay.content.records;
   Lacks = ⊥;
 }

@@ -1,15 +1,20 @@
--- Lines that are read and replayed one after the other.
-use Rattle.std.specs.Prelude.{◌≡◌, ◌≢◌, ℕ, ◌≤◌, List, ◌++◌, length, reverse, Result, OnOk, OnErr}
-use Rattle.mtrace_log.specs.Progress.{Progress, Stage, Faulted, to_come, CallsFor, greatest_number}
+-- Lines that are read and followed one after the other.
+use Rattle.std.specs.Prelude.{◌≡◌, ◌≢◌, ℕ, ◌≤◌, List, [], ◌++◌, length, reverse, Some, Result, IfErr, OnOk}
+use Rattle.mtrace_log.specs.Progress.{Progress, Stage, Reading, Faulted, to_come, CallsFor, greatest_number}
 use Rattle.mtrace_log.specs.Shown.{ReaderState}
 use Rattle.mtrace_log.specs.Trace.{HasNotFailed}
 use Rattle.mtrace_log.specs.HasRead.{HasReadSo}
 use Rattle.mtrace_log.specs.Event.{Event}
 use Rattle.mtrace_log.specs.declared.event.LineFault.{LineFault}
 use Rattle.mtrace_log.specs.declared.line.ReadFault.{ReadFault}
-use Rattle.mtrace_replay.specs.declared.heap.settings.Settings.{Settings}
-use Rattle.mtrace_replay.specs.Replay.{Replayed, StandsFor}
+use Rattle.mtrace_replay.specs.declared.runs.following.Stop.{Stop}
+use Rattle.mtrace_replay.specs.declared.runs.following.Stop.TheVariants.{Memory}
+use Rattle.mtrace_replay.specs.LineReplay.{LineRules}
 use Rattle.mtrace_replay.specs.Again.{StopsEarly}
+
+-- no line was read yet
+abbrev pub no_line : Progress
+no_line = record { held = []; count = 0; stage = Reading; last = Some [] }
 
 -- the lines so far were read, and this holds of them, the latest first
 pub record IsFollowed (Stands : List (Result Event LineFault) → Type 0) (progress : Progress) (reader_start reader_now : ReaderState) : Type 0 where
@@ -19,32 +24,29 @@ pub record IsFollowed (Stands : List (Result Event LineFault) → Type 0) (progr
   pub read : HasReadSo progress.stage reader_start.left (to_come progress reader_now.left) lines
   pub stands : Stands (reverse lines)
 
--- the lines so far were read and replayed on a heap by the settings
-abbrev pub IsReplaying : (settings : Settings) (progress : Progress) (replay : Replayed) (reader_start reader_now : ReaderState) → Type 0
-IsReplaying settings progress replay reader_start reader_now = IsFollowed (λ past. StandsFor replay settings past) progress reader_start reader_now
-
 -- the lines before, and more behind these, were read, and this holds of them all, the latest first
 pub record IsFollowedOn (Stands : List (Result Event LineFault) → Type 0) (before : List (Result Event LineFault)) (progress : Progress) (reader_start reader_now : ReaderState) : Type 0 where
   pub now : IsFollowed Stands progress reader_start reader_now
   pub more : List (Result Event LineFault)
   pub behind : now.lines ≡ before ++ more
 
--- the lines so far, and more behind these, were read and replayed
-abbrev pub GoesOn : (settings : Settings) (before : List (Result Event LineFault)) (progress : Progress) (replay : Replayed) (reader_start reader_now : ReaderState) → Type 0
-GoesOn settings before progress replay reader_start reader_now = IsFollowedOn (λ past. StandsFor replay settings past) before progress reader_start reader_now
-
 -- since the start the reader gave pieces, as many as this stage has, and perhaps told its end
 abbrev pub HasGivenSo : Stage → (start now : ReaderState) → Type 0
 HasGivenSo stage start now = CallsFor stage start.calls now.calls × HasNotFailed start.calls now.calls
 
--- What a call leaves that reads and replays the lines up to one. With them what was so is so. Or the reader failed, or has fewer lines.
-pub record ReplaysUpTo {E : Type 0} (number : ℕ) (result : Result (Unit {0}) E) (old new : Progress) (replay_old replay_new : Replayed)
+-- What a call leaves that reads and follows the lines up to one. With them what was so is so. Or memory was refused, or the reader
+-- failed, or has fewer lines.
+pub record FollowsUpTo {R : Type 0} (rules : LineRules R) (number : ℕ) (result : Result (Unit {0}) Stop) (old new : Progress) (replay_old replay_new : R)
     (reader_old reader_new : ReaderState) : Type 0 where
-  pub counted : OnOk result (replay_new.totals.lines ≡ new.count)
+  pub counted : OnOk result (rules.lines replay_new ≡ new.count)
+  pub ready : OnOk result (rules.IsReady replay_new)
   pub reached : OnOk result (new.count ≡ number)
-  pub replaying : OnOk result ((settings : Settings) (start : ReaderState) (so_far : IsReplaying settings old replay_old start reader_old) → GoesOn settings so_far.lines new replay_new start reader_new)
+  pub following : OnOk result ((begin : rules.Start) (start : ReaderState) (so_far : IsFollowed (rules.Stands begin replay_old) old start reader_old)
+      → IsFollowedOn (rules.Stands begin replay_new) so_far.lines new start reader_new)
   pub gave : OnOk result ((start : ReaderState) → HasGivenSo old.stage start reader_old → HasGivenSo new.stage start reader_new)
-  pub stops : OnErr result ((settings : Settings) (start : ReaderState) (many : ℕ) → IsReplaying settings old replay_old start reader_old → HasGivenSo old.stage start reader_old
-      → number ≤ many → many ≤ greatest_number → StopsEarly many start reader_new)
+  pub lacks : IfErr result (λ stop. stop ≡ Memory → rules.Lacks)
+  pub memory : IfErr result (λ stop. stop ≡ Memory → (start : ReaderState) → HasGivenSo old.stage start reader_old → HasNotFailed start.calls reader_new.calls)
+  pub stops : IfErr result (λ stop. stop ≢ Memory → (begin : rules.Start) (start : ReaderState) (many : ℕ) → IsFollowed (rules.Stands begin replay_old) old start reader_old
+      → HasGivenSo old.stage start reader_old → number ≤ many → many ≤ greatest_number → StopsEarly many start reader_new)
   pub whole : reader_new.whole ≡ reader_old.whole
-  pub records : replay_new.content.records ≡ replay_old.content.records
+  pub fixed : rules.fixed replay_new ≡ rules.fixed replay_old

@@ -156,5 +156,6 @@ ledger_rules = record {
   added = λ start. added_served;
   lines = λ replay. replay.lines;
   IsReady = λ replay. Unit {0};
+  fixed = λ replay. 0;
   Lacks = Unit {0};
 }

@@ -3,15 +3,14 @@ use Rattle.std.specs.Prelude.{◌≡◌, ◌⊎◌, ℕ, ◌≤◌, List, map, R
 use Rattle.std.specs.List.{All}
 use Rattle.mtrace_log.specs.Shown.{Bytes, ReaderState}
 use Rattle.mtrace_log.specs.Trace.{HasNotFailed}
-use Rattle.mtrace_log.specs.Progress.{Progress, greatest_number}
+use Rattle.mtrace_log.specs.Progress.{greatest_number}
 use Rattle.mtrace_replay.specs.declared.no_heap.point.LedgerPoint.{LedgerPoint}
 use Rattle.mtrace_replay.specs.declared.runs.status.RunFault.{RunFault}
 use Rattle.mtrace_replay.specs.declared.runs.status.RunFault.TheVariants.{Read, OutOfMemory}
 use Rattle.mtrace_replay.specs.Moment.{ReadLine, Moment}
 use Rattle.mtrace_replay.specs.Totals.{Measures, bytes_in, blocks_in}
-use Rattle.mtrace_replay.specs.Served.{served_history, Standing, IsServed}
-use Rattle.mtrace_replay.specs.Again.{begun_again, StopsEarly, FailsAgain}
-use Rattle.mtrace_replay.specs.Replaying.{IsFollowed, IsFollowedOn, HasGivenSo}
+use Rattle.mtrace_replay.specs.Served.{served_history}
+use Rattle.mtrace_replay.specs.Again.{begun_again, FailsAgain}
 use Rattle.mtrace_replay.specs.RunTimeline.{HasPointsOf}
 
 -- what is held after the moments
@@ -30,20 +29,6 @@ ledger_lines_of points = map (λ point. point.line) points
 -- Lines were read again, up to the greatest of these numbers. There is a point for each number, of the first of these lines.
 abbrev pub HasLedgerPoints : (numbers : List ℕ) (points : List LedgerPoint) (whole left : Bytes) → Type 0
 HasLedgerPoints numbers points whole left = HasPointsOf (λ point. point.line) IsPointOfLines numbers points whole left
-
--- What a call leaves that reads and follows the lines up to one, without a heap. With them what was so is so. Or memory was
--- refused, or the reader failed, or has fewer lines.
-pub record FollowsUpTo (number : ℕ) (result : Result (Unit {0}) RunFault) (old new : Progress) (replay_old replay_new : Standing)
-    (reader_old reader_new : ReaderState) : Type 0 where
-  pub counted : OnOk result (replay_new.lines ≡ new.count)
-  pub reached : OnOk result (new.count ≡ number)
-  pub following : OnOk result ((start : ReaderState) (so_far : IsFollowed (IsServed replay_old) old start reader_old) → IsFollowedOn (IsServed replay_new) so_far.lines new start reader_new)
-  pub gave : OnOk result ((start : ReaderState) → HasGivenSo old.stage start reader_old → HasGivenSo new.stage start reader_new)
-  pub faults : IfErr result (λ fault. (fault ≡ Read) ⊎ (fault ≡ OutOfMemory))
-  pub stops : IsErrOf result Read → (start : ReaderState) (many : ℕ) → IsFollowed (IsServed replay_old) old start reader_old → HasGivenSo old.stage start reader_old
-      → number ≤ many → many ≤ greatest_number → StopsEarly many start reader_new
-  pub memory : IsErrOf result OutOfMemory → (start : ReaderState) → HasGivenSo old.stage start reader_old → HasNotFailed start.calls reader_new.calls
-  pub whole : reader_new.whole ≡ reader_old.whole
 
 -- the reader is as it was, or began again and has not failed
 abbrev pub IsUntouchedOrBegan : (reader_old reader_new : ReaderState) → Type 0

@@ -1,9 +1,10 @@
 //! A log replayed without a heap: what is held, of any number of blocks.
 
-mod again;
 pub(crate) mod count;
+mod gathered;
 pub(crate) mod ledger;
 mod line;
+mod location_key;
 mod locations;
 pub(crate) mod point;
 pub(crate) mod prepared;

@@ -1,5 +1,6 @@
 //! The runs: each reads a log, follows its lines, and puts its text.
 
+pub mod enough;
 pub mod fit;
 pub mod fit_text;
 pub mod fitted;
@@ -7,6 +8,7 @@ pub mod flush;
 pub mod following;
 pub mod line_replay;
 pub mod needs;
+pub mod reading;
 pub mod report;
 pub mod run;
 pub mod save;

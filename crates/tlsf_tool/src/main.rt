@@ -10,12 +10,14 @@ mod check;
 mod command_line;
 mod files;
 mod image_file;
+mod option_values;
 mod plan;
 mod progress;
 mod run;
 mod service;
 mod setting_faults;
 mod shown;
+mod size_words;
 mod statuses;
 #[cfg(test)]
 mod tests;

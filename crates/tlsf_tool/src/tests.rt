@@ -4,6 +4,8 @@
 mod again;
 mod buffer;
 mod class;
+mod each_record;
+mod failing;
 mod fit;
 mod glibc_log;
 mod heap;

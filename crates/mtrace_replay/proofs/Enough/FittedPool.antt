@@ -31,7 +31,8 @@ use Rattle.mtrace_replay.specs.Enough.{HoldsAtMost, HoldsBytesAtMost, act_of, ac
 use Rattle.mtrace_replay.proofs.History.TotalsLemmas.{AreAllFree}
 use Rattle.mtrace_replay.proofs.History.Moments.{moments-none, moments-line}
 use Rattle.mtrace_replay.proofs.History.PlanLemmas.{Fits, is_planned}
-use Rattle.mtrace_replay.proofs.Enough.EnoughRecords.{IsRefusedAs, AreRefusals, leaves_moment, first_but_last}
+use Rattle.mtrace_replay.proofs.Enough.LineOnHeap.{IsRefusedAs, AreRefusals, leaves_moment}
+use Rattle.mtrace_replay.proofs.Enough.EnoughRecords.{first_but_last}
 use Rattle.mtrace_replay.proofs.Enough.SurePool.{IsEnough, IsWithin, room, enough_still}
 use Rattle.mtrace_replay.proofs.OnHeap.HeldLive.{IsLiveAt, AllLive, all_live}
 use Rattle.mtrace_replay.proofs.Enough.UnrefusedLemmas.{Answer, bare, bare_act, plain, planned_bare, none_behind, asked_some, served_alike, held_plain, held_unplaced, held_back, unplaced_all, entries_back, entries_unplaced_all, first_plain}

@@ -15,7 +15,8 @@ use Rattle.tlsf_heap.specs.Implied.{live_blocks}
 use Rattle.tlsf_heap.specs.OneSize.{HasRecords}
 use Rattle.tlsf_heap.specs.Sizing.{class_size}
 use Rattle.tlsf_heap.proofs.Counts.{one_if, count-cons}
-use Rattle.tlsf_heap.proofs.Good.OneSize.{IsLowest, IsForSize, malloc_for, memalign_for, freed_for, realloc_kept, malloc_given, memalign_given_or_bad, one_pool_for, own_class, positive}
+use Rattle.tlsf_heap.proofs.Good.OneSizePool.{IsLowest, IsForSize, malloc_for, memalign_for, freed_for, realloc_kept, positive}
+use Rattle.tlsf_heap.proofs.Good.OneSize.{malloc_given, memalign_given_or_bad, one_pool_for, own_class}
 use Rattle.tlsf_heap.proofs.Good.StaysLive.{free_of_live}
 use Rattle.indexmap.proofs.ReorderLemmas.{map-reverse}
 use Rattle.mtrace_log.specs.declared.event.Event.TheVariants.{Alloc, Free, New, Aligned}
@@ -38,7 +39,8 @@ use Rattle.mtrace_replay.proofs.History.PlanLemmas.{Fits, is_planned}
 use Rattle.mtrace_replay.proofs.History.HeldCounts.{Rise, without, rise-without, found-without}
 use Rattle.mtrace_replay.proofs.History.SortedLemmas.{addresses}
 use Rattle.mtrace_replay.proofs.History.FoundLemmas.{found_is_held, held_as_found}
-use Rattle.mtrace_replay.proofs.Enough.EnoughRecords.{IsRefusedAs, leaves_moment, first_but_one, few_held}
+use Rattle.mtrace_replay.proofs.Enough.LineOnHeap.{IsRefusedAs, leaves_moment}
+use Rattle.mtrace_replay.proofs.Enough.EnoughRecords.{first_but_one, few_held}
 use Rattle.mtrace_replay.proofs.OnHeap.HeldLive.{AllLive, IsLiveAt, all_live}
 use Rattle.mtrace_replay.proofs.Enough.UnrefusedLemmas.{bare, bare_act, plain, served_bare, asked_some, served_alike, held_plain, held_back, length_back}
 use Rattle.mtrace_replay.proofs.Enough.FittedPool.{no_refusal, never_bad, act_bare}

@@ -20,7 +20,8 @@ use Rattle.mtrace_replay.specs.History.{AreHeld, moments, content_after}
 use Rattle.mtrace_replay.specs.Totals.{rounded_bytes_in}
 use Rattle.mtrace_replay.specs.Enough.{HoldsAtMost, HoldsBytesAtMost, act_of, acts_of, IsOfAtMost, IsNeverRefused}
 use Rattle.mtrace_replay.proofs.History.TotalsLemmas.{AreAllFree, first_moments_all}
-use Rattle.mtrace_replay.proofs.Enough.EnoughRecords.{bytes_of, IsRefusedAs, stands_all, few_blocks, one_still, owns_sized, first_but_last, never_refused}
+use Rattle.mtrace_replay.proofs.Enough.LineOnHeap.{bytes_of, IsRefusedAs}
+use Rattle.mtrace_replay.proofs.Enough.EnoughRecords.{stands_all, few_blocks, one_still, owns_sized, first_but_last, never_refused}
 use Rattle.mtrace_replay.proofs.Enough.HeldBytes.{few_bytes, all_bytes}
 
 abbrev rounded_size : Given → ℕ

@@ -10,11 +10,12 @@ use Rattle.mtrace_log.specs.HasRead.{HasRead, HasReadAll, HasReadSo}
 use Rattle.mtrace_log.specs.Event.{Event}
 use Rattle.mtrace_log.specs.declared.event.LineFault.{LineFault}
 use Rattle.mtrace_replay.specs.declared.heap.settings.Settings.{Settings}
-use Rattle.mtrace_replay.specs.Replay.{Replayed, StandsFor}
+use Rattle.mtrace_replay.specs.declared.runs.following.Stop.{Stop}
+use Rattle.mtrace_replay.specs.Replay.{Replayed, StandsFor, heap_rules}
 use Rattle.mtrace_replay.specs.Run.{with_unused, FailedInPiece, IsPastLastNumber}
 use Rattle.mtrace_replay.specs.Again.{HasReadFirst, HasReplayedFirst, StopsEarly, ReplaysFirst, begun_again}
-use Rattle.mtrace_replay.specs.Replaying.{IsFollowed, IsReplaying, ReplaysUpTo}
-use Rattle.mtrace_replay.proofs.Running.ReplayingLemmas.{used_to_end, no_line, replaying_start}
+use Rattle.mtrace_replay.specs.Replaying.{no_line, IsFollowed, FollowsUpTo}
+use Rattle.mtrace_replay.proofs.Running.ReplayingLemmas.{used_to_end, followed_start}
 
 -- what was read so far
 pub read_first : (Stands : List (Result Event LineFault) → Type 0) (progress : Progress) (start now : ReaderState) → (so_far : IsFollowed Stands progress start now)
@@ -29,7 +30,7 @@ read_first Stands progress start now so_far few = record { count = sym so_far.co
 
 -- as many lines as were wanted
 pub first_at_most : (many : ℕ) (settings : Settings) (progress : Progress) (replay : Replayed) (start now : ReaderState)
-    → (so_far : IsReplaying settings progress replay start now) → progress.count ≡ many
+    → (so_far : IsFollowed (StandsFor replay settings) progress start now) → progress.count ≡ many
     → length progress.held ≤ most_asked → HasReplayedFirst many settings replay start.left now.left
 first_at_most many settings progress replay start now so_far all few = record {
   lines = so_far.lines;
@@ -57,29 +58,34 @@ pub has_begun : (reader_old reader_middle : ReaderState) → reader_middle.left 
 has_begun reader_old reader_middle left_is whole_is calls_are = λ i. record { left = left_is i; whole = whole_is i; calls = calls_are i }
 
 -- the lines up to one, from the first on, are the first lines
-pub first_up_to : {E : Type 0} (many : ℕ) (result : Result (Unit {0}) E) (new : Progress) (replay_old replay_new : Replayed) (reader_old reader_new : ReaderState)
-    → many ≤ greatest_number → length new.held ≤ most_asked → ReplaysUpTo many result no_line new replay_old replay_new (begun_again reader_old) reader_new
-    → ReplaysFirst many result replay_old replay_new reader_old reader_new
-first_up_to many (Ok done) new replay_old replay_new reader_old reader_new within few up =
+pub first_done : {E : Type 0} (many : ℕ) (done : Unit {0}) (new : Progress) (replay_old replay_new : Replayed) (reader_old reader_new : ReaderState)
+    → length new.held ≤ most_asked → FollowsUpTo heap_rules many (Ok done) no_line new replay_old replay_new (begun_again reader_old) reader_new
+    → ReplaysFirst {E = E} many (Ok done) replay_old replay_new reader_old reader_new
+first_done many done new replay_old replay_new reader_old reader_new few up =
     let start = begun_again reader_old in
     let none = moved_none Gave start.calls in
     record {
       done = λ settings stands.
-          first_at_most many settings new replay_new start reader_new (up.replaying settings start (replaying_start settings replay_old start stands)).now up.reached few;
+          first_at_most many settings new replay_new start reader_new (up.following settings start (followed_start (StandsFor replay_old settings) start stands)).now up.reached few;
       not_failed = (up.gave start (none, inl none)).1;
       read = tt;
       whole = up.whole;
-      records = up.records;
+      records = up.fixed;
     }
-first_up_to many (Err failed) new replay_old replay_new reader_old reader_new within few up = record {
+
+-- the reader stopped before, since a heap lacks no memory
+pub first_failed : {E : Type 0} (many : ℕ) (fault : E) (stop : Stop) (new : Progress) (replay_old replay_new : Replayed) (reader_old reader_new : ReaderState)
+    → many ≤ greatest_number → FollowsUpTo heap_rules many (Err stop) no_line new replay_old replay_new (begun_again reader_old) reader_new
+    → ReplaysFirst many (Err fault) replay_old replay_new reader_old reader_new
+first_failed many fault stop new replay_old replay_new reader_old reader_new within up = record {
   done = tt;
   not_failed = tt;
   read = λ settings stands.
       let start = begun_again reader_old in
       let none = moved_none Gave start.calls in
-      inr (up.stops settings start many (replaying_start settings replay_old start stands) (none, inl none) (omega arith) within);
+      inr (up.stops up.lacks settings start many (followed_start (StandsFor replay_old settings) start stands) (none, inl none) (omega (arith)) within);
   whole = up.whole;
-  records = up.records;
+  records = up.fixed;
 }
 
 -- an error is the same, whatever would have been answered else

@@ -16,7 +16,8 @@ use Rattle.mtrace_replay.specs.Run.{has_some}
 use Rattle.mtrace_replay.specs.Replaying.{IsFollowed}
 use Rattle.mtrace_replay.specs.LineReplay.{noted}
 use Rattle.mtrace_replay.specs.Following.{noted_text, LineFollowed, LineBegun, HasFollowed, StopsReading, StopsWriting, StopsWanting}
-use Rattle.mtrace_replay.proofs.Running.ReplayingLemmas.{no_line, followed_start, followed_line, followed_end, followed_fault, line_read, reverse-more}
+use Rattle.mtrace_replay.specs.Replaying.{no_line}
+use Rattle.mtrace_replay.proofs.Running.ReplayingLemmas.{followed_start, followed_line, followed_end, followed_fault, line_read, reverse-more}
 use Rattle.mtrace_replay.proofs.Told.DiagnosticLemmas.{diagnostics_text-append, some_diagnostic-append}
 
 -- the lines so far were read and followed, and their diagnostics written

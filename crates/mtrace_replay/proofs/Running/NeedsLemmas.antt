@@ -138,12 +138,12 @@ pub ends_with_needs : (settings : Settings) (replay : NeedsReplay) (end : Replay
     → HasFollowed (needs_rules.Stands settings replay) (added_diagnostics settings) has_diagnostics reader_old reader_new writer_old writer_middle
     → Wrote writer_middle writer_new (end_text Nothing replay.replay)
     → status ≡ (if has_diagnostics || (has_some (half replay.replay.totals.lines replay.replay.pending) || has_some (entries replay.replay)) then Found else Clean)
-    → end ≡ replay.replay → EndsWithNeeds settings status (record { replay = end; needs = replay.needs }) reader_old reader_new writer_old writer_new
+    → end ≡ replay.replay → replay.replay.content.records ≡ settings.records → EndsWithNeeds settings status (record { replay = end; needs = replay.needs }) reader_old reader_new writer_old writer_new
 unfolding has_replayed ends_at
-ends_with_needs settings replay end has_diagnostics status reader_old reader_new writer_old writer_middle writer_new done wrote is kept =
+ends_with_needs settings replay end has_diagnostics status reader_old reader_new writer_old writer_middle writer_new done wrote is kept records =
     let alone = followed_alone settings replay reader_old reader_new writer_old writer_middle has_diagnostics done in
     record {
       ends = ends_at settings replay.replay end has_diagnostics status reader_old reader_new writer_old writer_middle writer_new
-          (has_replayed settings replay.replay has_diagnostics reader_old reader_new writer_old writer_middle alone) wrote is kept done.stands.0.1;
+          (has_replayed settings replay.replay has_diagnostics reader_old reader_new writer_old writer_middle alone) wrote is kept records;
       needs = done.stands.1;
     }

@@ -14,7 +14,7 @@ use Rattle.mtrace_replay.specs.Moment.{ReadLine}
 use Rattle.mtrace_replay.specs.History.{history, moments}
 use Rattle.mtrace_replay.specs.Replay.{Replayed, StandsFor, touched}
 use Rattle.mtrace_log.specs.Shown.{ReaderState}
-use Rattle.mtrace_replay.specs.Replaying.{IsFollowed, IsFollowedOn, IsReplaying, GoesOn}
+use Rattle.mtrace_replay.specs.Replaying.{IsFollowed, IsFollowedOn}
 use Rattle.mtrace_replay.specs.Texts.{greatest}
 use Rattle.mtrace_replay.specs.Timeline.{IsPoint}
 use Rattle.mtrace_replay.proofs.OnHeap.RowLemmas.{greatest-append}
@@ -61,8 +61,8 @@ touched_stands touches replay settings past stands = record {
   totals = stands.totals;
 }
 
-abbrev touched_replaying : (touches : ℕ) (settings : Settings) (progress : Progress) (replay : Replayed) (start reader : ReaderState) → IsReplaying settings progress replay start reader
-    → IsReplaying settings progress (touched touches replay) start reader
+abbrev touched_replaying : (touches : ℕ) (settings : Settings) (progress : Progress) (replay : Replayed) (start reader : ReaderState) → IsFollowed (StandsFor replay settings) progress start reader
+    → IsFollowed (StandsFor (touched touches replay) settings) progress start reader
 touched_replaying touches settings progress replay start reader so_far = record {
   lines = so_far.lines;
   count = so_far.count;
@@ -119,7 +119,7 @@ module _ {P : Type 0} (line_of : P → ℕ) where
 
 -- lines more, and a point after them, to which the heap was touched
 pub gathers_more : (settings : Settings) (points : List Point) (point : Point) (old new : Progress) (replay_old replay_read : Replayed) (touches : ℕ) (start before after : ReaderState)
-    → (so_far : Gathers settings points old replay_old start before) → GoesOn settings so_far.now.lines new replay_read start after
+    → (so_far : Gathers settings points old replay_old start before) → IsFollowedOn (StandsFor replay_read settings) so_far.now.lines new start after
     → All (λ (one : Point). one.line ≤ old.count) points → point.line ≡ new.count
     → ((past : List ReadLine) → StandsFor replay_read settings past → IsPoint (started settings) (moments (started settings) past) point)
     → Gathers settings (points ++ point ∷ []) new (touched touches replay_read) start after

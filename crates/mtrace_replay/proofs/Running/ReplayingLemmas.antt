@@ -1,4 +1,4 @@
--- Lines read and replayed, one after the other, and how the reading goes on and ends.
+-- Lines read and followed, one after the other, and how the reading goes on and ends.
 use Rattle.std.proofs.Common.{◌≡◌, ◌≢◌, ℕ, List, [], ◌∷◌, ◌++◌, length, refl, sym, ap, ◌∙◌, subst, arith, Some, None, reverse, ◌⊎◌, inl, inr, length-append, append_assoc}
 use Rattle.std.specs.Prelude.{Result}
 use Rattle.std.specs.Io.KnownBytes.{prepend_known, IsAtEnd}
@@ -12,10 +12,8 @@ use Rattle.mtrace_log.specs.declared.line.Line.{Line}
 use Rattle.mtrace_log.specs.declared.line.ReadFault.{ReadFault}
 use Rattle.mtrace_log.specs.declared.line.ReadFault.TheVariants.{ReaderFailed, TooManyLines}
 use Rattle.mtrace_log.proofs.ReadLemmas.{HasRead-none, HasReadSo-line, HasReadSo-end, HasReadSo-fault}
-use Rattle.mtrace_replay.specs.declared.heap.settings.Settings.{Settings}
-use Rattle.mtrace_replay.specs.Replay.{Replayed, StandsFor}
 use Rattle.mtrace_replay.specs.Run.{with_unused, FailedInPiece, IsPastLastNumber}
-use Rattle.mtrace_replay.specs.Replaying.{IsFollowed, IsFollowedOn, IsReplaying}
+use Rattle.mtrace_replay.specs.Replaying.{no_line, IsFollowed, IsFollowedOn}
 
 pub prepend_nothing : (known : Bytes) → prepend_known [] known ≡ known
 prepend_nothing None = refl
@@ -23,10 +21,6 @@ prepend_nothing (Some bytes) = refl
 
 pub no_fault_yet : (fault : ReadFault) → Reading ≢ Faulted fault
 no_fault_yet fault is = cc
-
--- no line was read yet
-abbrev pub no_line : Progress
-no_line = record { held = []; count = 0; stage = Reading; last = Some [] }
 
 -- before the first line
 abbrev pub followed_start : (Stands : List (Result Event LineFault) → Type 0) (reader : ReaderState) → Stands [] → IsFollowed Stands no_line reader reader
@@ -37,10 +31,6 @@ followed_start Stands reader stands = record {
   read = (let P : Bytes → Type 0 = λ text. HasRead reader.left text [] in subst P (sym (prepend_nothing reader.left)) (HasRead-none reader.left));
   stands = stands;
 }
-
-abbrev pub replaying_start : (settings : Settings) (replay : Replayed) (reader : ReaderState) → StandsFor replay settings []
-    → IsReplaying settings no_line replay reader reader
-replaying_start settings replay reader stands = followed_start (λ past. StandsFor replay settings past) reader stands
 
 pub reverse-more : (lines : List (Result Event LineFault)) (line : Result Event LineFault) → reverse (lines ++ line ∷ []) ≡ line ∷ reverse lines
 reverse-more lines line = reverse-append lines (line ∷ [])
@@ -58,14 +48,6 @@ followed_line Stood Stands old new start before after line so_far given stands =
   read = HasReadSo-line start.left (to_come old before.left) (to_come new after.left) old new line so_far.lines so_far.read given;
   stands = subst Stands (sym (reverse-more so_far.lines line.event)) stands;
 }
-
-abbrev pub replaying_line : (settings : Settings) (old new : Progress) (replay_old replay_new : Replayed) (start before after : ReaderState) (line : Line)
-    → (so_far : IsReplaying settings old replay_old start before)
-    → GivesLine old new (to_come old before.left) (to_come new after.left) line
-    → StandsFor replay_new settings (line.event ∷ reverse so_far.lines)
-    → IsReplaying settings new replay_new start after
-replaying_line settings old new replay_old replay_new start before after line so_far given stands =
-    followed_line (λ past. StandsFor replay_old settings past) (λ past. StandsFor replay_new settings past) old new start before after line so_far given stands
 
 -- so far nothing came behind
 abbrev pub followed_on_none : (Stands : List (Result Event LineFault) → Type 0) (progress : Progress) (start now : ReaderState) (so_far : IsFollowed Stands progress start now)
@@ -120,13 +102,6 @@ pub followed_end : {R : Type 0} (reads : R → ReaderState) (Stands : List (Resu
 followed_end reads Stands old new start reader_old reader_new so_far found =
     used_to_end new.held start.left (reads reader_new).left so_far.lines (HasReadSo-end reads start.left old new reader_old reader_new so_far.lines so_far.read found)
 
-abbrev pub replaying_end : {R : Type 0} (reads : R → ReaderState) (settings : Settings) (old new : Progress) (replay : Replayed) (start : ReaderState) (reader_old reader_new : R)
-    → (so_far : IsReplaying settings old replay start (reads reader_old))
-    → FindsEnd old.stage old new reader_old reader_new (to_come old (reads reader_old).left) (to_come new (reads reader_new).left)
-    → HasReadAll start.left (reads reader_new).left so_far.lines
-replaying_end reads settings old new replay start reader_old reader_new so_far found =
-    followed_end reads (λ past. StandsFor replay settings past) old new start reader_old reader_new so_far found
-
 -- why the reading stopped
 stop_reason : (fault : ReadFault) (count : ℕ) (start : ReaderState) (before : Bytes) (held : List ℕ) (reader : ReaderState) (lines : List (Result Event LineFault)) → count ≡ length lines
     → HasRead start.left before lines → HasReadBefore start.left (prepend_known held reader.left) lines → (fault ≡ ReaderFailed → held ≡ [])
@@ -157,11 +132,3 @@ followed_fault {R} reads Stands old new start reader_old reader_new fault so_far
         stop_reason fault old.count start (to_come old (reads reader_old).left) new.held (reads reader_new) so_far.lines so_far.count read lost nothing stop.2 came
     reason_by Ended is read stop = absurd stop
     reason_by (Faulted first) is read stop = absurd (so_far.no_fault first is)
-
-abbrev pub replaying_fault : {R : Type 0} (reads : R → ReaderState) (settings : Settings) (old new : Progress) (replay : Replayed) (start : ReaderState) (reader_old reader_new : R) (fault : ReadFault)
-    → (so_far : IsReplaying settings old replay start (reads reader_old))
-    → GivesFault old.stage fault old new reader_old reader_new (to_come old (reads reader_old).left) (to_come new (reads reader_new).left)
-    → (fault ≡ ReaderFailed → new.held ≡ []) → CallsFor (Faulted fault) start.calls (reads reader_new).calls
-    → FailedInPiece start (reads reader_new) so_far.lines ⊎ ((unused : List ℕ) × IsPastLastNumber start (with_unused unused (reads reader_new)) so_far.lines)
-replaying_fault reads settings old new replay start reader_old reader_new fault so_far given nothing came =
-    followed_fault reads (λ past. StandsFor replay settings past) old new start reader_old reader_new fault so_far given nothing came

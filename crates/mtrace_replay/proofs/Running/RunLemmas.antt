@@ -83,16 +83,10 @@ unfoldable pub has_replayed : (settings : Settings) (replay : Replayed) (has_dia
 has_replayed settings replay has_diagnostics reader_old reader_new writer_old writer_new done = record {
   lines = done.lines;
   read = done.read;
-  stands = done.stands.0;
+  stands = done.stands;
   wrote = subst (λ (text : List ℕ). Wrote writer_old writer_new text) (noted_text_is settings done.lines) done.wrote;
   has_diagnostics_is = done.has_diagnostics_is ∙ ap has_some (noted_is settings (reverse done.lines));
 }
-
--- the heap has as many records as it began with
-pub records_are : (settings : Settings) (replay : Replayed) (has_diagnostics : Bool) (reader_old reader_new : ReaderState) (writer_old writer_new : WriterState)
-    → HasFollowed (heap_rules.Stands settings replay) (added_diagnostics settings) has_diagnostics reader_old reader_new writer_old writer_new
-    → replay.content.records ≡ settings.records
-records_are settings replay has_diagnostics reader_old reader_new writer_old writer_new done = done.stands.1
 
 -- the reader failed, or a line past the last number would come
 pub stops_at_read : (settings : Settings) (reader_old reader_new : ReaderState) (writer_old writer_new : WriterState)
@@ -119,9 +113,9 @@ stops_at_write report settings replay reader_old reader_new writer_old writer_ne
         | inr all ↦ inr (record {
           read = all;
           all = replay.given;
-          held = stops.stands.0.held;
+          held = stops.stands.held;
           totals = replay.totals;
-          summed = stops.stands.0.totals;
+          summed = stops.stands.totals;
           begun = subst Q (sym (whole_is report settings lines replay.given replay.totals))
               (Begins-longer writer_old writer_new (text_of_notes settings lines) (last_text report settings lines replay.given replay.totals) begun);
         })

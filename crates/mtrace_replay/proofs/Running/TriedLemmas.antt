@@ -12,17 +12,17 @@ use Rattle.mtrace_replay.specs.Replay.{Replayed, StandsFor}
 use Rattle.mtrace_log.specs.Shown.{ReaderState}
 use Rattle.mtrace_replay.specs.Again.{HasReadFirst, StopsEarly, FailsAgain}
 use Rattle.mtrace_replay.specs.RunFit.{IsTried, is_beginning, HasBegun}
-use Rattle.mtrace_replay.specs.Replaying.{IsReplaying}
+use Rattle.mtrace_replay.specs.Replaying.{IsFollowed}
 use Rattle.mtrace_replay.proofs.Running.AgainLemmas.{read_first, has_begun}
 
 -- no line is refused
-pub tried_served : (many : ℕ) (settings : Settings) (progress : Progress) (replay : Replayed) (start now : ReaderState) → (so_far : IsReplaying settings progress replay start now)
+pub tried_served : (many : ℕ) (settings : Settings) (progress : Progress) (replay : Replayed) (start now : ReaderState) → (so_far : IsFollowed (StandsFor replay settings) progress start now)
     → length progress.held ≤ most_asked → progress.count ≡ many → replay.totals.refused ≡ 0 → IsTried settings many true start.left now.left
 tried_served many settings progress replay start now so_far few all none =
     (so_far.lines, subst (λ n. HasReadFirst n start.left now.left so_far.lines) all (read_first (StandsFor replay settings) progress start now so_far few), sym so_far.stands.totals.refused ∙ none)
 
 -- a line is refused
-pub tried_refused : (many : ℕ) (settings : Settings) (progress : Progress) (replay : Replayed) (start now : ReaderState) → IsReplaying settings progress replay start now
+pub tried_refused : (many : ℕ) (settings : Settings) (progress : Progress) (replay : Replayed) (start now : ReaderState) → IsFollowed (StandsFor replay settings) progress start now
     → length progress.held ≤ most_asked → progress.count ≤ many → 0 < replay.totals.refused → IsTried settings many false start.left now.left
 tried_refused many settings progress replay start now so_far few within some =
     (so_far.lines, progress.count, within, read_first (StandsFor replay settings) progress start now so_far few, subst (λ n. 0 < n) so_far.stands.totals.refused some)

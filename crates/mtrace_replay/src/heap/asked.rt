@@ -1,12 +1,31 @@
-//! What a line asks the lists of the heap for.
+//! How many bytes a line asks the heap for, and which class of its lists.
 
-ghost use Rattle.std.specs.Prelude.{◌≡◌, if◌then◌else◌};
+ghost use Rattle.std.specs.Prelude.{◌≡◌, ◌≤◌, if◌then◌else◌};
+ghost use Rattle.tlsf_class.specs.Classes.{greatest_size};
 ghost use Rattle.mtrace_replay.specs.Asked.{bytes_asked, class_asked, greater_class};
-ghost use Rattle.mtrace_replay.specs.Moment.{asked_size};
+ghost use Rattle.mtrace_replay.specs.Moment.{asked_size, rounded_bytes};
 
-use crate::heap::step::asked_size;
 use mtrace_log::{Event, LentLocation, LineFault};
+use tlsf_class::round;
 use tlsf_heap::class_size;
+
+/// How many bytes are asked of the heap: for a block of no byte it is asked for one byte.
+pub(crate) fn asked_size(size: u64) -> u64
+    ensures { result ≡ asked_size size }
+{
+    if size == 0 { 1 } else { size }
+}
+
+/// How many bytes the block for this many bytes has; 0 where no block has as many.
+pub(crate) fn rounded_bytes(size: u64) -> u64
+    ensures value { result ≡ rounded_bytes size }
+    ensures small { result ≤ greatest_size }
+{
+    match round(asked_size(size)) {
+        Some(bytes) => u64::from(bytes),
+        None => 0,
+    }
+}
 
 /// The alignment and the bytes that a line asks for: those of no block where it asks for none.
 #[derive(Clone, Copy)]

@@ -280,6 +280,11 @@ impl LineReplay for Replay<Heap> {
     ghost rules = { heap_rules };
 
     #[inline(always)]
+    fn lines(&self) -> u64 {
+        self.totals.lines
+    }
+
+    #[inline(always)]
     fn take_line(
         &mut self,
         number: u64,

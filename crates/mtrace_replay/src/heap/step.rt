@@ -1,41 +1,22 @@
 //! What one line does to the heap and to what is held.
 
-ghost use Rattle.std.specs.Prelude.{◌≡◌, ◌≢◌, ◌+◌, ◌<◌, ◌≤◌, ◌&&◌, not, is_some, true, [], Some, None, ◌==◌};
-ghost use Rattle.tlsf_class.specs.Classes.{greatest_size};
+ghost use Rattle.std.specs.Prelude.{◌≡◌, ◌≢◌, ◌+◌, ◌<◌, ◌&&◌, not, is_some, true, [], Some, None, ◌==◌};
 ghost use Rattle.tlsf_heap.specs.Content.{blocks_of, size_at};
 ghost use Rattle.tlsf_heap.specs.Free.{is_live};
 ghost use Rattle.tlsf_heap.specs.Touches.{AtMost};
 ghost use Rattle.tlsf_heap.specs.Realloc.{realloc};
 ghost use Rattle.mtrace_replay.specs.Index.{held_at, IsFound, TellsWhether};
-ghost use Rattle.mtrace_replay.specs.Moment.{asked_size, rounded_bytes, asked_block, allocation, release, doing, move, renewal, plan};
+ghost use Rattle.mtrace_replay.specs.Moment.{asked_size, asked_block, allocation, release, doing, move, renewal, plan};
 ghost use Rattle.mtrace_replay.specs.Step.{found, all_given, Replays, AsksBlock, GivesBlock, Takes, IsUnder, AreLive};
 
+use crate::heap::asked::asked_size;
 use crate::heap::index::{Index, LookUp};
 use crate::held::diagnostic::{Diagnostic, Kind};
 use crate::held::entry::Entry;
 use crate::held::findings::Findings;
 use mtrace_log::{Addr, Event, LentLocation, LineFault};
 use std::alloc::AllocError;
-use tlsf_class::round;
 use tlsf_heap::{Heaped, Ptr, Refusal};
-
-/// How many bytes are asked of the heap: for a block of no byte it is asked for one byte.
-pub(crate) fn asked_size(size: u64) -> u64
-    ensures { result ≡ asked_size size }
-{
-    if size == 0 { 1 } else { size }
-}
-
-/// How many bytes the block for this many bytes has; 0 where no block has as many.
-pub(crate) fn rounded_bytes(size: u64) -> u64
-    ensures value { result ≡ rounded_bytes size }
-    ensures small { result ≤ greatest_size }
-{
-    match round(asked_size(size)) {
-        Some(bytes) => u64::from(bytes),
-        None => 0,
-    }
-}
 
 /// Where the live block ends, as a place.
 #[inline(always)]

@@ -6,10 +6,9 @@ ghost use Rattle.mtrace_replay.specs.Again.{StopsEarly};
 ghost use Rattle.mtrace_replay.specs.RunFit.{IsTried, TriesLog};
 ghost use Rattle.mtrace_replay.specs.declared.heap.settings.Settings.{Settings};
 
-use crate::heap::again::replay_next;
 use crate::heap::replay::Replay;
-use crate::held::findings::Findings;
-use mtrace_log::{Failed, Lines, Source};
+use crate::runs::reading::Reading;
+use mtrace_log::{Failed, Source};
 use tlsf_heap::Heap;
 
 /// Reads and replays the first lines of the log, this many, until one is refused: whether none is. What is wrong with them
@@ -29,15 +28,17 @@ pub(crate) fn is_served<R: Source>(
         ((settings : Settings) → StandsFor replay.old settings [] → StopsEarly many (R.shown reader.old) (R.shown reader.new))
         0 replay.old.content.records result (R.shown reader.old) (R.shown reader.new) replay.new }
 {
-    let mut lines = Lines::new();
-    let mut findings = Findings::none();
+    let mut reading = Reading::new();
     for _ in 0..many {
-        replay_next(&mut lines, reader, replay, &mut findings)?;
+        match reading.follow_next(reader, replay) {
+            Ok(()) => {}
+            Err(_) => return Err(Failed),
+        }
         if replay.totals().refused > 0 {
-            lines.holds_few();
+            reading.holds_few();
             return Ok(false);
         }
     }
-    lines.holds_few();
+    reading.holds_few();
     Ok(true)
 }

@@ -1,6 +1,6 @@
 //! What is held, by address.
 
-ghost use Rattle.std.specs.Prelude.{◌≡◌, ◌<◌, ◌+◌, MatchBool, ◌^◌, ℕ, List, [], reverse, None, Some, IfOk, IfSome, OnOk, OnErr, is_some, length, if◌then◌else◌, ◌==◌};
+ghost use Rattle.std.specs.Prelude.{◌≡◌, ◌<◌, ◌+◌, MatchBool, ◌^◌, ℕ, List, [], None, Some, IfOk, IfSome, OnOk, OnErr, is_some, length, if◌then◌else◌, ◌==◌};
 ghost use Rattle.std.specs.Prelude.{map};
 ghost use Rattle.std.specs.List.Sorted.{IsStrictlyIncreasing, IsPermutation, IsSorted};
 ghost use Rattle.std.specs.Ordering.{nat_cmp};
@@ -8,16 +8,16 @@ ghost use Rattle.std.specs.HashMap.{keys};
 ghost use Rattle.std.specs.Option.{option_copied, option_map};
 ghost use Rattle.mtrace_replay.specs.Texts.{total_size};
 ghost use Rattle.mtrace_replay.specs.Entry.{Entry};
-ghost use Rattle.mtrace_replay.specs.Calls.{has_no_call, caller_of, no_calls, is_next, CountsMore, CountsReleased};
+ghost use Rattle.mtrace_replay.specs.Calls.{no_calls, is_next, CountsMore, CountsReleased};
 ghost use Rattle.mtrace_replay.specs.Callers.{AreCounted, AreCallers};
-ghost use Rattle.mtrace_replay.specs.Shares.{amount_at, count_at, with_row, with_site, sites_of, callers_of, CountsOne, KeepsAmounts};
+ghost use Rattle.mtrace_replay.specs.Shares.{count_at, CountsOne, KeepsAmounts};
 ghost use Rattle.mtrace_replay.specs.Sites.{AreTallied, AreSites};
 ghost use Rattle.mtrace_replay.specs.Ledger.{held_at, slot_of, IsCounted, Forgets, KeepsPeak, AreEntries};
 
 use super::count::Count;
+use super::gathered::{gather_callers, gather_sites};
 use super::locations::Locations;
 use super::shares::{Shares, When};
-use crate::held::amount::Amount;
 use crate::held::caller::{Caller, sort_callers};
 use crate::held::grouping::sort_sites;
 use crate::held::site::Site;
@@ -129,84 +129,6 @@ fn count_temporary(shares: &mut Shares, slot: usize, is_temporary: bool)
     if is_temporary {
         shares.add_temporary(slot);
     }
-}
-
-/// The site of a location, unless it has no block.
-fn push_site<'a>(
-    sites: &mut Vec<Site<'a>>,
-    at: Option<&'a [u8]>,
-    amount: Amount,
-) -> Result<(), AllocError>
-    ensures { OnOk result (reverse sites.new.items ≡ with_site (option_copied at.entry) amount (reverse sites.old.items)) }
-{
-    if amount.blocks == 0 {
-        return Ok(());
-    }
-    sites.push(Site {
-        at,
-        blocks: amount.blocks,
-        bytes: amount.bytes,
-    })?;
-    Ok(())
-}
-
-/// The sites of locations, from that of the last one on.
-fn gather_sites<'a>(
-    alloc: Global,
-    locations: &'a Locations,
-    shares: &Shares,
-    when: When,
-) -> Result<Vec<Site<'a>>, AllocError>
-    ensures { IfOk result (λ sites. reverse sites.items ≡ sites_of (amount_at when shares.now) locations.now) }
-{
-    let mut sites = Vec::new(alloc);
-    let mut left = locations.len();
-    while left > 0 {
-        let at = locations.get(left - 1);
-        push_site(&mut sites, at, shares.amount(left, when))?;
-        left -= 1;
-    }
-    push_site(&mut sites, None, shares.amount(0, when))?;
-    Ok(sites)
-}
-
-/// The caller of a location, unless it has no call.
-fn push_caller<'a>(
-    callers: &mut Vec<Caller<'a>>,
-    at: Option<&'a [u8]>,
-    count: Count,
-) -> Result<(), AllocError>
-    ensures { OnOk result (reverse callers.new.items ≡ with_row has_no_call caller_of (option_copied at.entry) count (reverse callers.old.items)) }
-{
-    if count.calls == 0 {
-        return Ok(());
-    }
-    callers.push(Caller {
-        at,
-        calls: count.calls,
-        bytes: count.bytes,
-        temporary: count.temporary,
-    })?;
-    Ok(())
-}
-
-/// The callers of locations, from that of the last one on.
-fn gather_callers<'a>(
-    alloc: Global,
-    locations: &'a Locations,
-    shares: &Shares,
-) -> Result<Vec<Caller<'a>>, AllocError>
-    ensures { IfOk result (λ callers. reverse callers.items ≡ callers_of (count_at shares.now) locations.now) }
-{
-    let mut callers = Vec::new(alloc);
-    let mut left = locations.len();
-    while left > 0 {
-        let at = locations.get(left - 1);
-        push_caller(&mut callers, at, shares.count(left))?;
-        left -= 1;
-    }
-    push_caller(&mut callers, None, shares.count(0))?;
-    Ok(callers)
 }
 
 impl Ledger {

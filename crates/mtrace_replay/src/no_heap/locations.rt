@@ -6,6 +6,7 @@ ghost use Rattle.std.specs.Cmp.Lexicographic.{pointwise};
 ghost use Rattle.std.specs.Option.{option_copied};
 ghost use Rattle.mtrace_replay.specs.Locations.{Extends, location_of, HasLocation};
 
+use super::location_key::LocationKey;
 use indexmap::IndexSet;
 use std::alloc::{AllocError, Global};
 use std::marker::Model;
@@ -14,16 +15,16 @@ use std::marker::Model;
 #[derive(Drop)]
 pub struct Locations {
     alloc: Global,
-    seen: IndexSet<Vec<u8>>,
+    seen: IndexSet<LocationKey>,
+    asked: LocationKey,
 }
 
 impl Model for Locations {
-    ghost use Rattle.std.specs.Prelude.{ℕ, List, map};
-    ghost use Rattle.mtrace_replay.specs.Locations.{bytes_of};
+    ghost use Rattle.std.specs.Prelude.{ℕ, List};
 
     ghost Value = { List (List ℕ) };
 
-    ghost view = { λ p. map bytes_of p.seen.keys };
+    ghost view = { λ p. p.seen.keys };
 }
 
 impl Locations {
@@ -34,6 +35,7 @@ impl Locations {
         Locations {
             alloc,
             seen: IndexSet::new(alloc),
+            asked: LocationKey::none(alloc),
         }
     }
 
@@ -46,13 +48,14 @@ impl Locations {
         ensures found { IfOk result (λ number. slice_get self.new number ≡ Some bytes.now) }
         ensures others { Extends self.old self.new }
     {
-        if let Some(number) = self.seen.get_index_of(bytes) {
+        self.asked.set(bytes)?;
+        if let Some(number) = self.seen.get_index_of(&self.asked) {
             let Ok(number) = u32::try_from(number) else {
                 return Err(AllocError);
             };
             return Ok(number);
         }
-        let kept = Vec::from_slice(self.alloc, bytes)?;
+        let kept = LocationKey::of(self.alloc, bytes)?;
         let (number, _) = self.seen.insert_full(kept)?;
         let Ok(number) = u32::try_from(number) else {
             return Err(AllocError);
@@ -95,8 +98,8 @@ impl Locations {
     pub fn get(&self, number: usize) -> Option<&[u8]>
         ensures { option_copied result ≡ slice_get self.now number }
     {
-        let bytes = self.seen.get_index(number)?;
-        Some(bytes.as_slice())
+        let key = self.seen.get_index(number)?;
+        Some(key.as_slice())
     }
 
     /// The location of that number, if there is a number.

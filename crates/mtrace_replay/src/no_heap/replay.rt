@@ -192,6 +192,11 @@ impl LineReplay for LedgerReplay {
     ghost rules = { ledger_rules };
 
     #[inline(always)]
+    fn lines(&self) -> u64 {
+        self.lines
+    }
+
+    #[inline(always)]
     fn take_line(
         &mut self,
         number: u64,

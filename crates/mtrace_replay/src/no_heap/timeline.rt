@@ -11,19 +11,19 @@ ghost use Rattle.mtrace_replay.specs.Served.{served_history};
 ghost use Rattle.mtrace_replay.specs.ServedTimeline.{ReadsLedgerPoints};
 ghost use Rattle.mtrace_replay.specs.RunServedTimeline.{ServedTimelineFollows, RunsServedTimeline};
 
-use super::again::follow_up_to;
 use super::point::{LedgerPoint, ledger_point};
 use super::replay::{LedgerReplay, LedgerTotals};
 use super::report::LedgerReport;
 use super::run::follow_log;
-use crate::held::findings::Findings;
 use crate::held::line_text::{LineText, push_bytes, push_column, push_number};
 use crate::held::told::tell_lines;
 use crate::runs::flush::flush_behind;
+use crate::runs::following::Stop;
+use crate::runs::reading::Reading;
 use crate::runs::status::{RunFault, Status};
 use crate::runs::timeline::MOST_PARTS;
 use arrayvec::ArrayVec;
-use mtrace_log::{Again, Failed, Lines, Sink, put_all};
+use mtrace_log::{Again, Failed, Sink, put_all};
 use std::alloc::{AllocError, Global};
 
 /// The line of a point.
@@ -91,13 +91,16 @@ fn read_points<R: Again>(
         return Err(RunFault::Read);
     };
     let mut replay = LedgerReplay::new(alloc);
-    let mut lines = Lines::new();
-    let mut findings = Findings::none();
+    let mut reading = Reading::new();
     for number in numbers {
-        follow_up_to(&mut lines, reader, &mut replay, &mut findings, *number)?;
-        points.push_reserved(ledger_point(&replay));
+        match reading.follow_up_to(reader, &mut replay, *number) {
+            Ok(()) => points.push_reserved(ledger_point(&replay)),
+            Err(Stop::Memory) => return Err(RunFault::OutOfMemory),
+            Err(Stop::Reader) => return Err(RunFault::Read),
+            Err(Stop::Writer) => return Err(RunFault::Read),
+        }
     }
-    lines.holds_few();
+    reading.holds_few();
     Ok(points)
 }
 

@@ -111,6 +111,11 @@ impl LineReplay for CountedReplay {
     ghost rules = { counted_rules };
 
     #[inline(always)]
+    fn lines(&self) -> u64 {
+        self.ledger.lines()
+    }
+
+    #[inline(always)]
     fn take_line(
         &mut self,
         number: u64,

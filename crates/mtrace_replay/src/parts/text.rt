@@ -12,6 +12,7 @@ ghost use Rattle.mtrace_replay.specs.PartsText.{part_in};
 use crate::held::line_text::{
     LineText, push_bytes, push_number, push_number_line, push_wide_pair_line,
 };
+use crate::runs::enough::table_bytes;
 use crate::runs::fit_text::push_size_line;
 use arrayvec::ArrayVec;
 use mtrace_log::{Failed, Sink, put_all};
@@ -42,7 +43,7 @@ impl PartOf {
         ensures { result ≡ records_bytes (part_in self.now) }
     {
         self.pool()?;
-        Some(16 * self.blocks + 1696)
+        Some(table_bytes(self.blocks))
     }
 }
 

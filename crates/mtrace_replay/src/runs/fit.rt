@@ -16,6 +16,7 @@ use crate::heap::replay::Replay;
 use crate::heap::settings::{GREATEST_POOL, Settings, UNIT};
 use crate::heap::tried::is_served;
 use crate::held::line_text::LineText;
+use crate::runs::enough::sure_records;
 use crate::runs::fit_text::{fitted_text, untried_text};
 use crate::runs::fitted::Fitted;
 use crate::runs::flush::flush_behind;
@@ -66,8 +67,8 @@ fn enough_records(most: u64) -> u32
     ensures some { 0 < result }
     ensures few { result ≤ MOST_RECORDS }
 {
-    let records = most.saturating_mul(2).saturating_add(3);
-    records.min(u64::from(MOST_RECORDS)) as u32
+    let most_records = u64::from(MOST_RECORDS);
+    sure_records(most.min(most_records)).min(most_records) as u32
 }
 
 /// Begins the log again, and tries its first lines, this many, on one pool of this many bytes, with this many records: whether

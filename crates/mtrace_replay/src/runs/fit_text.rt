@@ -10,6 +10,7 @@ use crate::held::line_text::{
     LONGEST_TEXT, LineText, push_bytes, push_count_line, push_greatest_line, push_number,
     push_number_line, push_pair_line, push_refused_line,
 };
+use crate::runs::enough::table_bytes;
 use crate::runs::fitted::Fitted;
 use arrayvec::ArrayVec;
 
@@ -45,7 +46,7 @@ pub(crate) fn push_records(text: &mut LineText, records: u64)
     ensures { Appends (record_lines records) 130 text.old text.new }
 {
     push_number_line(text, b"records: ", records);
-    push_size_line(text, b"table: ", Some(16 * records + 1696));
+    push_size_line(text, b"table: ", Some(table_bytes(records)));
 }
 
 /// Appends the records, what the sizes tell that were tried with them, and the pool that is always enough.

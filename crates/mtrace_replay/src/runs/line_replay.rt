@@ -12,6 +12,10 @@ pub(crate) trait LineReplay {
     // For which lines it stands, and what each adds to the diagnostics.
     ghost rules: { LineRules Self };
 
+    /// How many lines it took.
+    fn lines(&self) -> u64
+        ensures { result ≡ rules.lines self.now };
+
     /// Replays the line of this number that says this, with its location where it lies. What is wrong goes to the findings.
     ///
     /// # Errors

@@ -9,10 +9,9 @@ ghost use Rattle.mtrace_replay.specs.Started.{started};
 ghost use Rattle.mtrace_replay.specs.declared.heap.settings.Settings.{Settings};
 ghost use Rattle.mtrace_replay.specs.Needs.{of_one, block_bytes, BehindExchange, AreNeeds, status_with, EndsWithNeeds};
 
-use crate::heap::asked::Asked;
+use crate::heap::asked::{Asked, rounded_bytes};
 use crate::heap::replay::{Replay, ReplayFault};
 use crate::heap::settings::Settings;
-use crate::heap::step::rounded_bytes;
 use crate::heap::totals::Totals;
 use crate::held::findings::Findings;
 use crate::runs::following::{Stop, follow_lines};
@@ -104,6 +103,11 @@ impl LineReplay for NeedsReplay {
     ghost use Rattle.mtrace_replay.specs.Needs.{needs_rules};
 
     ghost rules = { needs_rules };
+
+    #[inline(always)]
+    fn lines(&self) -> u64 {
+        self.replay.lines()
+    }
 
     #[inline(always)]
     fn take_line(

@@ -4,9 +4,10 @@ ghost use Rattle.std.specs.Prelude.{◌≡◌, ◌<◌};
 ghost use Rattle.tlsf_heap.specs.Sizing.{class_size, sure_pool};
 ghost use Rattle.mtrace_replay.specs.Size.{align_of, blocks_bytes, rounded_pool, size_text, RunsSize};
 
-use crate::heap::step::{asked_size, rounded_bytes};
+use crate::heap::asked::{asked_size, rounded_bytes};
 use crate::held::line_text::LineText;
 use crate::parts::text::PartOf;
+use crate::runs::enough::sure_records;
 use crate::runs::fit_text::{push_records, push_size_line};
 use crate::runs::flush::flush_behind;
 use crate::runs::status::{RunFault, Status};
@@ -77,7 +78,7 @@ fn size_text(bounds: Bounds) -> LineText
     ensures { result.items ≡ size_text bounds }
 {
     let mut text = ArrayVec::new();
-    push_records(&mut text, 2 * u64::from(bounds.blocks) + 3);
+    push_records(&mut text, sure_records(u64::from(bounds.blocks)));
     push_size_line(&mut text, b"sure pool: ", sure_of(bounds));
     push_size_line(&mut text, b"rounded pool: ", rounded_of(bounds));
     text

@@ -9,18 +9,17 @@ ghost use Rattle.mtrace_replay.specs.Replay.{StandsFor};
 ghost use Rattle.mtrace_replay.specs.Texts.{point_text, timeline_text};
 ghost use Rattle.mtrace_replay.specs.RunTimeline.{HasRoom, ReadsPoints, TimelineFollows, RunsTimeline};
 
-use crate::heap::again::replay_up_to;
 use crate::heap::point::{Point, point_after};
 use crate::heap::replay::{Replay, ReplayFault};
 use crate::heap::settings::Settings;
-use crate::held::findings::Findings;
 use crate::held::line_text::{point_text, refused_text};
 use crate::held::told::tell_lines;
 use crate::runs::flush::flush_behind;
+use crate::runs::reading::Reading;
 use crate::runs::report::Report;
 use crate::runs::run::replay_log;
 use crate::runs::status::{RunFault, Status};
-use mtrace_log::{Again, Failed, Lines, Sink, put_all};
+use mtrace_log::{Again, Failed, Sink, put_all};
 use std::alloc::{AllocError, Global};
 use tlsf_heap::Heap;
 
@@ -64,13 +63,14 @@ fn read_points<R: Again>(
     ensures { ReadsPoints numbers.now result points.new.items replay.old (R.shown reader.old) (R.shown reader.new) }
 {
     reader.begin()?;
-    let mut lines = Lines::new();
-    let mut findings = Findings::none();
+    let mut reading = Reading::new();
     for number in numbers {
-        replay_up_to(&mut lines, reader, replay, &mut findings, *number)?;
-        points.push_reserved(point_after(replay));
+        match reading.follow_up_to(reader, replay, *number) {
+            Ok(()) => points.push_reserved(point_after(replay)),
+            Err(_) => return Err(Failed),
+        }
     }
-    lines.holds_few();
+    reading.holds_few();
     Ok(())
 }
 

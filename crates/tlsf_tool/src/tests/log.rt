@@ -2,4 +2,5 @@ mod adapters;
 mod addresses;
 mod in_memory;
 mod line_rows;
+mod longest_line;
 mod streams;

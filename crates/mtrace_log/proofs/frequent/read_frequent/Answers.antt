@@ -1,3 +1,4 @@
+-- Location, mark, address and size, then the newline, read as the line does.
 use Rattle.std.proofs.Common.{length, refl, ap, ◌∙◌}
 use Rattle.mtrace_log.proofs.FrequentLemmas.{line-read}
 use Rattle.mtrace_log.proofs.frequent.read_frequent.Goals as goal

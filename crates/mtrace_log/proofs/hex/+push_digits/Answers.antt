@@ -1,3 +1,4 @@
+-- The digits before the last, then the last.
 use Rattle.std.proofs.Common.{◌/◌, ◌%◌, ◌++◌, ◌∷◌, [], length, ap, sym, ◌∙◌, append_assoc, arith, length-append}
 use Rattle.std.specs.Char.{digit_char}
 use Rattle.mtrace_log.specs.Address.{hex_digits}

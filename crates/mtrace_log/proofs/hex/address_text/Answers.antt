@@ -1,3 +1,4 @@
+-- An address has at most 16 digits.
 use Rattle.std.proofs.Common.{length, ap, arith}
 use Rattle.mtrace_log.proofs.HexLemmas.{length-hex_digits-le}
 use Rattle.mtrace_log.proofs.hex.address_text.Goals as goal

@@ -1,3 +1,4 @@
+-- Digits that begin with 0 spell no number but 0.
 use Rattle.std.proofs.Common.{◌≤◌, length, arith, inl, inr}
 use Rattle.std.proofs.lemmas.Bool.{cases_lt}
 use Rattle.mtrace_log.specs.Address.{hex_digits}

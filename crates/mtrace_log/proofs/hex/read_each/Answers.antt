@@ -1,3 +1,4 @@
+-- One digit more in each turn, and the number fits.
 use Rattle.std.proofs.Common.{◌≡◌, ◌<◌, ◌∙◌, ap, sym, arith}
 use Rattle.std.specs.Char.{digit_char}
 use Rattle.mtrace_log.proofs.HexLemmas.{read_digits-fits, read_digits-more}

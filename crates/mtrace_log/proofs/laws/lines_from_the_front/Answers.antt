@@ -1,3 +1,4 @@
+-- By induction over the pieces.
 use Rattle.mtrace_log.proofs.LineLemmas.{lines_of-last, lines_of-whole_lines}
 use Rattle.mtrace_log.proofs.laws.lines_from_the_front.Goals as goal
 

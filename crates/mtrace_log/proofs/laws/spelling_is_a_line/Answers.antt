@@ -1,3 +1,4 @@
+-- A spelling has no newline, and is short.
 use Rattle.mtrace_log.proofs.SpellingLemmas.{Lacks-spell, length-spell}
 use Rattle.mtrace_log.proofs.laws.spelling_is_a_line.Goals as goal
 

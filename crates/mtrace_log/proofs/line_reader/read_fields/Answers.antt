@@ -1,3 +1,4 @@
+-- The pointer, then the numbers.
 use Rattle.std.proofs.Common.{◌∙◌}
 use Rattle.mtrace_log.proofs.FrontLemmas.{pointer-same, behind_pointer, fields-front, fields-behind}
 use Rattle.mtrace_log.proofs.line_reader.read_fields.Goals as goal

@@ -1,3 +1,4 @@
+-- A line in front of which a location stands, or none.
 use Rattle.std.proofs.Common.{Some, length, sym, ◌∙◌, ◌≤◌, subst, arith}
 use Rattle.mtrace_log.specs.Spelling.{longest_line}
 use Rattle.mtrace_log.specs.Reading.{ReadsAs}

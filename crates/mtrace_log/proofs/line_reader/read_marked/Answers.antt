@@ -1,3 +1,4 @@
+-- Each mark has its fields.
 use Rattle.std.proofs.Common.{sym, ◌∙◌}
 use Rattle.mtrace_log.proofs.EventLemmas.{marked-cut}
 use Rattle.mtrace_log.proofs.line_reader.read_marked.Goals as goal

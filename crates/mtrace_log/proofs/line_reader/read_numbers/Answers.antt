@@ -1,3 +1,4 @@
+-- A size alone, or an alignment and a size.
 use Rattle.std.proofs.Common.{[], length, ◌==◌, sym, ap, ◌∙◌, subst}
 use Rattle.std.proofs.lemmas.Bool.{false≢true}
 use Rattle.mtrace_log.proofs.FrontLemmas.{NumbersFrom, size-alone, size-same, numbers-front, numbers-cut, numbers-behind}

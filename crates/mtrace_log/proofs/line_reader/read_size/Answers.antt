@@ -1,3 +1,4 @@
+-- `0`, or an address.
 use Rattle.mtrace_log.proofs.FrontLemmas.{size-none}
 use Rattle.mtrace_log.proofs.line_reader.read_size.Goals as goal
 

@@ -1,3 +1,4 @@
+-- The line's mark decides its form.
 use Rattle.std.proofs.Common.{sym, ◌∙◌, None}
 use Rattle.std.proofs.lemmas.Slice.Eq.{bytes_eq-Decides}
 use Rattle.std.proofs.lemmas.Bool.{false≢true}

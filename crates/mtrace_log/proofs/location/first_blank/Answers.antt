@@ -1,3 +1,4 @@
+-- The lowest lane of the mask is the first.
 use Rattle.mtrace_log.proofs.LocationLemmas.{lanes-none, lanes-some}
 use Rattle.mtrace_log.proofs.location.first_blank.Goals as goal
 

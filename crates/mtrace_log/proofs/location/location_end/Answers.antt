@@ -1,3 +1,4 @@
+-- Sixteen bytes more in each turn, until one can't stand there.
 use Rattle.std.proofs.Common.{ℕ, ◌+◌, ◌≤◌, List, length, not, ap, ◌∙◌, arith}
 use Rattle.std.specs.List.{prefix_len}
 use Rattle.mtrace_log.specs.Location.{is_blank}

@@ -1,3 +1,4 @@
+-- A part more in each turn is put.
 use Rattle.std.proofs.Common.{ℕ, List, take, drop, length, ◌∷◌, sym, subst, arith, ◌∙◌, ap}
 use Rattle.std.proofs.lemmas.List.{take_rest, take-append-drop}
 use Rattle.mtrace_log.specs.declared.call.Call.TheVariants.{Took}

@@ -1,3 +1,4 @@
+-- A buffer's bytes more in each turn, until the newline.
 use Rattle.std.proofs.Common.{◌++◌, refl, subst, ◌∙◌, [], arith}
 use Rattle.mtrace_log.specs.Buffer.{Buffered}
 use Rattle.mtrace_log.specs.LineBuffer.{Holds, TakesPiece}

@@ -1,3 +1,4 @@
+-- Each lane by itself.
 use Rattle.mtrace_log.proofs.SixteenLemmas.{chosen}
 use Rattle.mtrace_log.proofs.sixteen.offsets.Goals as goal
 

@@ -1,3 +1,4 @@
+-- By induction over the pools.
 use Rattle.mtrace_replay.proofs.OnHeap.StartLemmas.{all_pools_stand}
 use Rattle.mtrace_replay.proofs.laws.all_pools_stand.Goals as goal
 

@@ -1,3 +1,4 @@
+-- By induction over the lines.
 use Rattle.mtrace_replay.proofs.History.HeldLemmas.{held_until_taken}
 use Rattle.mtrace_replay.proofs.laws.held_until_taken.Goals as goal
 

@@ -1,3 +1,4 @@
+-- By the heap's law on blocks of one size, act by act.
 use Rattle.std.proofs.Common.{reverse}
 use Rattle.mtrace_replay.proofs.Enough.OneSizeLog.{one_size_serves, rounded_serves}
 use Rattle.mtrace_replay.proofs.laws.one_size_serves_the_log.Goals as goal

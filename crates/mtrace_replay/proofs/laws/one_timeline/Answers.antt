@@ -1,3 +1,4 @@
+-- Two rising lists of the same numbers are equal, and a measure has one value.
 use Rattle.std.proofs.Common.{ℕ, List, map, sym, ◌∙◌, subst}
 use Rattle.std.specs.List.Sorted.{IsStrictlyIncreasing}
 use Rattle.std.proofs.lemmas.List.{map-id}

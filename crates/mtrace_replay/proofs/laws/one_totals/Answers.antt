@@ -1,3 +1,4 @@
+-- A measure has one value, and one greatest.
 use Rattle.std.proofs.Common.{◌≡◌, sym, ◌∙◌, arith}
 use Rattle.mtrace_replay.specs.Totals.{Measures}
 use Rattle.mtrace_replay.proofs.History.TotalsLemmas.{measure_is_one, one_greatest, not_later}

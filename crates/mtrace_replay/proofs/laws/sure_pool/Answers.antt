@@ -1,3 +1,4 @@
+-- By induction over the lines: a block always fits, and a record is left.
 use Rattle.std.proofs.Common.{◌+◌, ◌*◌, ◌≤◌, arith}
 use Rattle.mtrace_replay.specs.Started.{started}
 use Rattle.mtrace_replay.specs.Fit.{one_pool}

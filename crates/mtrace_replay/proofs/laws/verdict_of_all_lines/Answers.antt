@@ -1,3 +1,4 @@
+-- A text reads as one list of lines.
 use Rattle.mtrace_replay.proofs.Enough.VerdictLemmas.{told_verdict}
 use Rattle.mtrace_replay.proofs.laws.verdict_of_all_lines.Goals as goal
 

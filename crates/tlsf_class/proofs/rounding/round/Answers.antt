@@ -1,3 +1,4 @@
+-- The next multiple is the least at or above.
 use Rattle.std.proofs.Common.{◌≡◌, Some, ◌∙◌, sym, ap, arith}
 use Rattle.tlsf_class.specs.Rounding.{rounded}
 use Rattle.tlsf_class.proofs.RoundingLaws.{round_within, rounded_from}

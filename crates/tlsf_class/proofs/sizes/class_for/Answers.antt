@@ -1,3 +1,4 @@
+-- The class of the next lowest size is the least that serves.
 use Rattle.std.proofs.Common.{sym, arith}
 use Rattle.tlsf_class.proofs.ClassLaws.{need_above}
 use Rattle.tlsf_class.proofs.Shifts.{low-last}

@@ -1,3 +1,4 @@
+-- A shift by the level's step gives the class.
 use Rattle.std.proofs.Common.{◌∙◌, sym}
 use Rattle.tlsf_class.proofs.Shifts.{IsShift, class-small, class-shift}
 use Rattle.tlsf_class.proofs.sizes.class_of.Goals as goal

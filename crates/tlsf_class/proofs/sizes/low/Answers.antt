@@ -1,3 +1,4 @@
+-- The lowest size by level and step.
 use Rattle.std.proofs.Common.{◌<◌, ◌/◌, ◌∙◌, sym, ap, arith}
 use Rattle.tlsf_class.specs.Classes.{steps, low}
 use Rattle.tlsf_class.proofs.Shifts.{low-first_level, low-later_level}

@@ -1,3 +1,4 @@
+-- A size rounded up to its level's step is a lowest size.
 use Rattle.std.proofs.Common.{◌≡◌, ℕ, ◌+◌, ◌-◌, ◌*◌, ◌/◌, ◌%◌, ◌^◌, ◌<◌, arith}
 use Rattle.tlsf_class.proofs.Shifts.{IsShift, IsNextLow, need-small, next_low-shift, low-last}
 use Rattle.tlsf_class.proofs.sizes.next_low.Goals as goal

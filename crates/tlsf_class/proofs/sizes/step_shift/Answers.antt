@@ -1,3 +1,4 @@
+-- The highest bit tells the level.
 use Rattle.tlsf_class.proofs.Shifts.{shift-leading_zeros}
 use Rattle.tlsf_class.proofs.sizes.step_shift.Goals as goal
 

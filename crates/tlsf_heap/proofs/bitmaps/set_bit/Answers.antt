@@ -1,3 +1,4 @@
+-- A bit of the word is a power below its end.
 use Rattle.std.proofs.Common.{arith}
 use Rattle.std.proofs.Math.Pow.{pow-lt}
 use Rattle.std.proofs.lemmas.Nat.{or_lt}

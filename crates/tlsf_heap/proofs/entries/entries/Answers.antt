@@ -1,3 +1,4 @@
+-- One entry more in each turn, until one is empty.
 use Rattle.std.proofs.Common.{◌≡◌, ◌++◌, [], ◌∷◌, ◌<◌, ℕ, length, List, Option, sym, ap, ◌∙◌, arith}
 use Rattle.tlsf_store.specs.declared.pools.Pool.{Pool as StoredPool}
 use Rattle.std.proofs.lemmas.List.{append-nil}

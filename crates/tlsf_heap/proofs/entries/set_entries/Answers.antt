@@ -1,3 +1,4 @@
+-- The entries written, with none behind them, are the store's.
 use Rattle.std.proofs.Common.{rules, ◌≡◌, length, ap, ◌∙◌, arith}
 use Rattle.tlsf_store.specs.Cells.{most_pools}
 use Rattle.tlsf_heap.proofs.Inner.EntryLists.{padded_at-below, written_is_padded}

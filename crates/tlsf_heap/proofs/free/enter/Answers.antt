@@ -1,3 +1,4 @@
+-- A block's size has a class, whose list takes it in front.
 use Rattle.std.proofs.Common.{◌∙◌, arith}
 use Rattle.tlsf_heap.specs.Inner.Nodes.{Loose}
 use Rattle.tlsf_heap.proofs.Inner.Steps.{slot_used, size_read, whole_at, first_used, listed_stands}

@@ -1,3 +1,4 @@
+-- The block is live, so it is released, and the content is that of `free`.
 use Rattle.std.proofs.Common.{rules, ◌≡◌, cond, sym, ap, ◌∙◌, Ok, Err}
 use Rattle.tlsf_store.specs.Cells.{Cells}
 use Rattle.tlsf_heap.specs.declared.refusal.Refusal.TheVariants.{BadPointer}

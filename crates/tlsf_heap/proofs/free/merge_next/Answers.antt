@@ -1,3 +1,4 @@
+-- No block is behind, or it is live, or it is free and merged.
 use Rattle.std.proofs.Common.{◌≡◌, ◌+◌, false, sym, ap, ◌∙◌, subst, arith}
 use Rattle.tlsf_store.specs.declared.records.Record.{Record}
 use Rattle.tlsf_store.specs.Records.{record_at, is_free_state}

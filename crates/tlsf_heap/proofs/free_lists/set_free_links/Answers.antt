@@ -1,3 +1,4 @@
+-- One record changes, and then itself again.
 use Rattle.std.proofs.Common.{rules, ap}
 use Rattle.std.proofs.lemmas.List.{set-set}
 use Rattle.tlsf_store.proofs.RecordLaws.{record_at-set_same}

@@ -1,3 +1,4 @@
+-- By cases on what the lists have.
 use Rattle.std.proofs.Common.{◌≢◌, refl, arith}
 use Rattle.std.specs.Prelude.{Err, IsOk}
 use Rattle.tlsf_heap.specs.declared.refusal.Refusal.TheVariants.{NoFit}

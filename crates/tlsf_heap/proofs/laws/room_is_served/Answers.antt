@@ -1,3 +1,4 @@
+-- What room says of the lists is what the definitions ask for.
 use Rattle.std.proofs.Common.{◌==◌}
 use Rattle.tlsf_heap.specs.Pointer.{place_and_slot}
 use Rattle.tlsf_heap.proofs.Good.Room.{room_serves, aligned_room_serves, realloc_room_serves}

@@ -1,3 +1,4 @@
+-- Were there no room, the free blocks would be too many for the pool.
 use Rattle.std.proofs.Common.{arith}
 use Rattle.tlsf_heap.specs.Memalign.{size_asked}
 use Rattle.tlsf_heap.proofs.Good.Within.{room_within}

@@ -1,3 +1,4 @@
+-- One head more in each turn, with its bits.
 use Rattle.std.proofs.Common.{◌≡◌, ◌+◌, ◌∙◌, ℕ, length, sym, ap, arith, subst, Some}
 use Rattle.tlsf_class.specs.Classes.{classes}
 use Rattle.tlsf_store.specs.CountedCells.{CountedCells}

@@ -1,3 +1,4 @@
+-- The heads of the classes so far are the table's, the others none.
 use Rattle.std.proofs.Common.{◌≡◌, ◌+◌, ◌*◌, ◌<◌, ◌≤◌, length}
 use Rattle.tlsf_class.specs.Classes.{classes}
 use Rattle.tlsf_heap.specs.Inner.Loading.{HasHeadsBelow}

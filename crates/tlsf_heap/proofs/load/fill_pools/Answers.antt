@@ -1,3 +1,4 @@
+-- All eight entries are written.
 use Rattle.std.proofs.Common.{◌≡◌, ◌∙◌, ap, arith, None}
 use Rattle.std.proofs.lemmas.List.{ext_get_or}
 use Rattle.tlsf_heap.specs.Images.Image.{Parts}

@@ -1,3 +1,4 @@
+-- All records are written.
 use Rattle.std.proofs.Common.{◌≡◌, ◌∙◌, ap, arith}
 use Rattle.std.proofs.lemmas.List.{ext_get_or}
 use Rattle.tlsf_store.specs.Records.{blank}

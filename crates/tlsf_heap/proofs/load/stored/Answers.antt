@@ -1,3 +1,4 @@
+-- A new store has no heads.
 use Rattle.std.proofs.Common.{arith, ◌≡◌, ◌∙◌, sym, ap, subst}
 use Rattle.std.proofs.lemmas.Grind.{common_steps}
 use Rattle.tlsf_heap.specs.Inner.Loading.{HasHeadsBelow, with_records}

@@ -1,3 +1,4 @@
+-- The records taken so far aren't vacant.
 use Rattle.std.proofs.Common.{◌≡◌, ◌+◌, ◌*◌, ◌≤◌, length}
 use Rattle.tlsf_store.specs.Records.{vacant_count}
 use Rattle.tlsf_heap.specs.Inner.Loading.{with_records}

@@ -1,3 +1,4 @@
+-- The block picked can be taken.
 use Rattle.std.proofs.Common.{sym, subst}
 use Rattle.tlsf_store.specs.Cells.{Cells}
 use Rattle.tlsf_heap.specs.Inner.Answers.{IsTakeable}

@@ -1,3 +1,4 @@
+-- What the search finds is the first list that fits.
 use Rattle.std.proofs.Common.{sym, ◌∙◌, None, Some}
 use Rattle.tlsf_heap.proofs.Inner.Picked.{search_finds}
 use Rattle.tlsf_heap.proofs.malloc.pick.Goals as goal

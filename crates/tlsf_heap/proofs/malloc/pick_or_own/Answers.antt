@@ -1,3 +1,4 @@
+-- The first block of the own class is taken where it has the bytes.
 use Rattle.std.proofs.Common.{ℕ, ap, Option}
 use Rattle.tlsf_heap.specs.OwnClass.{picked_or_own}
 use Rattle.tlsf_heap.specs.Inner.Following.{content_of}

@@ -1,3 +1,4 @@
+-- A power of two has one bit.
 use Rattle.std.proofs.Common.{refl, sym, ◌∙◌}
 use Rattle.std.proofs.lemmas.Bool.{le-leb}
 use Rattle.tlsf_heap.proofs.Content.Alignments.{alignment_is}

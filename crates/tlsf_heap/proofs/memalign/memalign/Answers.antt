@@ -1,3 +1,4 @@
+-- The block picked has room for the gap in front and for the bytes.
 use Rattle.std.proofs.Common.{sym, ◌∙◌}
 use Rattle.tlsf_heap.proofs.Content.Alignments.{asked_whole, round_size}
 use Rattle.tlsf_heap.proofs.memalign.memalign.Goals as goal

@@ -1,3 +1,4 @@
+-- The record of a live block has its size.
 use Rattle.std.proofs.Common.{cond, sym, ap, ◌∙◌, Ok, Err}
 use Rattle.tlsf_store.specs.Cells.{Cells}
 use Rattle.tlsf_heap.specs.declared.refusal.Refusal.TheVariants.{BadPointer}

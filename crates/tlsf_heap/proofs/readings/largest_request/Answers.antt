@@ -1,3 +1,4 @@
+-- The last class with a block serves up to its lowest size.
 use Rattle.std.proofs.Common.{ℕ, ◌<◌, refl, sym, inl, inr, arith}
 use Rattle.tlsf_class.specs.Classes.{low}
 use Rattle.tlsf_class.proofs.LowestSizes.{low-le}

@@ -1,3 +1,4 @@
+-- Records are vacant or a block's.
 use Rattle.std.proofs.Common.{arith}
 use Rattle.tlsf_heap.proofs.Inner.Standing.{used_are}
 use Rattle.tlsf_heap.proofs.readings.records_used.Goals as goal

@@ -1,3 +1,4 @@
+-- A record in a chain is a row, and its next the row behind.
 use Rattle.std.proofs.Common.{rules, ◌≡◌, ◌∷◌, ap, ◌∙◌, arith, Some}
 use Rattle.tlsf_store.specs.declared.records.Record.{Record}
 use Rattle.tlsf_store.specs.Records.{record_at}

@@ -1,3 +1,4 @@
+-- The merged block is cut where the bytes end.
 use Rattle.std.proofs.Common.{◌≡◌, refl, ◌∙◌, arith, ap, sym}
 use Rattle.tlsf_store.specs.Cells.{Cells}
 use Rattle.tlsf_store.specs.Records.{record_at}

@@ -1,3 +1,4 @@
+-- The pool's one block leaves its list, then the pool leaves.
 use Rattle.std.proofs.Common.{ap, ◌∙◌, length}
 use Rattle.tlsf_store.specs.Cells.{Cells}
 use Rattle.tlsf_heap.specs.Inner.Nodes.{InUse}

@@ -1,3 +1,4 @@
+-- One request's answer more in each turn.
 use Rattle.std.proofs.Common.{◌∷◌, [], ◌++◌, ◌∙◌, sym, ap, arith, take}
 use Rattle.std.proofs.lemmas.List.{take_more}
 use Rattle.tlsf_heap.proofs.RunSteps.{run-more, run_lacks_none}

@@ -1,3 +1,4 @@
+-- The answers so far are those of a run.
 use Rattle.std.proofs.Common.{◌≡◌, length, take, vec_len, vec_capacity}
 use Rattle.tlsf_heap.specs.Run.{Run}
 use Rattle.tlsf_heap.proofs.runs.run.Given as goal

@@ -1,3 +1,4 @@
+-- The last level with a bit, then its last class.
 use Rattle.std.proofs.Common.{ℕ, arith}
 use Rattle.tlsf_store.specs.Cells.{Cells}
 use Rattle.tlsf_heap.proofs.Bits.Search.{level_within}

@@ -1,3 +1,4 @@
+-- Bits below the place are cleared; the lowest left is told.
 use Rattle.std.proofs.Common.{arith}
 use Rattle.tlsf_heap.proofs.Bits.Search.{none_above, lowest_above}
 use Rattle.tlsf_heap.proofs.search.lowest_from.Goals as goal

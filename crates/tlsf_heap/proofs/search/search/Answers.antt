@@ -1,3 +1,4 @@
+-- The class is found in its own level, or in one above.
 use Rattle.std.proofs.Common.{◌<◌, sym, ◌∙◌, arith}
 use Rattle.tlsf_class.specs.Classes.{classes}
 use Rattle.tlsf_store.specs.Cells.{Cells}

@@ -1,3 +1,4 @@
+-- The first level above with a bit, then its first class.
 use Rattle.std.proofs.Common.{ℕ, sym, arith}
 use Rattle.tlsf_store.specs.Cells.{Cells}
 use Rattle.tlsf_heap.proofs.Bits.Search.{passes_all, found_above, has_step, level_within}

@@ -1,3 +1,4 @@
+-- Rounded bytes and an alignment's gap are a size.
 use Rattle.std.proofs.Common.{sym, ◌∙◌}
 use Rattle.tlsf_heap.proofs.Content.Alignments.{asked_whole, round_size}
 use Rattle.tlsf_heap.proofs.sizing.class_size.Goals as goal

@@ -1,3 +1,4 @@
+-- One row more in each turn.
 use Rattle.std.proofs.Common.{◌≡◌, ◌∷◌, refl, ap, ◌∙◌, arith, length}
 use denote.Param.Always.{mut_next}
 use Rattle.tlsf_store.specs.Cells.{Cells}

@@ -1,3 +1,4 @@
+-- One vacant record more in each turn, linked to the one before.
 use Rattle.std.proofs.Common.{◌≡◌, ◌∙◌, ◌<◌, Some, subst, arith}
 use Rattle.tlsf_store.specs.Slots.{link_of}
 use Rattle.tlsf_store.proofs.RecordLaws.{link_of-slot}

@@ -1,3 +1,4 @@
+-- The records so far are the chain's.
 use Rattle.std.proofs.Common.{◌≡◌, vec_capacity}
 use Rattle.tlsf_store.specs.Slots.{link_of}
 use Rattle.tlsf_store.proofs.TableMaking.{IsBegun}

@@ -1,3 +1,4 @@
+-- The count is that of the records so far.
 use Rattle.std.proofs.Common.{◌≡◌, ◌+◌, take}
 use Rattle.tlsf_store.specs.Records.{vacant_count}
 use Rattle.tlsf_store.proofs.vacant_chain.count_vacant.Given as goal

@@ -1,3 +1,4 @@
+-- A load answers the first broken rule.
 use Rattle.std.proofs.Common.{sym, ap, ◌∙◌, Option, Err}
 use Rattle.tlsf_heap.specs.declared.image.rule.Rule.{Rule}
 use Rattle.tlsf_heap.specs.Images.Rules.{first_broken}

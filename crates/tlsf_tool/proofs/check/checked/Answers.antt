@@ -1,3 +1,4 @@
+-- The image is read, and what is broken is put.
 use Rattle.std.proofs.Common.{rules, ℕ, List, ap, ◌∙◌, subst, inl, inr, refl}
 use Rattle.mtrace_log.specs.Output.{Wrote, Begins}
 use Rattle.tlsf_heap.specs.Images.Rules.{first_broken}

@@ -1,3 +1,4 @@
+-- A piece more in each turn, up to the most that is read.
 use Rattle.std.proofs.Common.{◌≡◌, ℕ, List, ◌++◌, length, take, length-take, length-append, sym, ap, ◌∙◌, arith, inl, inr, refl}
 use Rattle.std.specs.Io.KnownBytes.{prepend_known}
 use Rattle.mtrace_log.proofs.TextLemmas.{prepend_known-append}

@@ -1,3 +1,4 @@
+-- The subcommand, argument by argument.
 use Rattle.std.proofs.lemmas.Result.{IfOk-weaker}
 use Rattle.tlsf_tool.proofs.CommandLineLemmas.{more_arg}
 use Rattle.tlsf_tool.proofs.command_line.choice_command.Goals as goal

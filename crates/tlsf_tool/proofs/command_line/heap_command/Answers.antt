@@ -1,3 +1,4 @@
+-- The subcommand, argument by argument.
 use Rattle.std.proofs.Common.{[], ◌∷◌, ap, codes, refl}
 use Rattle.std.proofs.lemmas.Result.{IfOk-weaker}
 use Rattle.clap.specs.Words.{Rule, Text, rule_of}

@@ -1,3 +1,4 @@
+-- The subcommand, argument by argument.
 use Rattle.std.proofs.Common.{codes, refl}
 use Rattle.std.proofs.lemmas.Result.{IfOk-weaker}
 use Rattle.tlsf_tool.proofs.CommandLineLemmas.{changed_arg, more_arg}

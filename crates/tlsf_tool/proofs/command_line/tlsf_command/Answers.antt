@@ -1,3 +1,4 @@
+-- The subcommands one behind the other.
 use Rattle.std.proofs.lemmas.Result.{IfOk-weaker}
 use Rattle.tlsf_tool.specs.CommandLine.{check_line}
 use Rattle.tlsf_tool.proofs.CommandLineLemmas.{line_of}

@@ -1,3 +1,4 @@
+-- Each report is the run of its name.
 use Rattle.tlsf_tool.proofs.service.run_named.Goals as goal
 
 pub returns-in-Leaks : goal.returns-in-Leaks

@@ -1,3 +1,4 @@
+-- A fault of the words is told as it is.
 use Rattle.std.proofs.Common.{inl}
 use Rattle.clap.specs.Words.{found_of, rows_of}
 use Rattle.tlsf_tool.proofs.CommandLineLemmas.{asks_exit, fit_asks_nothing}

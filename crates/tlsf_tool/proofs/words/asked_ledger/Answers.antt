@@ -1,3 +1,4 @@
+-- An option of a heap beside it is refused.
 use Rattle.std.proofs.Common.{rules}
 use Rattle.clap.specs.Words.{found_of, rows_of}
 use Rattle.tlsf_tool.proofs.CommandLineLemmas.{asks_exit, refuses, report_asks_nothing, follow_asks_nothing}

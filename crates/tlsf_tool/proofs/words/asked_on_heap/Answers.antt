@@ -1,3 +1,4 @@
+-- A fault of the words is told as it is.
 use Rattle.clap.specs.Words.{found_of, rows_of}
 use Rattle.tlsf_tool.proofs.CommandLineLemmas.{asks_exit, report_asks_nothing}
 use Rattle.tlsf_tool.proofs.words.asked_on_heap.Goals as goal

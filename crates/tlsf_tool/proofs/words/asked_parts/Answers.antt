@@ -1,3 +1,4 @@
+-- A number of heaps is read, or none is named.
 use Rattle.std.proofs.Common.{inl, inr}
 use Rattle.clap.specs.Words.{found_of, rows_of}
 use Rattle.tlsf_tool.proofs.CommandLineLemmas.{asks_exit, refuses, fit_asks_nothing}

@@ -1,3 +1,4 @@
+-- What clap answers is help, a version, a fault, or matches.
 use Rattle.std.proofs.Common.{subst, Option, List}
 use Rattle.std.proofs.lemmas.Result.{IfErr-weaker, IfOk-weaker}
 use Rattle.tlsf_tool.specs.CommandLine.{MatchesAskFor, texts_of, wrong_with}

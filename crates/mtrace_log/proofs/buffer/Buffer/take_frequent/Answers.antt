@@ -1,3 +1,4 @@
+-- What was read from the front is a line of the unread bytes.
 use Rattle.std.proofs.Common.{◌≡◌, List, ℕ, sym, ap, ◌∙◌, subst}
 use Rattle.std.specs.Prelude.{slice_range}
 use Rattle.mtrace_log.specs.Buffer.{Buffered}

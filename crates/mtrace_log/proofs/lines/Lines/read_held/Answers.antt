@@ -1,3 +1,4 @@
+-- The line is in the buffer, or goes on behind it.
 use Rattle.std.proofs.Common.{◌<◌, length, refl, sym, ap, ◌∙◌, arith}
 use Rattle.mtrace_log.specs.Progress.{to_come}
 use Rattle.mtrace_log.specs.declared.call.Call.TheVariants.{Gave}

@@ -1,3 +1,4 @@
+-- The bytes up to the first that can't stand in a location.
 use Rattle.std.proofs.Common.{◌≢◌, ℕ, ◌<◌, ◌≤◌, List, ◌++◌, length, get_or, take, inl, inr, sym, ap, ◌∙◌, arith}
 use Rattle.std.proofs.lemmas.List.{length-take-le, take-append-drop, take_rest}
 use Rattle.mtrace_log.specs.Location.{IsLocation, IsLocationByte}

@@ -1,3 +1,4 @@
+-- Shared room keeps the order of the keys, and what is held.
 use Rattle.std.proofs.Common.{◌∙◌, sym, ap, subst, arith}
 use Rattle.std.proofs.lemmas.List.{take_all}
 use Rattle.mtrace_replay.specs.Key.{RiseFrom}

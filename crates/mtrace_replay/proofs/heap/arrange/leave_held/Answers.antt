@@ -1,3 +1,4 @@
+-- The held keys move to the front one by one, in their order.
 use Rattle.std.proofs.Common.{◌∙◌, sym, arith, is_some}
 use Rattle.mtrace_replay.proofs.Index.ArrangeLemmas.{is_not, is_so, leaves_held, leaves_vacant}
 use Rattle.mtrace_replay.proofs.heap.arrange.leave_held.Goals as goal

@@ -1,3 +1,4 @@
+-- The keys read so far are the held ones, in front.
 use Rattle.std.proofs.Common.{◌≡◌}
 use Rattle.mtrace_replay.proofs.Index.ArrangeLemmas.{HeldStandFirst}
 use Rattle.mtrace_replay.proofs.heap.arrange.leave_held.Given as goal

@@ -1,3 +1,4 @@
+-- From the last place down each key that moves keeps its order, and the places between are vacant.
 use Rattle.std.proofs.Common.{arith, ap, ◌∙◌}
 use Rattle.mtrace_replay.specs.declared.heap.key.Key.{Key}
 use Rattle.mtrace_replay.proofs.Index.ArrangeLemmas.{spreads_held, spreads_vacant}

@@ -1,3 +1,4 @@
+-- The keys behind the end stand spread, those before it are untouched.
 use Rattle.std.proofs.Common.{◌≡◌}
 use Rattle.mtrace_replay.proofs.Index.ArrangeLemmas.{Spreads}
 use Rattle.mtrace_replay.proofs.heap.arrange.space_out.Given as goal

@@ -1,3 +1,4 @@
+-- What the test tells of the key in front and of the key behind.
 use Rattle.std.proofs.Common.{◌≡◌, length, is_some, not, arith, sym, ap, ◌∙◌}
 use Rattle.std.proofs.Math.Bool.{not-not}
 use Rattle.std.proofs.lemmas.Bool.Decides.{nat_tests}

@@ -1,3 +1,4 @@
+-- The gap lies between the keys that the address lies between.
 use Rattle.std.proofs.Common.{◌≡◌, ◌-◌, ℕ, suc, None, arith, subst, inl, inr}
 use Rattle.std.specs.Prelude.{Result, IfOk, IfErr}
 use Rattle.mtrace_replay.specs.Search.{StandsAt, FitsAt}

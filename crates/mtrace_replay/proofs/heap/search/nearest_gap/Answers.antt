@@ -1,3 +1,4 @@
+-- Where all keys on both sides are held there is the end.
 use Rattle.std.proofs.Common.{arith}
 use Rattle.mtrace_replay.proofs.Index.HoldingLemmas.{all_are_held}
 use Rattle.mtrace_replay.proofs.heap.search.nearest_gap.Goals as goal

@@ -1,3 +1,4 @@
+-- All keys up to the distance on both sides are held.
 use Rattle.mtrace_replay.proofs.Index.SearchLemmas.{HeldAround}
 use Rattle.mtrace_replay.proofs.heap.search.nearest_gap.Given as goal
 

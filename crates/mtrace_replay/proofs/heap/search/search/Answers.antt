@@ -1,3 +1,4 @@
+-- Half of the keys are left out, and the address isn't among them.
 use Rattle.std.proofs.Common.{sym}
 use Rattle.mtrace_replay.proofs.Index.SearchLemmas.{goes}
 use Rattle.mtrace_replay.proofs.heap.search.search.Goals as goal

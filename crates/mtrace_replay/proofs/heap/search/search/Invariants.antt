@@ -1,3 +1,4 @@
+-- The address is between the bounds; their distance falls.
 use Rattle.mtrace_replay.proofs.Index.SearchLemmas.{Searching}
 use Rattle.mtrace_replay.proofs.heap.search.search.Given as goal
 

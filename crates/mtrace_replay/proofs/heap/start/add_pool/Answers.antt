@@ -1,3 +1,4 @@
+-- A heap's answer, seen without slots.
 use Rattle.std.proofs.Common.{rules}
 use Rattle.mtrace_replay.proofs.OnHeap.HeapSteps.{bare_added, bare_not_added}
 use Rattle.mtrace_replay.proofs.heap.start.add_pool.Goals as goal

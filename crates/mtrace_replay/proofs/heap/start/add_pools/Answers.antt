@@ -1,3 +1,4 @@
+-- One pool more in each turn, up to those of the settings.
 use Rattle.std.proofs.Common.{◌≡◌, ◌*◌, ap, ◌∙◌, refl, arith}
 use Rattle.tlsf_heap.specs.Bare.{bare}
 use Rattle.tlsf_heap.specs.Pools.{add_pool}

@@ -1,3 +1,4 @@
+-- A new heap has no pool.
 use Rattle.std.proofs.Common.{ap}
 use Rattle.tlsf_heap.specs.Bare.{bare}
 use Rattle.mtrace_replay.proofs.heap.start.started_heap.Goals as goal

@@ -1,3 +1,4 @@
+-- The address is held already, or a block is given and held, or the heap refuses.
 use Rattle.std.proofs.Common.{ℕ, arith, [], ◌∷◌, ◌+◌, None, Some, Option, cond, length, rules, List, refl, sym, subst, ap, ◌∙◌}
 use Rattle.std.specs.Prelude.{◌==◌}
 use Rattle.tlsf_heap.specs.Bare.{bare}

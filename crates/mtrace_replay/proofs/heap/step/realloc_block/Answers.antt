@@ -1,3 +1,4 @@
+-- A block that was moved or kept is live.
 use Rattle.std.proofs.Common.{◌≡◌, Option, Some, Ok, refl, subst}
 use Rattle.std.specs.Prelude.{◌==◌}
 use Rattle.std.proofs.lemmas.Bool.{eq-eqb}

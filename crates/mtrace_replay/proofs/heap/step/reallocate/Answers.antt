@@ -1,3 +1,4 @@
+-- The block is moved and held at its new address, or the heap refuses and it is freed.
 use Rattle.std.proofs.Common.{arith, is_some, [], ◌+◌, rules, ◌≡◌, ℕ, true, List, Option, Some, None, sym, subst, ap, ◌∙◌}
 use Rattle.std.specs.Prelude.{◌==◌, Ok}
 use Rattle.tlsf_heap.specs.Bare.{bare}

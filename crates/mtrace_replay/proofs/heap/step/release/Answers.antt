@@ -1,3 +1,4 @@
+-- The address isn't held, or its block is freed and no more held.
 use Rattle.std.proofs.Common.{ℕ, None, List, cond, refl, sym, subst, ap, ◌∙◌, arith, rules}
 use Rattle.std.specs.Prelude.{◌==◌}
 use Rattle.tlsf_heap.specs.Bare.{bare}

@@ -1,3 +1,4 @@
+-- A stray line, one of an address that isn't held, one of another that is, or a reallocation.
 use Rattle.std.proofs.Common.{ℕ, None, true, false, not, is_some, List, IfOk, refl, sym, subst, ap, ◌∙◌, arith}
 use Rattle.std.specs.Prelude.{◌==◌, ◌&&◌}
 use Rattle.tlsf_heap.specs.Bare.{bare}

@@ -1,3 +1,4 @@
+-- The block is live, so the heap frees it.
 use Rattle.std.proofs.Common.{rules, ◌≡◌, true, sym, subst}
 use Rattle.std.specs.Prelude.{◌==◌, Ok}
 use Rattle.tlsf_heap.specs.Content.{blocks_of}

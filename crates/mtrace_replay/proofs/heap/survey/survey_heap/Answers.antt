@@ -1,3 +1,4 @@
+-- The survey of the pools so far, joined with that of the next.
 use Rattle.std.proofs.Common.{ℕ, ◌+◌, ◌≤◌, List, ◌++◌, length, map, drop, flat_map, sym, subst, ap, ◌∙◌, arith, append_assoc}
 use Rattle.std.proofs.Math.ListN.{get_or}
 use Rattle.std.proofs.lemmas.List.{append-nil, drop_all}

@@ -1,3 +1,4 @@
+-- A pool has no more rows than the heap has records.
 use Rattle.std.proofs.Common.{List, length, ap, arith}
 use Rattle.tlsf_heap.specs.declared.row.Row.{Row}
 use Rattle.mtrace_replay.specs.Rows.{or_none}

@@ -1,3 +1,4 @@
+-- Each row adds to the survey of those before it.
 use Rattle.std.proofs.Common.{List, [], ◌∷◌, ◌++◌, length, sym, ap, ◌∙◌, append_assoc, arith}
 use Rattle.tlsf_heap.specs.declared.row.Row.{Row}
 use Rattle.mtrace_replay.proofs.heap.survey.survey_rows.Goals as goal

@@ -1,7 +1,7 @@
 use Rattle.std.proofs.Common.{◌≡◌, []}
 use Rattle.mtrace_replay.specs.declared.heap.settings.Settings.{Settings}
 use Rattle.mtrace_replay.specs.Replay.{StandsFor}
-use Rattle.mtrace_replay.specs.Replaying.{IsReplaying, HasGivenSo}
+use Rattle.mtrace_replay.specs.Replaying.{IsFollowed, HasGivenSo}
 use Rattle.mtrace_replay.proofs.heap.tried.is_served.Given as goal
 
 -- as many lines were replayed as the counter says, and none is refused; the reader gave pieces, and perhaps told its end
@@ -10,12 +10,11 @@ invariant-loop g l =
     let reads = g.R.Source.shown in
     record {
       so_far : (settings : Settings) → StandsFor l.initial.replay settings []
-          → IsReplaying settings l.lines l.replay (reads l.initial.reader) (reads l.reader);
-      counted : l.replay.totals.lines ≡ l.lines.count;
-      many : l.lines.count ≡ l.counter;
+          → IsFollowed (StandsFor l.replay settings) l.reading (reads l.initial.reader) (reads l.reader);
+      counted : l.replay.totals.lines ≡ l.reading.count;
+      many : l.reading.count ≡ l.counter;
       served : l.replay.totals.refused ≡ 0;
-      none : l.findings ≡ [];
       whole : (reads l.reader).whole ≡ (reads l.initial.reader).whole;
-      gave : HasGivenSo l.lines.stage (reads l.initial.reader) (reads l.reader);
+      gave : HasGivenSo l.reading.stage (reads l.initial.reader) (reads l.reader);
       records : l.replay.content.records ≡ l.initial.replay.content.records;
     }

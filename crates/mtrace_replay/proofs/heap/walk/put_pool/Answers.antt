@@ -1,3 +1,4 @@
+-- The line of the pool, then its rows.
 use Rattle.std.proofs.Common.{ℕ, List, subst, ◌∙◌, flat_map, codes, refl}
 use Rattle.mtrace_log.specs.Output.{PutsAll, PutsPart, Puts}
 use Rattle.mtrace_log.proofs.Writing.{puts_then, fails_early, puts_exit}

@@ -1,3 +1,4 @@
+-- One pool's text more in each turn.
 use Rattle.std.proofs.Common.{ℕ, ◌+◌, ◌≤◌, List, length, map, drop, flat_map, subst, ap, ◌∙◌, arith, rules}
 use Rattle.std.proofs.Math.ListN.{get_or}
 use Rattle.std.proofs.lemmas.List.{drop_all}

@@ -1,3 +1,4 @@
+-- Sums of a part of the entries fit where the sum of all does.
 use Rattle.std.proofs.Common.{◌≡◌, ◌≤◌, ◌-◌, suc, arith, subst, map, drop, length, length-drop, sym, ap, List, Bor}
 use Rattle.std.proofs.Math.ListN.{length-map}
 use Rattle.std.specs.List.{AllByRecursion, sum_by}

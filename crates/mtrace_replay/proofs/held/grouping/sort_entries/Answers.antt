@@ -1,3 +1,4 @@
+-- The order of locations is total, so the sort's result is sorted by it.
 use Rattle.std.proofs.Common.{rules}
 use Rattle.mtrace_replay.specs.Gather.{lent_origin}
 use Rattle.mtrace_replay.proofs.Told.SiteLemmas.Origins.{origin_total}

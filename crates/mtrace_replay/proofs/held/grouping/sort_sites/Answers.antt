@@ -1,3 +1,4 @@
+-- The order of sites is total, so the sort's result is sorted by it.
 use Rattle.std.proofs.Common.{rules}
 use Rattle.mtrace_replay.specs.Sites.{Site}
 use Rattle.mtrace_replay.proofs.Told.SiteLemmas.Exact.{site_total}

@@ -1,3 +1,4 @@
+-- The texts that end with an address.
 use Rattle.std.proofs.Common.{◌++◌, ap, ◌∙◌, append_assoc, codes, sym, arith}
 use Rattle.mtrace_replay.specs.Texts.{kind_text}
 use Rattle.mtrace_replay.proofs.held.line_text.push_kind.Goals as goal

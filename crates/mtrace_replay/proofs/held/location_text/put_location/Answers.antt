@@ -1,3 +1,4 @@
+-- The word, then the location.
 use Rattle.std.proofs.Common.{◌≡◌, ℕ, List, ◌++◌, codes, sym, ap, subst}
 use Rattle.std.specs.Option.{option_copied}
 use Rattle.mtrace_log.specs.Output.{PutsPart, Puts}

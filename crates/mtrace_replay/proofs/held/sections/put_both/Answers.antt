@@ -1,3 +1,4 @@
+-- The section of the peak, then that of the end.
 use Rattle.std.proofs.Common.{List, ℕ, subst, ◌∙◌, ◌++◌}
 use Rattle.mtrace_log.specs.Output.{PutsAll, PutsPart}
 use Rattle.mtrace_log.proofs.Writing.{puts_then, fails_early, puts_exit}

@@ -1,3 +1,4 @@
+-- The words, the sums, then the sites.
 use Rattle.std.proofs.Common.{List, ℕ, subst, ◌∙◌, ◌++◌, flat_map, codes}
 use Rattle.mtrace_log.specs.Output.{PutsAll, PutsPart}
 use Rattle.mtrace_log.proofs.Writing.{puts_on, puts_then, fails_on, fails_early, puts_exit}

@@ -1,3 +1,4 @@
+-- One site's line more in each turn.
 use Rattle.std.proofs.Common.{refl, drop, ◌+◌, flat_map}
 use Rattle.mtrace_log.proofs.Writing.{putting_more, putting_fails, puts_exit}
 use Rattle.mtrace_replay.specs.Texts.{site_text}

@@ -1,3 +1,4 @@
+-- Each part adds its end, and the peak's line where it comes before that.
 use Rattle.std.proofs.Common.{◌≡◌, ◌+◌, ap, ◌∙◌, arith, vec_len}
 use Rattle.mtrace_replay.specs.Timeline.{end_of_part}
 use Rattle.mtrace_replay.proofs.Told.ToldLines.{told_by_part, counts_of_part, ends_rise, told_all}

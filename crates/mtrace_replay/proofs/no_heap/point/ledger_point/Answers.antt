@@ -1,3 +1,4 @@
+-- What the ledger holds, as entries without places.
 use Rattle.std.proofs.Common.{sym, ap, ◌∙◌, map}
 use Rattle.std.proofs.lemmas.List.{length-map}
 use Rattle.mtrace_replay.specs.Texts.{total_size}

@@ -1,3 +1,4 @@
+-- The heading, the entries, then the total.
 use Rattle.std.proofs.Common.{ℕ, List, ◌++◌, sym, subst, ◌∙◌, flat_map}
 use Rattle.mtrace_log.specs.Output.{PutsPart, Puts}
 use Rattle.mtrace_log.proofs.Writing.{puts_on, puts_then, fails_on, fails_early, puts_exit}

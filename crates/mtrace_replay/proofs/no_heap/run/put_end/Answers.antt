@@ -1,3 +1,4 @@
+-- What is wrong at the end, then the report.
 use Rattle.mtrace_log.proofs.Writing.{puts_then, fails_early, puts_exit}
 use Rattle.mtrace_replay.specs.Texts.{diagnostics_text}
 use Rattle.mtrace_replay.specs.Prepared.{prepared_text}

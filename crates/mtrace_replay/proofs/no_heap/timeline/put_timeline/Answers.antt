@@ -1,3 +1,4 @@
+-- The words, then the points.
 use Rattle.std.proofs.Common.{flat_map}
 use Rattle.mtrace_log.proofs.Writing.{puts_then, fails_early, puts_exit}
 use Rattle.mtrace_replay.specs.Texts.{ledger_timeline_words, ledger_point_text}

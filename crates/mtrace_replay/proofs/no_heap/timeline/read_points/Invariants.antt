@@ -1,4 +1,4 @@
-use Rattle.std.proofs.Common.{◌≡◌, ◌≤◌, [], length, take, vec_len, vec_capacity}
+use Rattle.std.proofs.Common.{◌≡◌, ◌≤◌, length, take, vec_len, vec_capacity}
 use Rattle.std.specs.List.{All}
 use Rattle.mtrace_replay.specs.declared.no_heap.point.LedgerPoint.{LedgerPoint}
 use Rattle.mtrace_replay.specs.Served.{IsServed}
@@ -13,13 +13,12 @@ abbrev pub invariant-loop-number : goal.invariant-loop-number
 invariant-loop-number g l =
     let reads = g.R.Source.shown in
     record {
-      so_far : HasGathered (λ (point : LedgerPoint). point.line) IsPointOfLines l.points.items (IsServed l.replay) l.lines (reads l.initial.reader) (reads l.reader);
+      so_far : HasGathered (λ (point : LedgerPoint). point.line) IsPointOfLines l.points.items (IsServed l.replay) l.reading (reads l.initial.reader) (reads l.reader);
       told : ledger_lines_of l.points.items ≡ take l.number-index l.numbers;
-      within : All (λ (point : LedgerPoint). point.line ≤ l.lines.count) l.points.items;
-      reached : l.lines.count ≡ greatest (take l.number-index l.numbers);
-      counted : l.replay.lines ≡ l.lines.count;
-      none : l.findings ≡ [];
-      gave : HasGivenSo l.lines.stage (reads l.initial.reader) (reads l.reader);
+      within : All (λ (point : LedgerPoint). point.line ≤ l.reading.count) l.points.items;
+      reached : l.reading.count ≡ greatest (take l.number-index l.numbers);
+      counted : l.replay.lines ≡ l.reading.count;
+      gave : HasGivenSo l.reading.stage (reads l.initial.reader) (reads l.reader);
       many : vec_len l.points ≡ l.number-index;
       room : length l.numbers ≤ vec_capacity l.points;
     }

@@ -1,3 +1,4 @@
+-- Parts that aren't bad, so the log is read.
 use Rattle.std.proofs.Common.{arith, refl, sym, ap, subst, ◌∙◌}
 use Rattle.std.specs.Prelude.{Ok}
 use Rattle.std.proofs.lemmas.List.{length-reverse}

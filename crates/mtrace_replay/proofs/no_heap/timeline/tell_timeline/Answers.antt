@@ -1,3 +1,4 @@
+-- The points of the second reading are told, or it failed.
 use Rattle.std.proofs.Common.{◌≤◌, ℕ, List, refl, sym, subst, arith, inl}
 use Rattle.mtrace_log.specs.Progress.{greatest_number}
 use Rattle.mtrace_replay.specs.declared.no_heap.point.LedgerPoint.{LedgerPoint}

@@ -1,3 +1,4 @@
+-- Each end of the first part is tried, and the lesser of two cuts kept.
 use Rattle.std.proofs.Common.{◌≡◌, suc, ◌+◌, ◌<◌, ◌≤◌, length, None, slice_index_or, sym, ap, ◌∙◌, subst, arith}
 use Rattle.mtrace_replay.specs.declared.parts.span.Span.{Span}
 use Rattle.mtrace_replay.specs.Cuts.{IsSmall, IsBest}

@@ -1,3 +1,4 @@
+-- No part serves exactly the ranges without a request.
 use Rattle.std.proofs.Common.{length, ◌≤◌, sym, subst, arith}
 use Rattle.mtrace_replay.proofs.BySize.CutLemmas.{empty_best, empty_none}
 use Rattle.mtrace_replay.proofs.parts.cut.empty_from.Goals as goal

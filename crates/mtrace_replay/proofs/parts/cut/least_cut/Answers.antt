@@ -1,3 +1,4 @@
+-- One part more in each turn gives no greater cut.
 use Rattle.std.proofs.Common.{◌≡◌, suc, ◌≤◌, ◌+◌, Some, None, sym, subst, arith}
 use Rattle.std.specs.List.{All}
 use Rattle.mtrace_replay.specs.Cuts.{IsSmall, IsBest, AreBest}

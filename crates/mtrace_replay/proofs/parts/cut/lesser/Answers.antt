@@ -1,3 +1,4 @@
+-- By cases: one is missing, or their order decides.
 use Rattle.std.proofs.Common.{Some, sym, ap, ◌∙◌, subst}
 use Rattle.std.specs.Ordering.{is_gt}
 use Rattle.mtrace_replay.specs.Cuts.{IsLesser}

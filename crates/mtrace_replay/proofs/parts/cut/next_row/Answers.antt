@@ -1,3 +1,4 @@
+-- One cut more in each turn, from the last range on.
 use Rattle.std.proofs.Common.{ℕ, suc, ◌<◌, List, length, slice_index_or, Option, sym, subst, arith}
 use Rattle.std.specs.List.{All}
 use Rattle.std.proofs.lemmas.List.Elements.{All-push}

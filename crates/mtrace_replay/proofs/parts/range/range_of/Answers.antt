@@ -1,3 +1,4 @@
+-- The first end that isn't below the size.
 use Rattle.std.proofs.Common.{arith}
 use Rattle.std.proofs.lemmas.Bool.{le-leb}
 use Rattle.mtrace_replay.proofs.BySize.RangeLemmas.{range_is}

@@ -1,3 +1,4 @@
+-- A line that isn't served only releases; one that is also gives.
 use Rattle.std.proofs.Common.{◌∷◌, None, sym, subst, nat_eq}
 use Rattle.std.specs.Prelude.{Some, if◌then◌else◌}
 use Rattle.std.specs.HashMap.{get}

@@ -1,3 +1,4 @@
+-- The span of the part's ranges has its size and blocks.
 use Rattle.std.proofs.Common.{ap, ◌∙◌, arith}
 use Rattle.mtrace_replay.specs.declared.parts.span.Span.{Span}
 use Rattle.mtrace_replay.proofs.parts.run.part_at.Goals as goal

@@ -1,3 +1,4 @@
+-- One part more in each turn, from the last on.
 use Rattle.std.proofs.Common.{◌≡◌, suc, ◌+◌, ◌<◌, ◌∷◌, drop, get_or, ap, ◌∙◌, arith}
 use Rattle.std.proofs.Math.Seq.{drop-cons}
 use Rattle.mtrace_replay.specs.Parts.{size_ranges}

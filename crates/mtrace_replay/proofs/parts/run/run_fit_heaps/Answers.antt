@@ -1,3 +1,4 @@
+-- A number of heaps that isn't bad, so the log is read.
 use Rattle.std.proofs.Common.{inr, refl, arith}
 use Rattle.std.specs.Prelude.{Ok, Err}
 use Rattle.mtrace_replay.proofs.BySize.PartsRun.{not_bad_heaps}

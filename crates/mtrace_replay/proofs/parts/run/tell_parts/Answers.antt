@@ -1,3 +1,4 @@
+-- The least cut's parts are told, or none where a request has no class.
 use Rattle.std.proofs.Common.{◌≡◌, ◌++◌, refl, reverse, map, sym, ap, ◌∙◌, subst, nat_eq}
 use Rattle.std.specs.HashMap.{get}
 use Rattle.mtrace_log.specs.Output.{Puts}

@@ -1,3 +1,4 @@
+-- Each span that has the range has a block more.
 use Rattle.std.proofs.Common.{◌≡◌, suc, ◌+◌, ◌^◌, ◌<◌, get_or, length, arith, ap, sym, subst, ◌∙◌}
 use Rattle.std.specs.Prelude.{slice_set}
 use Rattle.mtrace_replay.specs.Spans.{with_block}

@@ -1,3 +1,4 @@
+-- One blank span more in each turn.
 use Rattle.std.proofs.Common.{inl, inr, refl, subst, arith}
 use Rattle.std.specs.List.{Contains}
 use Rattle.std.proofs.lemmas.Bool.{cases_lt}

@@ -1,3 +1,4 @@
+-- Each span that has the range has a block less.
 use Rattle.std.proofs.Common.{Some, ◌≡◌, suc, ◌+◌, get_or, length, arith, ap, ◌∙◌}
 use Rattle.std.specs.Prelude.{slice_set}
 use Rattle.mtrace_replay.specs.Spans.{released}

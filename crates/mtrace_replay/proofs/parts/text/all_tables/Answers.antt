@@ -1,3 +1,4 @@
+-- A missing sum stays missing.
 use Rattle.std.proofs.Common.{◌<◌, ◌-◌, length, sym, ◌∙◌, arith}
 use Rattle.mtrace_replay.specs.Parts.{records_bytes}
 use Rattle.mtrace_replay.proofs.BySize.PartsTextLemmas.{none_there, no_part}

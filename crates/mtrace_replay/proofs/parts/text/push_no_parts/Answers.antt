@@ -1,3 +1,4 @@
+-- The three lines of heaps that serve nothing.
 use Rattle.std.proofs.Common.{List, ℕ, ◌++◌, None, codes, ap, ◌∙◌, append_assoc, arith}
 use Rattle.mtrace_replay.specs.Texts.{size_line}
 use Rattle.mtrace_replay.proofs.parts.text.push_no_parts.Goals as goal

@@ -1,3 +1,4 @@
+-- The lines of the parts, then the sums.
 use Rattle.std.proofs.Common.{List, ℕ, ◌++◌, map, flat_map, codes, subst, ◌∙◌}
 use Rattle.mtrace_log.specs.Output.{Puts}
 use Rattle.mtrace_log.proofs.Writing.{puts_then, fails_early, puts_exit}

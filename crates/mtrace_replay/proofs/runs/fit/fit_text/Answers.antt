@@ -1,3 +1,4 @@
+-- The greatest pool refuses lines, or the sizes are tried.
 use Rattle.std.proofs.Common.{◌≡◌, ◌<◌, ℕ, List, ◌++◌, length, sym, ap, ◌∙◌, subst, arith}
 use Rattle.mtrace_replay.specs.declared.heap.totals.Totals.{Totals}
 use Rattle.mtrace_replay.specs.declared.runs.fitted.Fitted.{Fitted}

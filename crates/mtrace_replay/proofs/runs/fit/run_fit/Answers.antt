@@ -1,3 +1,4 @@
+-- A step that isn't bad, so the log is read.
 use Rattle.std.proofs.Common.{◌≡◌, Bool, true, false, sym, ◌∙◌, subst, inl, inr, ◌⊎◌}
 use Rattle.std.specs.Prelude.{Result, Ok, Err, IfErr, IsErrOf, IsTrue}
 use Rattle.mtrace_replay.specs.declared.runs.report.Report.TheVariants.{Nothing}

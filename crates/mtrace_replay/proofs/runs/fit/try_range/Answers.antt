@@ -1,3 +1,4 @@
+-- One size's verdict more in each turn.
 use Rattle.std.proofs.Common.{◌≡◌, ◌+◌, ◌-◌, ◌*◌, ◌<◌, ℕ, [], ◌∷◌, ◌++◌, map, refl, sym, ap, ◌∙◌, subst, arith, append_assoc}
 use Rattle.std.specs.List.{range_with_len}
 use Rattle.mtrace_replay.specs.Fit.{one_pool, fitted, Verdict}

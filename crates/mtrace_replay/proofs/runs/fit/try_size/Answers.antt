@@ -1,3 +1,4 @@
+-- The log begins again once, and then it is tried.
 use Rattle.std.proofs.Common.{◌∙◌, arith}
 use Rattle.std.proofs.lemmas.Grind.{common_steps}
 use Rattle.mtrace_replay.specs.Fit.{one_pool}

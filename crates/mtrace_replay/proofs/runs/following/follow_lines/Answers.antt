@@ -23,6 +23,7 @@ loop-number-init g c =
       ready = c.requires.ready;
       none = c.none-findings.ensures;
       whole = refl;
+      fixed = refl;
       gave = subst (λ (lines : Progress). CallsFor lines.stage reader.calls reader.calls) (sym c.new-lines.ensures) (moved_none Gave reader.calls);
       took = moved_none Took writer.calls;
     }
@@ -39,6 +40,7 @@ returns-in-Ok-None g c =
           following_end (rules.added start) reads (rules.Stands start c.loop-number.replay) c.loop-number.lines c.advance.new.self c.loop-number.has_diagnostics (reads c.args.reader.now) c.loop-number.reader c.advance.new.reader
           (g.W.Sink.shown c.args.writer.now) (g.W.Sink.shown c.loop-number.writer) (kept.under_way start stands) found.1;
       whole = c.advance.ensures.whole ∙ kept.whole;
+      fixed = kept.fixed;
       reader_ended = ended;
       reader_not_failed = λ other. inr ended;
       writer_took = λ other. kept.took;
@@ -58,6 +60,7 @@ returns-in-Err g c =
     record {
       done = tt;
       whole = c.advance.ensures.whole ∙ kept.whole;
+      fixed = kept.fixed;
       reader_ended = tt;
       reader_not_failed = λ other. absurd (other refl);
       writer_took = λ other. kept.took;
@@ -96,6 +99,7 @@ loop-number-preserved g c =
       ready = taken.ready;
       none = put.cleared;
       whole = c.in-Ok-Some.ensures.whole ∙ kept.whole;
+      fixed = taken.fixed ∙ kept.fixed;
       gave = calls_more c.loop-number.lines.stage c.advance.new.self.stage _ _ _ given.was_reading kept.gave c.in-Ok-Some.ensures.calls;
       took = moved_append Took _ _ _ kept.took put.put.took;
     }
@@ -112,6 +116,7 @@ returns-in-Err-take_line g c =
     record {
       done = tt;
       whole = c.advance.ensures.whole ∙ kept.whole;
+      fixed = c.in-Err-take_line.ensures.fixed ∙ kept.fixed;
       reader_ended = tt;
       reader_not_failed = λ other. calls_of_line c.advance.new.self.stage _ _ _ _ _ given.taken
           (calls_more c.loop-number.lines.stage c.advance.new.self.stage _ _ _ given.was_reading kept.gave c.in-Ok-Some.ensures.calls);
@@ -141,6 +146,7 @@ returns-in-Err-put_found g c =
     record {
       done = tt;
       whole = c.advance.ensures.whole ∙ kept.whole;
+      fixed = taken.fixed ∙ kept.fixed;
       reader_ended = tt;
       reader_not_failed = λ other. calls_of_line c.advance.new.self.stage _ _ _ _ _ given.taken
           (calls_more c.loop-number.lines.stage c.advance.new.self.stage _ _ _ given.was_reading kept.gave c.in-Ok-Some.ensures.calls);

@@ -17,6 +17,7 @@ invariant-loop-number g l =
       ready : rules.IsReady l.replay;
       none : l.findings ≡ [];
       whole : (reads l.reader).whole ≡ (reads l.initial.reader).whole;
+      fixed : rules.fixed l.replay ≡ rules.fixed l.initial.replay;
       gave : CallsFor l.lines.stage (reads l.initial.reader).calls (reads l.reader).calls;
       took : HasTaken (writes l.initial.writer).calls (writes l.writer).calls;
     }

@@ -9,7 +9,7 @@ use Rattle.mtrace_replay.proofs.runs.needs.replay_needs.Goals as goal
 -- memory was never refused
 pub finish-requires : goal.finish-requires
 finish-requires g c =
-    record { works = (c.in-Ok-follow_lines.ensures.done c.args.settings ((c.in-Ok.ensures.made, c.in-Ok.ensures.records), c.none.ensures c.args.settings)).stands.0.0.works }
+    record { works = (c.in-Ok-follow_lines.ensures.done c.args.settings (c.in-Ok.ensures.made, c.none.ensures c.args.settings)).stands.0.works }
 
 -- the log has ended, and all was written
 pub returns-in-Ok-finish-clause-ran : goal.returns-in-Ok-finish-clause-ran
@@ -18,7 +18,7 @@ returns-in-Ok-finish-clause-ran g c =
     let writes = g.W.Sink.shown in
     let settings = c.args.settings in
     let replay = c.follow_lines.new.replay in
-    let followed = c.in-Ok-follow_lines.ensures.done settings ((c.in-Ok.ensures.made, c.in-Ok.ensures.records), c.none.ensures c.args.settings) in
+    let followed = c.in-Ok-follow_lines.ensures.done settings (c.in-Ok.ensures.made, c.none.ensures c.args.settings) in
     let more = c.in-Ok-follow_lines.has_diagnostics in
     let done = has_replayed settings replay.replay more (reads c.args.reader.now) (reads c.follow_lines.new.reader) (writes c.args.writer.now) (writes c.follow_lines.new.writer)
     (followed_alone settings replay (reads c.args.reader.now) (reads c.follow_lines.new.reader) (writes c.args.writer.now) (writes c.follow_lines.new.writer) more followed) in
@@ -39,9 +39,9 @@ returns-in-Ok-finish-clause-last g c =
     let writes = g.W.Sink.shown in
     let settings = c.args.settings in
     let replay = c.follow_lines.new.replay in
-    let followed = c.in-Ok-follow_lines.ensures.done settings ((c.in-Ok.ensures.made, c.in-Ok.ensures.records), c.none.ensures c.args.settings) in
+    let followed = c.in-Ok-follow_lines.ensures.done settings (c.in-Ok.ensures.made, c.none.ensures c.args.settings) in
     ends_with_needs settings replay c.finish.new.replay c.in-Ok-follow_lines.has_diagnostics c.in-Ok-finish.status (reads c.args.reader.now) (reads c.follow_lines.new.reader)
-    (writes c.args.writer.now) (writes c.follow_lines.new.writer) (writes c.finish.new.writer) followed c.in-Ok-finish.ensures.all c.in-Ok-finish.ensures.status (c.in-Ok-finish.ensures.kept refl)
+    (writes c.args.writer.now) (writes c.follow_lines.new.writer) (writes c.finish.new.writer) followed c.in-Ok-finish.ensures.all c.in-Ok-finish.ensures.status (c.in-Ok-finish.ensures.kept refl) (c.in-Ok-follow_lines.ensures.fixed ∙ c.in-Ok.ensures.records)
 
 -- the writer failed at the end
 pub returns-in-Ok-follow_lines-clause-ran : goal.returns-in-Ok-follow_lines-clause-ran
@@ -50,7 +50,7 @@ returns-in-Ok-follow_lines-clause-ran g c =
     let writes = g.W.Sink.shown in
     let settings = c.args.settings in
     let replay = c.follow_lines.new.replay in
-    let followed = c.in-Ok-follow_lines.ensures.done settings ((c.in-Ok.ensures.made, c.in-Ok.ensures.records), c.none.ensures c.args.settings) in
+    let followed = c.in-Ok-follow_lines.ensures.done settings (c.in-Ok.ensures.made, c.none.ensures c.args.settings) in
     let more = c.in-Ok-follow_lines.has_diagnostics in
     let done = has_replayed settings replay.replay more (reads c.args.reader.now) (reads c.follow_lines.new.reader) (writes c.args.writer.now) (writes c.follow_lines.new.writer)
     (followed_alone settings replay (reads c.args.reader.now) (reads c.follow_lines.new.reader) (writes c.args.writer.now) (writes c.follow_lines.new.writer) more followed) in
@@ -71,7 +71,7 @@ returns-clause-ran g c =
     let reads = g.R.Source.shown in
     let writes = g.W.Sink.shown in
     let stops = stops_at_read c.args.settings (reads c.args.reader.now) (reads c.follow_lines.new.reader) (writes c.args.writer.now) (writes c.follow_lines.new.writer)
-    (c.in-Err-Reader.ensures.read (cc) c.args.settings ((c.in-Ok.ensures.made, c.in-Ok.ensures.records), c.none.ensures c.args.settings)) in
+    (c.in-Err-Reader.ensures.read (cc) c.args.settings (c.in-Ok.ensures.made, c.none.ensures c.args.settings)) in
     record {
       ends = record {
         read_fault = record { lines = stops.lines; reason = stops.reason; wrote = c.flush.ensures.kept ∙ stops.wrote };
@@ -91,7 +91,7 @@ returns-in-Err-Writer-clause-ran g c =
       ends = record {
         write_fault = stops_at_write Nothing c.args.settings replay.replay (reads c.args.reader.now) (reads c.follow_lines.new.reader) (writes c.args.writer.now) (writes c.follow_lines.new.writer)
             (stopped_alone c.args.settings replay (reads c.args.reader.now) (reads c.follow_lines.new.reader) (writes c.args.writer.now) (writes c.follow_lines.new.writer)
-            (c.in-Err-Writer.ensures.write (cc) c.args.settings ((c.in-Ok.ensures.made, c.in-Ok.ensures.records), c.none.ensures c.args.settings)));
+            (c.in-Err-Writer.ensures.write (cc) c.args.settings (c.in-Ok.ensures.made, c.none.ensures c.args.settings)));
         writer_failed = search rules;
         reader_not_failed = search rules;
       };

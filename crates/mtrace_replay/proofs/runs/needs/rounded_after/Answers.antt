@@ -1,3 +1,4 @@
+-- The rounded bytes change by the blocks that came and went.
 use Rattle.std.proofs.Common.{◌≡◌, ◌+◌, Option, Some, None, sym, ap, ◌∙◌, arith}
 use Rattle.std.proofs.lemmas.Bool.{false≢true, lt-ltb, le-ltb}
 use Rattle.mtrace_replay.specs.Moment.{Given, rounded_bytes}

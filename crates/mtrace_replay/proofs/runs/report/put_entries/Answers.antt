@@ -1,3 +1,4 @@
+-- One entry's line more in each turn.
 use Rattle.std.proofs.Common.{ℕ, List, subst, ap, ◌∙◌, flat_map}
 use Rattle.mtrace_log.specs.Output.{PutsAll, PutsPart}
 use Rattle.mtrace_log.proofs.Writing.{putting_more, putting_fails, puts_exit}

@@ -1,3 +1,4 @@
+-- The text of the peak from the sums and the survey.
 use Rattle.std.proofs.Common.{ℕ, List, sym, subst, ◌∙◌}
 use Rattle.mtrace_log.specs.Output.{Puts}
 use Rattle.mtrace_replay.specs.declared.runs.report.Report.{Report}

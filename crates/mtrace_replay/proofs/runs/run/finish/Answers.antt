@@ -1,3 +1,4 @@
+-- A text that was put whole is begun, too.
 use Rattle.std.proofs.Common.{List, ◌++◌, subst, ◌∙◌, arith}
 use Rattle.std.proofs.lemmas.Result.{err_from_is_err_and}
 use Rattle.std.proofs.lemmas.Grind.{common_steps}

@@ -4,7 +4,7 @@ use Rattle.mtrace_replay.specs.declared.runs.report.Report.{Report}
 use Rattle.mtrace_replay.specs.Run.{end_text}
 use Rattle.mtrace_log.specs.declared.call.Call.TheVariants.{Took, Flushed}
 use Rattle.mtrace_log.proofs.TraceLemmas.{moved_then_append, failed_after}
-use Rattle.mtrace_replay.proofs.Running.RunLemmas.{report_all, ends_at, report_write, flush_asked, has_replayed, records_are, stops_at_read, stops_at_write}
+use Rattle.mtrace_replay.proofs.Running.RunLemmas.{report_all, ends_at, report_write, flush_asked, has_replayed, stops_at_read, stops_at_write}
 use Rattle.mtrace_replay.proofs.runs.run.replay_log.Goals as goal
 
 -- the log has ended, and all was written
@@ -12,7 +12,7 @@ pub returns-in-Ok-finish-clause-ran : goal.returns-in-Ok-finish-clause-ran
 returns-in-Ok-finish-clause-ran g c =
     let reads = g.R.Source.shown in
     let writes = g.W.Sink.shown in
-    let followed = c.in-Ok-follow_lines.ensures.done c.args.settings (c.in-Ok.ensures.made, c.in-Ok.ensures.records) in
+    let followed = c.in-Ok-follow_lines.ensures.done c.args.settings c.in-Ok.ensures.made in
     let done = has_replayed c.args.settings c.follow_lines.new.replay c.in-Ok-follow_lines.has_diagnostics (reads c.args.reader.now) (reads c.follow_lines.new.reader) (writes c.args.writer.now) (writes c.follow_lines.new.writer) followed in
     let took = c.in-Ok-follow_lines.ensures.writer_took (λ e. cc) in
     let reports = report_all c.args.report c.args.settings c.follow_lines.new.replay c.in-Ok-follow_lines.has_diagnostics c.in-Ok-finish.status (reads c.args.reader.now) (reads c.follow_lines.new.reader)
@@ -27,18 +27,18 @@ pub returns-in-Ok-finish-clause-last : goal.returns-in-Ok-finish-clause-last
 returns-in-Ok-finish-clause-last g c =
     let reads = g.R.Source.shown in
     let writes = g.W.Sink.shown in
-    let followed = c.in-Ok-follow_lines.ensures.done c.args.settings (c.in-Ok.ensures.made, c.in-Ok.ensures.records) in
+    let followed = c.in-Ok-follow_lines.ensures.done c.args.settings c.in-Ok.ensures.made in
     let done = has_replayed c.args.settings c.follow_lines.new.replay c.in-Ok-follow_lines.has_diagnostics (reads c.args.reader.now) (reads c.follow_lines.new.reader) (writes c.args.writer.now) (writes c.follow_lines.new.writer) followed in
     λ only. let P : Report → Type 0 = λ report. Wrote (writes c.follow_lines.new.writer) (writes c.finish.new.writer) (end_text report c.follow_lines.new.replay) in
     ends_at c.args.settings c.follow_lines.new.replay c.finish.new.replay c.in-Ok-follow_lines.has_diagnostics c.in-Ok-finish.status (reads c.args.reader.now) (reads c.follow_lines.new.reader)
-    (writes c.args.writer.now) (writes c.follow_lines.new.writer) (writes c.finish.new.writer) done (subst P only c.in-Ok-finish.ensures.all) c.in-Ok-finish.ensures.status (c.in-Ok-finish.ensures.kept only) (records_are c.args.settings c.follow_lines.new.replay c.in-Ok-follow_lines.has_diagnostics (reads c.args.reader.now) (reads c.follow_lines.new.reader) (writes c.args.writer.now) (writes c.follow_lines.new.writer) followed)
+    (writes c.args.writer.now) (writes c.follow_lines.new.writer) (writes c.finish.new.writer) done (subst P only c.in-Ok-finish.ensures.all) c.in-Ok-finish.ensures.status (c.in-Ok-finish.ensures.kept only) (c.in-Ok-follow_lines.ensures.fixed ∙ c.in-Ok.ensures.records)
 
 -- the writer failed at the end
 pub returns-in-Ok-follow_lines-clause-ran : goal.returns-in-Ok-follow_lines-clause-ran
 returns-in-Ok-follow_lines-clause-ran g c =
     let reads = g.R.Source.shown in
     let writes = g.W.Sink.shown in
-    let followed = c.in-Ok-follow_lines.ensures.done c.args.settings (c.in-Ok.ensures.made, c.in-Ok.ensures.records) in
+    let followed = c.in-Ok-follow_lines.ensures.done c.args.settings c.in-Ok.ensures.made in
     let done = has_replayed c.args.settings c.follow_lines.new.replay c.in-Ok-follow_lines.has_diagnostics (reads c.args.reader.now) (reads c.follow_lines.new.reader) (writes c.args.writer.now) (writes c.follow_lines.new.writer) followed in
     let took = c.in-Ok-follow_lines.ensures.writer_took (λ e. cc) in
     let stops = report_write c.args.report c.args.settings c.follow_lines.new.replay c.in-Ok-follow_lines.has_diagnostics (reads c.args.reader.now) (reads c.follow_lines.new.reader)
@@ -55,7 +55,7 @@ returns-clause-ran g c =
     let reads = g.R.Source.shown in
     let writes = g.W.Sink.shown in
     let stops = stops_at_read c.args.settings (reads c.args.reader.now) (reads c.follow_lines.new.reader) (writes c.args.writer.now) (writes c.follow_lines.new.writer)
-    (c.in-Err-Reader.ensures.read (cc) c.args.settings (c.in-Ok.ensures.made, c.in-Ok.ensures.records)) in
+    (c.in-Err-Reader.ensures.read (cc) c.args.settings c.in-Ok.ensures.made) in
     record {
       ends = record {
         read_fault = record { lines = stops.lines; reason = stops.reason; wrote = c.flush.ensures.kept ∙ stops.wrote };
@@ -73,7 +73,7 @@ returns-in-Err-Writer-clause-ran g c =
     record {
       ends = record {
         write_fault = stops_at_write c.args.report c.args.settings c.follow_lines.new.replay (reads c.args.reader.now) (reads c.follow_lines.new.reader) (writes c.args.writer.now) (writes c.follow_lines.new.writer)
-            (c.in-Err-Writer.ensures.write (cc) c.args.settings (c.in-Ok.ensures.made, c.in-Ok.ensures.records));
+            (c.in-Err-Writer.ensures.write (cc) c.args.settings c.in-Ok.ensures.made);
         writer_failed = search rules;
         reader_not_failed = search rules;
       };

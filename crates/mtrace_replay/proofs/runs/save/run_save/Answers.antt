@@ -1,3 +1,4 @@
+-- The replay that ended is that of the lines read.
 use Rattle.std.proofs.Common.{◌≡◌, refl, subst, inl, inr}
 use Rattle.std.specs.Prelude.{Result, Ok, Err}
 use Rattle.mtrace_log.specs.declared.failed.Failed.{Failed}

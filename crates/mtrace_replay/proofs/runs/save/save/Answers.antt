@@ -1,3 +1,4 @@
+-- The image was put and flushed, or one of both failed.
 use Rattle.mtrace_log.proofs.Writing.{puts_done}
 use Rattle.mtrace_replay.proofs.Running.SaveLemmas.{put_failed, flushed_then}
 use Rattle.mtrace_replay.proofs.runs.save.save.Goals as goal

@@ -1,3 +1,4 @@
+-- Both sections, then how many lines were refused.
 use Rattle.std.proofs.Common.{List, ℕ, subst, ◌∙◌}
 use Rattle.mtrace_log.specs.Output.{Puts}
 use Rattle.mtrace_log.proofs.Writing.{puts_then, fails_early, puts_exit}

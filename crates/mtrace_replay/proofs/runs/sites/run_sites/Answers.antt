@@ -1,3 +1,4 @@
+-- Memory or settings fail before the log is read.
 use Rattle.std.proofs.Common.{rules, refl}
 use Rattle.std.specs.Prelude.{Ok}
 use Rattle.mtrace_replay.specs.RunSites.{SitesFollow}

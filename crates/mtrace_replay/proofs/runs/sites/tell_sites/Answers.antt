@@ -1,3 +1,4 @@
+-- What both replays hold, grouped, is the text of the sites.
 use Rattle.std.proofs.Common.{ℕ, List, sym, subst, ap}
 use Rattle.mtrace_replay.specs.declared.heap.totals.Totals.{Totals}
 use Rattle.mtrace_replay.specs.Sites.{Site, AreSites}

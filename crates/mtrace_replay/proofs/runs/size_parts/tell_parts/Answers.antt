@@ -1,3 +1,4 @@
+-- The lines of the parts, as the heaps by size have them.
 use Rattle.std.proofs.Common.{List, ℕ, ◌++◌, map, codes, ap, subst}
 use Rattle.mtrace_log.specs.Output.{Puts}
 use Rattle.mtrace_replay.specs.Texts.{size_line}

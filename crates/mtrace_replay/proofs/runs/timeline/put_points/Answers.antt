@@ -1,3 +1,4 @@
+-- One point's line more in each turn.
 use Rattle.std.proofs.Common.{ℕ, List, refl, subst, ◌∙◌, drop, get_or, ◌+◌, flat_map}
 use Rattle.std.proofs.lemmas.List.{get_or_default}
 use Rattle.mtrace_log.specs.Output.{PutsAll, PutsPart}

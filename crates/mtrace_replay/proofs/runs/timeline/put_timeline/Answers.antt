@@ -1,3 +1,4 @@
+-- The words, the points, then how many lines were refused.
 use Rattle.std.proofs.Common.{List, ℕ, subst, ◌∙◌, ◌++◌, flat_map}
 use Rattle.mtrace_log.specs.Output.{Puts}
 use Rattle.mtrace_log.proofs.Writing.{puts_on, puts_then, fails_on, fails_early, puts_exit}

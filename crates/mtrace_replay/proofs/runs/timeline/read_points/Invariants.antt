@@ -14,14 +14,13 @@ abbrev pub invariant-loop-number : goal.invariant-loop-number
 invariant-loop-number g l =
     let reads = g.R.Source.shown in
     record {
-      so_far : (settings : Settings) → StandsFor l.initial.replay settings [] → Gathers settings l.points.items l.lines l.replay (reads l.initial.reader) (reads l.reader);
+      so_far : (settings : Settings) → StandsFor l.initial.replay settings [] → Gathers settings l.points.items l.reading l.replay (reads l.initial.reader) (reads l.reader);
       told : lines_of l.points.items ≡ take l.number-index l.numbers;
-      within : All (λ (point : Point). point.line ≤ l.lines.count) l.points.items;
-      reached : l.lines.count ≡ greatest (take l.number-index l.numbers);
-      counted : l.replay.totals.lines ≡ l.lines.count;
-      none : l.findings ≡ [];
+      within : All (λ (point : Point). point.line ≤ l.reading.count) l.points.items;
+      reached : l.reading.count ≡ greatest (take l.number-index l.numbers);
+      counted : l.replay.totals.lines ≡ l.reading.count;
       whole : (reads l.reader).whole ≡ (reads l.initial.reader).whole;
-      gave : HasGivenSo l.lines.stage (reads l.initial.reader) (reads l.reader);
+      gave : HasGivenSo l.reading.stage (reads l.initial.reader) (reads l.reader);
       many : vec_len l.points ≡ l.number-index;
       room : length l.numbers ≤ vec_capacity l.points;
     }

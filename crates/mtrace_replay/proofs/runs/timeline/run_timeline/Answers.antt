@@ -1,3 +1,4 @@
+-- Memory, settings or parts fail before the log is read.
 use Rattle.std.proofs.Common.{rules, arith, refl}
 use Rattle.std.specs.Prelude.{Ok}
 use Rattle.mtrace_replay.specs.RunTimeline.{TimelineFollows}

@@ -1,3 +1,4 @@
+-- A full table has no record for one more block.
 use Rattle.std.proofs.Common.{◌≡◌, Err}
 use Rattle.std.proofs.lemmas.Result.{IfErr-at_err}
 use Rattle.tlsf_heap.specs.Inner.Following.{content_of}

@@ -1,3 +1,4 @@
+-- A new store stands for the empty content.
 use Rattle.tlsf_heap.proofs.Inner.Empty.{empty_stands, empty_is_created}
 use Rattle.tlsf_heap.proofs.heap.Heap.create.Goals as goal
 

@@ -1,3 +1,4 @@
+-- The invariant's layout is good.
 use Rattle.tlsf_heap.proofs.Inner.Standing.{content_is_good, slots_are_good}
 use Rattle.tlsf_heap.proofs.Good.Implied.{has_aligned_blocks, has_disjoint_blocks, lists_free_blocks, lists_nothing_else}
 use Rattle.tlsf_heap.proofs.heap.Heap.keeps_good.Goals as goal

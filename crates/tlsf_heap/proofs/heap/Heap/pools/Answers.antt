@@ -1,3 +1,4 @@
+-- The entries are the ranges of the content's pools.
 use Rattle.std.proofs.Common.{arith, ◌≡◌, map, ap, ◌∙◌}
 use Rattle.std.proofs.lemmas.Grind.{common_steps}
 use Rattle.tlsf_heap.specs.Inner.Entries.{entry_range}

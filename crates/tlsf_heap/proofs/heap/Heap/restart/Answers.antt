@@ -1,3 +1,4 @@
+-- A store begun anew stands for the empty content.
 use Rattle.std.proofs.Common.{ap, arith}
 use Rattle.tlsf_heap.specs.Counted.{Counted}
 use Rattle.tlsf_heap.specs.Inner.Following.{content_of}

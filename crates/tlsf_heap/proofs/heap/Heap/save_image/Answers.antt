@@ -1,3 +1,4 @@
+-- The image that is written breaks no rule, and describes the content.
 use Rattle.std.proofs.Common.{◌≡◌, ℕ, ◌<◌, ◌≤◌, List, length, ap, ◌∙◌, arith}
 use Rattle.std.proofs.lemmas.List.{length-map}
 use Rattle.tlsf_store.specs.Records.{most_records}

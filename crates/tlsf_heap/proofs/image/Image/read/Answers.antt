@@ -1,3 +1,4 @@
+-- The rules of bytes come first, in their order, then those of the table.
 use Rattle.std.proofs.Common.{◌≡◌, ℕ, ◌∙◌, sym, subst, true}
 use Rattle.tlsf_heap.specs.Images.Image.{parts_in}
 use Rattle.tlsf_heap.specs.Images.Rules.{are_pools}

@@ -1,3 +1,4 @@
+-- The count stands in the header.
 use Rattle.std.proofs.Common.{sym, ◌∙◌, ap}
 use Rattle.tlsf_heap.specs.Images.Image.{two_at, count_at}
 use Rattle.tlsf_heap.proofs.Images.ImageLemmas.{records_count}

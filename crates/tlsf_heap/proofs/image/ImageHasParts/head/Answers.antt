@@ -1,3 +1,4 @@
+-- A head's bytes are within the image.
 use Rattle.std.proofs.Common.{arith, ◌≡◌, refl, sym, ◌∙◌, ap, List, ℕ}
 use Rattle.tlsf_heap.specs.Images.Image.{head_in}
 use Rattle.tlsf_heap.proofs.Images.ImageLemmas.{head_read}

@@ -1,3 +1,4 @@
+-- A record's bytes are within the image.
 use Rattle.std.proofs.Common.{◌<◌, List, ℕ, sym, subst, ap, arith, ◌∙◌}
 use Rattle.tlsf_heap.specs.Images.Image.{two_at, count_at, record_in}
 use Rattle.tlsf_heap.proofs.Images.ImageLemmas.{record_read, records_count, whole_length}

@@ -1,3 +1,4 @@
+-- The bits of the classes so far agree with their heads.
 use Rattle.std.proofs.Common.{◌≡◌, ℕ, ◌+◌, ◌<◌, ◌≤◌, ◌/◌, ◌%◌, get_or}
 use Rattle.std.specs.Int.{bit_at}
 use Rattle.tlsf_class.specs.Classes.{steps}

@@ -1,3 +1,4 @@
+-- The words of the levels so far agree with their bits.
 use Rattle.std.proofs.Common.{◌≡◌, ℕ, ◌<◌, ◌/◌, ◌%◌, get_or}
 use Rattle.std.specs.Int.{bit_at}
 use Rattle.tlsf_class.specs.Classes.{steps, classes}

@@ -1,3 +1,4 @@
+-- One chain more in each turn, added to the tally.
 use Rattle.std.proofs.Common.{◌≡◌, ◌<◌, ◌∙◌, length, sym, ap, arith, Some}
 use Rattle.tlsf_store.specs.Cells.{pool_at, most_pools}
 use Rattle.tlsf_heap.specs.Images.Image.{Parts}

@@ -1,3 +1,4 @@
+-- One entry more in each turn, from the end of the one before.
 use Rattle.std.proofs.Common.{◌<◌, ◌∙◌, sym, arith, inl, inr}
 use Rattle.tlsf_heap.specs.Images.Image.{two_at, pools_at}
 use Rattle.tlsf_heap.proofs.Images.PoolLemmas.{pools_all, pools_on, pools_off, pools_end}

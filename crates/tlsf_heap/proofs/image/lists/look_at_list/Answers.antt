@@ -1,3 +1,4 @@
+-- One block more of the list in each turn, until it ends or a rule breaks.
 use Rattle.std.proofs.Common.{◌≡◌, ◌<◌, ◌∙◌, length, sym, ap, arith, true}
 use Rattle.tlsf_heap.specs.Images.Image.{Parts}
 use Rattle.tlsf_heap.specs.Images.Rules.{at}

@@ -1,3 +1,4 @@
+-- The rules in their order, each by what was counted.
 use Rattle.std.proofs.Common.{rules, ◌∙◌, sym, ap, subst}
 use Rattle.std.proofs.lemmas.Bool.{ne_eqb, eq-eqb, not-true, not-false}
 use Rattle.tlsf_heap.specs.Images.Image.{Parts}

@@ -1,3 +1,4 @@
+-- Entries behind an empty one break the rule of pools.
 use Rattle.std.proofs.Common.{◌≡◌, ◌∙◌, sym, ap, true, Bool, Some}
 use Rattle.std.specs.Prelude.{if◌then◌else◌}
 use Rattle.tlsf_heap.specs.declared.image.rule.Rule.TheVariants.{Pools}

@@ -1,3 +1,4 @@
+-- The block's bytes, then its state.
 use Rattle.std.proofs.Common.{ℕ, ◌+◌, List, ◌++◌, arith}
 use Rattle.tlsf_store.specs.declared.records.Record.{Record}
 use Rattle.tlsf_heap.specs.Images.Writing.{four, head_bytes}

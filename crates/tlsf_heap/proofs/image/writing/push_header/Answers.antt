@@ -1,3 +1,4 @@
+-- The magic, the counts, then zeros.
 use Rattle.std.proofs.Common.{ℕ, List, ◌++◌, length, ap, ◌∙◌, replicate, arith}
 use Rattle.tlsf_heap.specs.Images.Image.{magic, Parts}
 use Rattle.tlsf_heap.specs.Images.Writing.{two}

@@ -1,3 +1,4 @@
+-- A block and the one behind are within a pool.
 use Rattle.std.proofs.Common.{arith}
 use Rattle.tlsf_heap.proofs.Plain.Realloc.{both_fit}
 use Rattle.tlsf_heap.proofs.plain_heap.realloc.fits_in_place.Goals as goal

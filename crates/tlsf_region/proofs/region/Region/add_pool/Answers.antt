@@ -1,3 +1,4 @@
+-- The new pool ends within the bytes.
 use Rattle.std.proofs.Common.{◌+◌, ◌≤◌, subst, length, IfOk, arith}
 use Rattle.std.proofs.lemmas.Result.{IfOk-weaker}
 use Rattle.tlsf_region.specs.Region.{EndBelow}

@@ -1,3 +1,4 @@
+-- The bytes so far are 0.
 use Rattle.std.proofs.Common.{◌≡◌, replicate, vec_capacity}
 use Rattle.tlsf_region.proofs.region.Region.create.Given as goal
 

@@ -1,3 +1,4 @@
+-- No pool's range changes.
 use Rattle.std.proofs.Common.{◌≡◌, subst, IfOk}
 use Rattle.std.specs.Prelude.{◌==◌}
 use Rattle.std.proofs.lemmas.Result.{IfOk-weaker}

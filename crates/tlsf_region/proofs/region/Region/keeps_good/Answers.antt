@@ -1,3 +1,4 @@
+-- A live block has as many bytes as its size, within the region.
 use Rattle.tlsf_region.proofs.Sizes.{live_bytes_long}
 use Rattle.tlsf_region.proofs.region.Region.keeps_good.Goals as goal
 

@@ -1,3 +1,4 @@
+-- A live block ends within the bytes.
 use Rattle.tlsf_region.proofs.region.Region.live_size.Goals as goal
 use Rattle.tlsf_region.proofs.Sizes.{size_found}
 

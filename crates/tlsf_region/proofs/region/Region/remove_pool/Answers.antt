@@ -1,3 +1,4 @@
+-- The pools left end within the bytes.
 use Rattle.std.proofs.Common.{subst, length, IfOk}
 use Rattle.std.proofs.lemmas.Result.{IfOk-weaker}
 use Rattle.tlsf_region.specs.Region.{EndBelow}

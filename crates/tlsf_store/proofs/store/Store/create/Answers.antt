@@ -1,3 +1,4 @@
+-- A new table's cells are those of the empty store.
 use Rattle.std.proofs.Common.{None, ap, arith, length}
 use Rattle.std.proofs.lemmas.List.{length-replicate}
 use Rattle.std.proofs.lemmas.List.Elements.{All-replicate}

@@ -1,3 +1,4 @@
+-- A head's link is below the number of records.
 use Rattle.std.proofs.Common.{ap, subst, length, slice_index_or, arith}
 use Rattle.tlsf_store.specs.Records.{IsBelow}
 use Rattle.tlsf_store.specs.Slots.{link_of}

@@ -1,3 +1,4 @@
+-- A table begun anew has the cells of the empty store.
 use Rattle.std.proofs.Common.{None, ap, arith, length}
 use Rattle.std.proofs.lemmas.List.{length-replicate}
 use Rattle.std.proofs.lemmas.List.Elements.{All-replicate}

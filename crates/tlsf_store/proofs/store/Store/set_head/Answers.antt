@@ -1,3 +1,4 @@
+-- One head changes, and stays below.
 use Rattle.std.proofs.Common.{ap, sym, subst, length, rules}
 use Rattle.tlsf_store.specs.Records.{IsBelow}
 use Rattle.tlsf_store.specs.Cells.{with_head}

@@ -1,3 +1,4 @@
+-- One record changes, and the vacant chain stays.
 use Rattle.std.proofs.Common.{refl}
 use Rattle.std.specs.Fn.{FnOnceReturnsAtMut}
 use Rattle.tlsf_store.specs.Records.{record_at}

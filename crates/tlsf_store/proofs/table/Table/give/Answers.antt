@@ -1,3 +1,4 @@
+-- The record enters the vacant chain in front.
 use Rattle.std.proofs.Common.{◌≡◌, Some, arith}
 use Rattle.std.proofs.lemmas.List.{length-set}
 use Rattle.tlsf_store.specs.Slots.{link_of}

@@ -1,3 +1,4 @@
+-- The next entry is that of the next held key: vacant keys are passed over.
 use Rattle.std.proofs.Common.{rules, arith, ◌+◌, ◌<◌, ◌∷◌, map, drop, length, subst, sym, ap, ap₂, ◌∙◌}
 use Rattle.mtrace_replay.specs.Holding.{Holding}
 use Rattle.mtrace_replay.specs.Keys.{Kept, HasRow, row_at}

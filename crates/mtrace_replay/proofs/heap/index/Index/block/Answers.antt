@@ -1,3 +1,4 @@
+-- A found key is held exactly where its address is.
 use Rattle.std.proofs.Common.{◌≡◌, ℕ, Option, Some, None, refl, sym, ap, ◌∙◌}
 use Rattle.std.specs.Prelude.{option_map}
 use Rattle.tlsf_heap.specs.Pointer.{Pointer}

@@ -1,3 +1,4 @@
+-- A vacant place takes the key, so one address more is held and no other changes.
 use Rattle.std.proofs.Common.{ℕ, List, slice_index_or, Option, Some, None, refl, sym, ap, ◌∙◌, subst, cond, arith}
 use Rattle.std.specs.Prelude.{◌==◌, Result, Ok, Err, IfOk}
 use Rattle.std.proofs.lemmas.List.{get_or_default}

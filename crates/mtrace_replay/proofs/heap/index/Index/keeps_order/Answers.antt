@@ -1,3 +1,4 @@
+-- The index's invariant has the order.
 use Rattle.std.proofs.Common.{subst}
 use Rattle.mtrace_replay.specs.Index.{AreInOrder}
 use Rattle.mtrace_replay.proofs.Index.IndexLemmas.{index_in_order}

@@ -1,3 +1,4 @@
+-- No more is held than there can be, so the count fits.
 use Rattle.std.proofs.Common.{◌<◌, ◌^◌, arith, rules}
 use Rattle.mtrace_replay.proofs.Index.HoldingLemmas.{held_within}
 use Rattle.mtrace_replay.proofs.heap.index.Index.len.Goals as goal

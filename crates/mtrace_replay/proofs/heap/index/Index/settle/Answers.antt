@@ -1,3 +1,4 @@
+-- Keys that are arranged anew hold what they held.
 use Rattle.std.proofs.Common.{sym, ap, subst, ◌∙◌}
 use Rattle.mtrace_replay.specs.Keys.{Kept}
 use Rattle.mtrace_replay.specs.Key.{all_held}

@@ -1,3 +1,4 @@
+-- A new chunk is blank, so the keys stay and have blank ones behind.
 use Rattle.std.proofs.Common.{arith, rules, ap}
 use Rattle.mtrace_replay.specs.Keys.{Kept}
 use Rattle.mtrace_replay.proofs.Index.KeysLemmas.{rows_are, added_has, added_keys}

@@ -1,3 +1,4 @@
+-- Each turn adds a chunk and keeps the keys.
 use Rattle.std.proofs.Common.{◌≡◌, ◌-◌, length}
 use Rattle.mtrace_replay.specs.Keys.{KeepsRows}
 use Rattle.mtrace_replay.proofs.heap.keys.Keys.cover.Given as goal

@@ -1,3 +1,4 @@
+-- As many rows are there as the chunks hold.
 use Rattle.std.proofs.Common.{arith}
 use Rattle.std.proofs.lemmas.Bool.Decides.{nat_tests}
 use Rattle.mtrace_replay.proofs.Index.KeysLemmas.{covers}

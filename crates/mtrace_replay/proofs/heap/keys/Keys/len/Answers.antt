@@ -1,3 +1,4 @@
+-- The length is kept beside the chunks.
 use Rattle.std.proofs.Common.{length, sym, ap, ◌∙◌}
 use Rattle.mtrace_replay.specs.Keys.{Kept}
 use Rattle.mtrace_replay.proofs.Index.KeysLemmas.{keys_length}

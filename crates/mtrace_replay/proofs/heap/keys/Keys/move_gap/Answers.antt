@@ -1,3 +1,4 @@
+-- The keys between the gap and its new place move by one.
 use Rattle.std.proofs.Common.{◌<◌, length, arith, ap, ◌∙◌}
 use Rattle.std.proofs.lemmas.List.{length-set}
 use Rattle.std.specs.List.{remove}

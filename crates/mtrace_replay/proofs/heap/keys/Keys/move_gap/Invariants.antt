@@ -1,3 +1,4 @@
+-- The keys on one side of the hole have moved, the others haven't.
 use Rattle.std.proofs.Common.{◌≡◌, ◌+◌, ◌-◌, ◌<◌, length}
 use Rattle.std.specs.List.{remove}
 use Rattle.mtrace_replay.proofs.heap.keys.Keys.move_gap.Given as goal

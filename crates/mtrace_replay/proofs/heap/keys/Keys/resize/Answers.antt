@@ -1,3 +1,4 @@
+-- Rows stay where the number of keys changes.
 use Rattle.std.proofs.Common.{arith, ap, ◌∙◌}
 use Rattle.mtrace_replay.specs.Keys.{Kept}
 use Rattle.mtrace_replay.proofs.Index.KeysLemmas.{rows_are, keys_length}

@@ -1,3 +1,4 @@
+-- A hint changes neither keys nor rows.
 use Rattle.std.proofs.Common.{◌<◌, ◌/◌, length, refl, arith, ap₂}
 use Rattle.mtrace_replay.specs.Keys.{Kept}
 use Rattle.mtrace_replay.proofs.Index.KeysLemmas.{keys_stay, rows_stay}

@@ -1,3 +1,4 @@
+-- One key changes, and no row.
 use Rattle.std.proofs.Common.{◌/◌, refl, arith}
 use Rattle.mtrace_replay.proofs.Index.KeysLemmas.{key_written, rows_stay, len_is}
 use Rattle.mtrace_replay.proofs.heap.keys.Keys.set_key.Goals as goal

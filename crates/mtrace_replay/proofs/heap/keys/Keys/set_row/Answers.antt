@@ -1,3 +1,4 @@
+-- One row changes, and no key.
 use Rattle.std.proofs.Common.{◌<◌, ◌/◌, length, set, refl, arith, ap, ◌∙◌}
 use Rattle.mtrace_replay.specs.Keys.{Kept}
 use Rattle.mtrace_replay.proofs.Index.KeysLemmas.{rows_are, row_written, keys_stay, sets_row}

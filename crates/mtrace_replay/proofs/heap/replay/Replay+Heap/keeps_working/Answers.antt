@@ -1,3 +1,4 @@
+-- A heap lacks no memory, so none was refused.
 use Rattle.std.proofs.Common.{◌≡◌, ◌≤◌, Bool, true, false, length, refl, subst, arith}
 use Rattle.std.proofs.lemmas.List.{length-map}
 use Rattle.tlsf_heap.specs.Pools.{most_records}

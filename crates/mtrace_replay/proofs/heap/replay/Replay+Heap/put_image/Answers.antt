@@ -1,3 +1,4 @@
+-- The heap's own promise, for its content.
 use Rattle.std.proofs.Common.{ap}
 use Rattle.mtrace_replay.specs.Replay.{Replayed}
 use Rattle.mtrace_replay.proofs.heap.replay.Replay+Heap.put_image.Goals as goal

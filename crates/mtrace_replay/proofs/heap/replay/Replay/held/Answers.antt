@@ -1,3 +1,4 @@
+-- The index's entries, as the replay shows them.
 use Rattle.std.proofs.Common.{◌≤◌, length, sym, subst, ap, ◌∙◌, arith}
 use Rattle.std.proofs.lemmas.List.{length-map}
 use Rattle.mtrace_replay.specs.Holding.{Holding}

@@ -1,3 +1,4 @@
+-- Sums and greatest of both parts are those of the whole.
 use Rattle.mtrace_replay.proofs.OnHeap.RowLemmas.{rows_joined}
 use Rattle.mtrace_replay.proofs.heap.survey.Survey.joined.Goals as goal
 

@@ -1,3 +1,4 @@
+-- Where a request has no class nothing is counted from then on.
 use Rattle.std.proofs.Common.{◌∷◌, suc, None, Some, sym, ◌∙◌, subst}
 use Rattle.std.specs.Prelude.{if◌then◌else◌}
 use Rattle.mtrace_replay.specs.declared.parts.replay.CountedReplay.{CountedReplay}

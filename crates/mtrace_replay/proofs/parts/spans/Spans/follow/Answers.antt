@@ -1,3 +1,4 @@
+-- A release leaves the counts as small as they were.
 use Rattle.std.proofs.Common.{◌≤◌, nat_eq, sym, subst, arith}
 use Rattle.std.specs.List.{All}
 use Rattle.std.specs.HashMap.{get}

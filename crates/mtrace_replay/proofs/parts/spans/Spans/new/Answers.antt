@@ -1,3 +1,4 @@
+-- A blank span for each pair of ranges counts nothing.
 use Rattle.std.proofs.Common.{◌≡◌, inl, inr, ap, subst, arith, nat_eq}
 use Rattle.std.specs.HashMap.{get}
 use Rattle.std.specs.Map.{lookup}

@@ -1,3 +1,4 @@
+-- An address without a block of a class changes no span.
 use Rattle.std.proofs.Common.{nat_eq, ◌≡◌, List, [], ◌∷◌, map, None, refl, sym, ap, ◌∙◌}
 use Rattle.std.specs.HashMap.{get}
 use Rattle.mtrace_replay.specs.declared.parts.span.Span.{Span}

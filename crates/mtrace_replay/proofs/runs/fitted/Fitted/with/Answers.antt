@@ -1,3 +1,4 @@
+-- One verdict more, by whether it serves.
 use Rattle.std.proofs.Common.{ap, sym, ◌∙◌, Some, None, ◌+◌}
 use Rattle.std.specs.Option.{option_or}
 use Rattle.mtrace_replay.specs.declared.runs.fitted.Fitted.{Fitted}

@@ -1,3 +1,4 @@
+-- What the line exchanged changes the needs as its moment says.
 use Rattle.std.proofs.Common.{◌≡◌, ℕ, ap, ◌∙◌, subst}
 use Rattle.std.specs.Prelude.{if◌then◌else◌, nat_lt, max}
 use Rattle.mtrace_replay.specs.declared.heap.totals.Totals.{Totals}
@@ -22,7 +23,7 @@ returns c =
       stands = λ settings past stands.
           let now = taken.stands settings past stands.0 in (
             now,
-            needs_more old.replay new settings past c.args.event stands.0.0 now.0 old.needs c.after-self.result stands.1 c.keeps_working.ensures.few behind
+            needs_more old.replay new settings past c.args.event stands.0 now old.needs c.after-self.result stands.1 c.keeps_working.ensures.few behind
                 (c.after-self.ensures.most ∙ ap (λ (totals : Totals). max old.needs.most totals.live_blocks) after) c.after-self.ensures.most_rounded
                 (c.after-self.ensures.class
                 ∙ ap (λ class. if nat_lt c.totals-old.result.served c.totals.result.served then greater_class old.needs.class_size class else old.needs.class_size) c.of-asked.ensures.class
@@ -31,5 +32,6 @@ returns c =
       told = λ settings past stands. taken.told settings past stands.0;
       counted = taken.counted;
       ready = tt;
+      fixed = taken.fixed;
       memory = tt;
     }

@@ -1,3 +1,4 @@
+-- Pools stay in order of base.
 use Rattle.std.proofs.Common.{◌≡◌, sym, ap, arith, ◌∙◌, List, ℕ, length}
 use Rattle.std.specs.Prelude.{nat_lt, position, unwrap_or}
 use Rattle.std.specs.List.{insert}

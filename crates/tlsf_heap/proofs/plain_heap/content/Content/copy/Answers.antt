@@ -1,3 +1,4 @@
+-- Copied lists are equal.
 use Rattle.std.proofs.Common.{ap, ◌∙◌, List, ℕ}
 use Rattle.std.specs.List.{each_same}
 use Rattle.tlsf_heap.specs.Content.{Pool}

@@ -1,3 +1,4 @@
+-- One list has the block in front, the others stay.
 use Rattle.std.proofs.Common.{ℕ, arith, ap, ◌∙◌, List}
 use Rattle.tlsf_heap.specs.Content.{Content}
 use Rattle.tlsf_heap.specs.Lists.{link}

@@ -1,3 +1,4 @@
+-- Pools and list without what begins there.
 use Rattle.std.proofs.Common.{rules, ◌≡◌, ℕ, not, filter, ap, ◌∙◌, List}
 use Rattle.std.proofs.lemmas.Fn.{filter_same}
 use Rattle.tlsf_heap.specs.Content.{Content, Pool}

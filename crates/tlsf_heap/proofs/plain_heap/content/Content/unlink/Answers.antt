@@ -1,3 +1,4 @@
+-- One list is without the block, the others stay.
 use Rattle.std.proofs.Common.{ℕ, rules, arith, ap, ◌∙◌, List}
 use Rattle.std.proofs.lemmas.Fn.{filter_same}
 use Rattle.tlsf_heap.specs.Content.{Content}

@@ -1,3 +1,4 @@
+-- Blocks are counted pool by pool.
 use Rattle.std.proofs.Common.{arith, ap, length}
 use Rattle.tlsf_heap.specs.Content.{blocks_of}
 use Rattle.tlsf_heap.proofs.Plain.Pools.{blocks_so_far}

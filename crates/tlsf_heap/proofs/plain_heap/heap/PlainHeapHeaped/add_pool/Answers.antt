@@ -1,3 +1,4 @@
+-- A good content stays good.
 use Rattle.std.proofs.Common.{ℕ, arith, sym, ap, ◌∙◌, subst, length}
 use Rattle.std.proofs.lemmas.Bool.{leb-false}
 use Rattle.tlsf_heap.specs.Content.{Content}

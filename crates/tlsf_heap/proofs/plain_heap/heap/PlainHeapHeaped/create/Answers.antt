@@ -1,3 +1,4 @@
+-- The empty content is good.
 use Rattle.std.proofs.Common.{ℕ, sym, subst, arith}
 use Rattle.tlsf_heap.specs.Content.{Content}
 use Rattle.tlsf_heap.specs.PlainHeap.{IsPlain}

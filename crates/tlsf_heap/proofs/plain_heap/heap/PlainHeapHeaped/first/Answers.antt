@@ -1,3 +1,4 @@
+-- The pool's rows begin with its first block.
 use Rattle.std.proofs.Common.{rules, ◌≡◌, ℕ, sym, ap, ◌∙◌, subst}
 use Rattle.tlsf_heap.specs.Content.{Content}
 use Rattle.tlsf_heap.specs.Rows.{rows_from}

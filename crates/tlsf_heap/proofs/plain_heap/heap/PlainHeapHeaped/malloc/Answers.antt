@@ -1,3 +1,4 @@
+-- Bytes rounded up are a size.
 use Rattle.std.proofs.Common.{sym, ◌∙◌}
 use Rattle.tlsf_heap.proofs.Content.Alignments.{round_size}
 use Rattle.tlsf_heap.proofs.plain_heap.heap.PlainHeapHeaped.malloc.Goals as goal

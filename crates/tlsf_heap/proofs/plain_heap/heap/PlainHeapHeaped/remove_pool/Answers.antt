@@ -1,3 +1,4 @@
+-- A good content stays good.
 use Rattle.std.proofs.Common.{ℕ, ap, ◌∙◌, sym, subst, arith, Some, Ok}
 use Rattle.tlsf_heap.specs.Content.{Content}
 use Rattle.tlsf_heap.specs.PlainHeap.{IsPlain}

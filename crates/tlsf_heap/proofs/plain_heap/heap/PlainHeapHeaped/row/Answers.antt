@@ -1,3 +1,4 @@
+-- The rows behind a row are those of the next cursor.
 use Rattle.std.proofs.Common.{rules, ℕ, ◌∷◌, sym, ap, ◌∙◌, arith, inl, inr, length}
 use Rattle.std.proofs.lemmas.Bool.{eqb-true, eqb-false}
 use Rattle.tlsf_heap.specs.Content.{Content}

@@ -1,3 +1,4 @@
+-- The rows so far are equal.
 use Rattle.tlsf_region.proofs.tests.heap.random.same_rows.Given as goal
 
 abbrev pub invariant-loop-row : goal.invariant-loop-row

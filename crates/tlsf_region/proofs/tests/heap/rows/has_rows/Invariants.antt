@@ -1,3 +1,4 @@
+-- The rows so far are those wanted.
 use Rattle.tlsf_region.proofs.tests.heap.rows.has_rows.Given as goal
 
 abbrev pub invariant-loop-place : goal.invariant-loop-place

@@ -1,0 +1,131 @@
+//! The words of `size`: the bounds of a program, or heaps by size.
+
+ghost use Rattle.std.specs.Prelude.{◌≡◌, List, map, MatchBool, codes, Some, None};
+ghost use Rattle.mtrace_replay.specs.declared.runs.size_parts.PartBounds.{PartBounds};
+ghost use Rattle.clap.specs.Words.{all_of, found_of, rows_of};
+ghost use Rattle.tlsf_tool.specs.CommandLine.{HasBounds, HasNoBounds, IsNumberText, IsPartText, ArePartTexts};
+ghost use Rattle.tlsf_tool.specs.Asks.{Picks, Asks, MatchesGive};
+
+use crate::asked::{Command, ToolFault};
+use crate::option_values::{NO_MEMORY, option_number, size_of};
+use clap::ArgMatches;
+use mtrace_replay::{Bounds, PartBounds};
+use std::alloc::Global;
+
+/// The text where neither the bounds of a program nor heaps by size are told.
+const NO_SIZE: &str =
+    "error: size takes --blocks and --largest, or --part\n\nFor more information, try '--help'.\n";
+
+/// The text where a bound of a program stands beside a heap by size, or there are too many heaps.
+const NO_BOUNDS: &str =
+    "error: --part takes no option beside it, and stands at most 8 times\n\nFor more information, try '--help'.\n";
+
+/// The text where what a heap by size serves can't be read.
+const NO_PART: &str =
+    "error: --part takes LxM: L blocks, from 1 to 65535, of at most M bytes, from 1 to 1056964608\n\nFor more information, try '--help'.\n";
+
+/// The bounds that a subcommand's matches have.
+fn bounds_of(found: &ArgMatches<'_>) -> Option<Bounds>
+    ensures { Picks (HasBounds (rows_of (found_of found.now))) result }
+{
+    let bytes = size_of(found, "bytes");
+    let align = size_of(found, "align");
+    let blocks = option_number(found, "blocks")?;
+    let largest = size_of(found, "largest")?;
+    Some(Bounds {
+        blocks,
+        largest,
+        bytes,
+        align,
+    })
+}
+
+/// The number that this text is read as.
+fn blocks_of(text: &str) -> Option<u32>
+    ensures { Picks (IsNumberText text.now 32) result }
+{
+    text.parse::<u32>().ok()
+}
+
+/// The size that this text is read as, in bytes.
+fn bytes_of(text: &str) -> Option<u64>
+    ensures { Picks (IsNumberText text.now 64) result }
+{
+    text.parse::<u64>().ok()
+}
+
+/// The heap by size that this text tells.
+fn part_of(text: &str) -> Option<PartBounds>
+    ensures { Picks (IsPartText text.now) result }
+{
+    let (blocks, largest) = text.split_once('x')?;
+    let blocks = blocks_of(blocks)?;
+    let largest = bytes_of(largest)?;
+    if blocks == 0 || blocks > 65_535 || largest == 0 || largest > 1_056_964_608 {
+        return None;
+    }
+    Some(PartBounds { blocks, largest })
+}
+
+/// The heaps by size that these texts tell.
+fn parts_of(alloc: Global, texts: &[&str]) -> Result<Vec<PartBounds>, ToolFault>
+    ensures { Asks (λ parts. ArePartTexts (map (λ text. text.now) texts.now) parts.items) ((parts : List PartBounds) → ArePartTexts (map (λ text. text.now) texts.now) parts → ⊥) result }
+{
+    let mut parts = Vec::new(alloc);
+    for text in texts {
+        let Some(part) = part_of(text) else {
+            return Err(ToolFault::usage(alloc, NO_PART));
+        };
+        match parts.push(part) {
+            Ok(()) => {}
+            Err(_) => return Err(NO_MEMORY),
+        }
+    }
+    Ok(parts)
+}
+
+/// Whether a bound of a program is among a subcommand's matches.
+fn has_bound(found: &ArgMatches<'_>) -> bool
+    ensures { MatchBool result (HasNoBounds (rows_of (found_of found.now)) → ⊥) (HasNoBounds (rows_of (found_of found.now))) }
+{
+    let blocks = option_number(found, "blocks");
+    let largest = size_of(found, "largest");
+    let sum = size_of(found, "bytes");
+    let align = size_of(found, "align");
+    match (blocks, largest, sum, align) {
+        (None, None, None, None) => false,
+        _ => true,
+    }
+}
+
+/// What the matches ask for that tell heaps by size.
+fn asked_size_parts(
+    alloc: Global,
+    texts: &[&str],
+    found: &ArgMatches<'_>,
+) -> Result<Command, ToolFault>
+    requires told { all_of (codes "part") (rows_of (found_of found.now)) ≡ Some (map (λ text. text.now) texts.now) }
+    ensures { MatchesGive (Some (codes "size", rows_of (found_of found.now))) result }
+{
+    if has_bound(found) {
+        return Err(ToolFault::usage(alloc, NO_BOUNDS));
+    }
+    if texts.len() > 8 {
+        return Err(ToolFault::usage(alloc, NO_BOUNDS));
+    }
+    let parts = parts_of(alloc, texts)?;
+    Ok(Command::SizeParts { parts })
+}
+
+/// What the matches of the subcommand that tells what is enough without a log ask for.
+pub(crate) fn asked_size(alloc: Global, found: &ArgMatches<'_>) -> Result<Command, ToolFault>
+    ensures { MatchesGive (Some (codes "size", rows_of (found_of found.now))) result }
+{
+    if let Some(texts) = found.get_strs("part") {
+        return asked_size_parts(alloc, texts, found);
+    }
+    let Some(bounds) = bounds_of(found) else {
+        return Err(ToolFault::usage(alloc, NO_SIZE));
+    };
+    Ok(Command::Size { bounds })
+}
