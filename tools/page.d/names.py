@@ -21,6 +21,7 @@ STANDARD_NAME = re.compile(r"execute_native_thread_routine$|(?:std|core|alloc|ha
 CLONE = re.compile(r" \[clone [^\]]*\]|\[abi:\w+\]|::h[0-9a-f]{16}$|(?<=\w)\[[0-9a-f]{16}\]|(?:\.(?:constprop|isra|part|cold|llvm|lto_priv|localalias)(?:\.\d+)*)+$")
 OPERATOR = re.compile(r"operator *(?:<=>|<<=|>>=|->\*|<<|>>|<=|>=|->|\(\)|<|>)")
 LINE = re.compile(r"(.*):(\d+|\?)(?: \(discriminator \d+\))?", re.S)
+LLVM = "llvm-addr2line"
 # The most files without lines that are named.
 MOST_BARE = 4
 
@@ -113,14 +114,16 @@ def base_of(path):
     return None
 
 
-def lines_of(path, addresses):
+def lines_of(path, addresses, reader="addr2line"):
     """For each address its calls, innermost first, as function, file and line, where one is known. Each is asked for twice: the first
     answer gives an inlined function that has no linker's name that of the function around it."""
     found = defaultdict(list)
-    lines = iter(output_of(["addr2line", "-a", "-f", "-i", "-C", "-e", path], "".join(f"0x{address:x}\n" * 2 for address in addresses)).splitlines())
+    told = output_of([reader, "-a", "-f", "-i", "-C", "-e", path], "".join(f"0x{address:x}\n" * 2 for address in addresses))
+    # Some names of C++ are told by binutils alone.
+    lines = iter((output_of(["c++filt"], told) if reader == LLVM else told).splitlines())
     address = None
     for line in lines:
-        if re.fullmatch(r"0x[0-9a-f]{8,16}", line):
+        if re.fullmatch(r"0x[0-9a-f]+", line):
             address = int(line, 16)
             found.pop(address, None)
             continue
@@ -233,6 +236,9 @@ class Module:
         has_table = has_line_table(self.path)
         # To be asked of each address takes long where no line can be found.
         lines = lines_of(self.path, addresses) if has_table or has_debug_file(self.path) else {}
+        # Binutils can't read what `-gsplit-dwarf` has put into files of its own.
+        if has_table and not lines and shutil.which(LLVM):
+            lines = lines_of(self.path, addresses, LLVM)
         debug_file = None if lines or has_table else debug_file_of(self.path)
         return lines_of(debug_file, addresses) if debug_file else lines
 
