@@ -1,9 +1,9 @@
 """Stacks as they are told: the program's own calls, and those of the standard library between them as one."""
 import re
-from itertools import dropwhile, groupby
+from itertools import groupby
 
 # What C++ calls for memory, where a program has it in itself.
-FOR_MEMORY = re.compile(r"operator new(?:\[\])?")
+FOR_MEMORY = "operator new"
 # A plain name of an inlined function of C++, which binutils tells without its namespace.
 IN_STD = re.compile(r".*/include/(?:[-\w.]+/)?c\+\+/"), re.compile(r"\w+")
 
@@ -32,7 +32,10 @@ def folded(calls):
 
 def without_new(calls):
     """Calls behind the `operator new` of a program that has the standard library of C++ in itself."""
-    return [*dropwhile(lambda call: call.is_standard and FOR_MEMORY.fullmatch(call.function), calls)] or calls
+    at = 0
+    while at + 1 < len(calls) and calls[at].function.startswith(FOR_MEMORY) and calls[at].is_standard:
+        at += 1
+    return calls[at:]
 
 
 def told_calls(calls, all_frames=False, paths=False):
