@@ -155,7 +155,7 @@ class Functions:
 
     def __init__(self, stacks, locations, named):
         self.frames = {location: stacks.frames(text_of(location)) or frames_of(text_of(location)) for location in locations if location}
-        self.whole = {location: os.fsencode(stacks.whole(text_of(location))) for location in locations}
+        self.stacks = stacks
         self.names = Names({frame for frames in self.frames.values() for frame in frames}) if named else None
         self.calls = {tuple(frames): calls_of(self.names, frames) for frames in self.frames.values() if self.is_named(frames)}
         self.tell_by(locations, general_functions(self.calls.values()))
@@ -177,7 +177,7 @@ class Functions:
         """What is told of a location; sites of the same calls share it."""
         frames = self.frames.get(location, [])
         if not self.is_named(frames):
-            return plain_site(self.whole[location])
+            return plain_site(os.fsencode(self.stacks.whole(text_of(location))))
         key = tuple(frames)
         if key not in told:
             calls = self.calls[key]

@@ -89,8 +89,13 @@ class Call:
         return bool(STANDARD_MODULE.match(os.path.basename(self.module))
                     or (STANDARD_FILE.match(self.file) if self.file else STANDARD_NAME.match(self.function)))
 
-    def told(self, paths=False):
+    @cached_property
+    def briefly(self):
         """`grow shop.cc:14`, `strdup+0x1a libc.so.6`, or `libz.so.1:[0x7f]`."""
+        return self.told(paths=False)
+
+    def told(self, paths):
+        """The same, or with the file's whole path."""
         if self.file:
             place = (self.file if paths else os.path.basename(self.file)) + (f":{self.line}" if self.line else "")
             return f"{self.function} {place}" if self.function else place

@@ -27,7 +27,7 @@ def folded(calls):
     named = next((call for call in reversed(calls) if call.function), calls[-1])
     of_cxx, plain = IN_STD
     space = "std::" if of_cxx.match(named.file) and plain.fullmatch(named.function) else ""
-    return f"{space}{named.function or named.told()} .."
+    return f"{space}{named.function or named.briefly} .."
 
 
 def without_new(calls):
@@ -38,12 +38,17 @@ def without_new(calls):
     return calls[at:]
 
 
+def one_call(call, paths):
+    """A call as it is told."""
+    return call.told(paths) if paths else call.briefly
+
+
 def told_calls(calls, all_frames=False, paths=False):
     """A stack's calls as they are told, innermost first."""
     if all_frames or all(call.is_standard for call in calls):
-        return [call.told(paths) for call in calls]
+        return [one_call(call, paths) for call in calls]
     told = []
     for is_standard, group in groupby(without_start(without_new(calls)), lambda call: call.is_standard):
         run = list(group)
-        told += [folded(run)] if is_standard and len(run) > 1 else [call.told(paths) for call in run]
+        told += [folded(run)] if is_standard and len(run) > 1 else [one_call(call, paths) for call in run]
     return told
