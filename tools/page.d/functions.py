@@ -4,7 +4,7 @@ import re
 from collections import defaultdict
 from dataclasses import dataclass
 from functools import lru_cache
-from itertools import takewhile
+from itertools import chain, takewhile
 
 from names import OPERATOR, Names, end_of_type, told_bare
 from stacks import frames_of, text_of
@@ -80,26 +80,31 @@ class Site:
     briefs: tuple
 
 
-def own_call(calls, general=frozenset()):
+def own_calls(calls):
+    """The calls of the program's own code."""
+    return [call for call in calls if not call.is_standard]
+
+
+def own_call(calls, own, general=frozenset()):
     """The first call of the program's own code that doesn't only ask for memory, by its name or, where it has none, since many functions
     call it; else the first of its own, or of all. Where it has no name it is the next of its module that has one, if there is one."""
-    own = [call for call in calls if not call.is_standard]
-    found = [call for call in own if (call.module, call.start) not in general and not (call.function and only_allocates(call.function))]
-    first = (found or own or calls)[0]
-    same = takewhile(lambda call: call.module == first.module, found)
+    found = (call for call in own if (call.module, call.start) not in general and not (call.function and only_allocates(call.function)))
+    first = next(found, None)
+    if first is None:
+        return (own or calls)[0]
+    same = takewhile(lambda call: call.module == first.module, chain([first], found))
     return next((call for call in same if call.function or call.file), first)
 
 
 def general_functions(stacks):
     """Functions without a name that many others call for memory, as xmalloc of a program whose names are stripped: by module and begin.
     Those that call it are looked for one and two calls above it."""
-    general = set()
+    general, both = set(), [(calls, own) for calls in stacks if (own := own_calls(calls))]
     for _ in range(MOST_WRAPPERS):
         above = defaultdict(set)
-        for calls in stacks:
-            own = [call for call in calls if not call.is_standard]
-            at = next((at for at, call in enumerate(own) if call == own_call(calls, general)), 0)
-            if own and own[at].start and not own[at].function:
+        for calls, own in both:
+            at = own.index(own_call(calls, own, general))
+            if own[at].start and not own[at].function:
                 key = own[at].module, own[at].start
                 above[key].update((call.module, call.start) for call in own[at + 1:at + 3] if (call.module, call.start) != key)
         found = {key for key, callers in above.items() if len(callers) >= MANY_CALLERS}
@@ -150,7 +155,7 @@ class Functions:
 
     def __init__(self, stacks, locations, named):
         self.frames = {location: stacks.frames(text_of(location)) or frames_of(text_of(location)) for location in locations if location}
-        self.whole = {location: os.fsencode(stacks.whole(text_of(location))) for location in locations}
+        self.stacks = stacks
         self.names = Names({frame for frames in self.frames.values() for frame in frames}) if named else None
         self.calls = {tuple(frames): calls_of(self.names, frames) for frames in self.frames.values() if self.is_named(frames)}
         self.tell_by(locations, general_functions(self.calls.values()))
@@ -172,11 +177,11 @@ class Functions:
         """What is told of a location; sites of the same calls share it."""
         frames = self.frames.get(location, [])
         if not self.is_named(frames):
-            return plain_site(self.whole[location])
+            return plain_site(os.fsencode(self.stacks.whole(text_of(location))))
         key = tuple(frames)
         if key not in told:
             calls = self.calls[key]
-            call = own_call(calls, self.general)
+            call = own_call(calls, own_calls(calls), self.general)
             names = tuple(told_text(name) for name in told_calls(calls))
             told[key] = Site(function_of(call), call.line, names, tuple(map(brief_frame, names)))
         return told[key]

@@ -15,12 +15,13 @@ from stacks import path_of
 
 # Libraries whose frames are of the standard library, whatever they are called.
 STANDARD_MODULE = re.compile(r"(?:libc|libm|libdl|librt|libpthread|libstdc\+\+|libc\+\+|libc\+\+abi|libgcc_s|ld|ld-linux[-\w]*)[-.\d]*\.so")
-STANDARD_FILE = re.compile(r"/usr/(?:lib/llvm[^/]*/)?include/c\+\+/|/rustc/|/rust/deps/|.*/rustlib/src/rust/library/|library/(?:alloc|core|std)/src/")
-STANDARD_NAME = re.compile(r"(?:std|core|alloc|hashbrown|__gnu_cxx|__cxxabiv1)::|operator (?:new|delete)\b|__rust_|__rdl_|__rustc|"
+STANDARD_FILE = re.compile(r".*/include/(?:[-\w.]+/)?c\+\+/v?\d|/rustc/|/rust/deps/|.*/rustlib/src/rust/library/|library/(?:alloc|core|std)/src/")
+STANDARD_NAME = re.compile(r"execute_native_thread_routine$|(?:std|core|alloc|hashbrown|__gnu_cxx|__cxxabiv1)::|operator (?:new|delete)\b|__rust_|__rdl_|__rustc|"
                            r"<[^ :]* as (?:std|core|alloc)::|<[&*\[]*(?:mut )?(?:std|core|alloc|hashbrown)::")
 CLONE = re.compile(r" \[clone [^\]]*\]|\[abi:\w+\]|::h[0-9a-f]{16}$|(?<=\w)\[[0-9a-f]{16}\]|(?:\.(?:constprop|isra|part|cold|llvm|lto_priv|localalias)(?:\.\d+)*)+$")
 OPERATOR = re.compile(r"operator *(?:<=>|<<=|>>=|->\*|<<|>>|<=|>=|->|\(\)|<|>)")
 LINE = re.compile(r"(.*):(\d+|\?)(?: \(discriminator \d+\))?", re.S)
+LLVM = "llvm-addr2line"
 # The most files without lines that are named.
 MOST_BARE = 4
 
@@ -88,8 +89,13 @@ class Call:
         return bool(STANDARD_MODULE.match(os.path.basename(self.module))
                     or (STANDARD_FILE.match(self.file) if self.file else STANDARD_NAME.match(self.function)))
 
-    def told(self, paths=False):
+    @cached_property
+    def briefly(self):
         """`grow shop.cc:14`, `strdup+0x1a libc.so.6`, or `libz.so.1:[0x7f]`."""
+        return self.told(paths=False)
+
+    def told(self, paths):
+        """The same, or with the file's whole path."""
         if self.file:
             place = (self.file if paths else os.path.basename(self.file)) + (f":{self.line}" if self.line else "")
             return f"{self.function} {place}" if self.function else place
@@ -113,14 +119,16 @@ def base_of(path):
     return None
 
 
-def lines_of(path, addresses):
+def lines_of(path, addresses, reader="addr2line"):
     """For each address its calls, innermost first, as function, file and line, where one is known. Each is asked for twice: the first
     answer gives an inlined function that has no linker's name that of the function around it."""
     found = defaultdict(list)
-    lines = iter(output_of(["addr2line", "-a", "-f", "-i", "-C", "-e", path], "".join(f"0x{address:x}\n" * 2 for address in addresses)).splitlines())
+    told = output_of([reader, "-a", "-f", "-i", "-C", "-e", path], "".join(f"0x{address:x}\n" * 2 for address in addresses))
+    # Some names of C++ are told by binutils alone.
+    lines = iter((output_of(["c++filt"], told) if reader == LLVM else told).splitlines())
     address = None
     for line in lines:
-        if re.fullmatch(r"0x[0-9a-f]{8,16}", line):
+        if re.fullmatch(r"0x[0-9a-f]+", line):
             address = int(line, 16)
             found.pop(address, None)
             continue
@@ -233,6 +241,9 @@ class Module:
         has_table = has_line_table(self.path)
         # To be asked of each address takes long where no line can be found.
         lines = lines_of(self.path, addresses) if has_table or has_debug_file(self.path) else {}
+        # Binutils can't read what `-gsplit-dwarf` has put into files of its own.
+        if has_table and not lines and shutil.which(LLVM):
+            lines = lines_of(self.path, addresses, LLVM)
         debug_file = None if lines or has_table else debug_file_of(self.path)
         return lines_of(debug_file, addresses) if debug_file else lines
 

@@ -1,5 +1,11 @@
 """Stacks as they are told: the program's own calls, and those of the standard library between them as one."""
+import re
 from itertools import groupby
+
+# What C++ calls for memory, where a program has it in itself.
+FOR_MEMORY = "operator new"
+# A plain name of an inlined function of C++, which binutils tells without its namespace.
+IN_STD = re.compile(r".*/include/(?:[-\w.]+/)?c\+\+/"), re.compile(r"\w+")
 
 
 def calls_of(names, frames):
@@ -19,15 +25,30 @@ def without_start(calls):
 def folded(calls):
     """Calls of the standard library as one: that which the program called."""
     named = next((call for call in reversed(calls) if call.function), calls[-1])
-    return f"{named.function or named.told()} .."
+    of_cxx, plain = IN_STD
+    space = "std::" if of_cxx.match(named.file) and plain.fullmatch(named.function) else ""
+    return f"{space}{named.function or named.briefly} .."
+
+
+def without_new(calls):
+    """Calls behind the `operator new` of a program that has the standard library of C++ in itself."""
+    at = 0
+    while at + 1 < len(calls) and calls[at].function.startswith(FOR_MEMORY) and calls[at].is_standard:
+        at += 1
+    return calls[at:]
+
+
+def one_call(call, paths):
+    """A call as it is told."""
+    return call.told(paths) if paths else call.briefly
 
 
 def told_calls(calls, all_frames=False, paths=False):
     """A stack's calls as they are told, innermost first."""
     if all_frames or all(call.is_standard for call in calls):
-        return [call.told(paths) for call in calls]
+        return [one_call(call, paths) for call in calls]
     told = []
-    for is_standard, group in groupby(without_start(calls), lambda call: call.is_standard):
+    for is_standard, group in groupby(without_start(without_new(calls)), lambda call: call.is_standard):
         run = list(group)
-        told += [folded(run)] if is_standard and len(run) > 1 else [call.told(paths) for call in run]
+        told += [folded(run)] if is_standard and len(run) > 1 else [one_call(call, paths) for call in run]
     return told
