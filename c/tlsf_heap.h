@@ -45,7 +45,7 @@
 extern "C" {
 #endif
 
-#define TLSF_HEAP_VERSION "1.0.0"
+#define TLSF_HEAP_VERSION "1.1.0"
 
 /* Limits: places and sizes are multiples of the unit. The others are the greatest block and pool,
  * and the most pools and records of a heap. tlsf_heap_malloc serves up to 1,056,964,608 bytes,

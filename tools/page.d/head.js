@@ -147,6 +147,11 @@ function notFreedWords(groups) {
   return PARTS.map((name, part) => partWords(name, data.lost[part], greatest(apart, part))).join(" ");
 }
 
+// Where nothing is held at the end. A log without a block is no sign that nothing leaks: the program may have its own malloc.
+function noneHeldWords() {
+  return data.head.sites ? "Nothing: no memory leaks." : "Nothing is known: no line of the log asks for memory.";
+}
+
 // The head's lines, each with its name, by the groups that are chosen.
 function headLines() {
   const groups = grouped(totalRows, data.totals), atPeak = data.points[data.peak], atEnd = data.points[data.points.length - 1];
@@ -154,8 +159,7 @@ function headLines() {
   return [
     ["Read", readWords()],
     ["Peak", `${counted(atPeak[1], "byte")} in ${counted(atPeak[2], "block")}, after line ${told(atPeak[0])}${holders}.`],
-    ["Not freed", atEnd[2] ? `${counted(atEnd[1], "byte")} in ${counted(atEnd[2], "block")}. ${notFreedWords(groups)}`
-      : "Nothing: no memory leaks."],
+    ["Not freed", atEnd[2] ? `${counted(atEnd[1], "byte")} in ${counted(atEnd[2], "block")}. ${notFreedWords(groups)}` : noneHeldWords()],
     ["Grows steadily", growsSteadily(seriesOf())],
     ["Pools to give", poolWords()],
   ];

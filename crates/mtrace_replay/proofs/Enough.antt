@@ -8,4 +8,5 @@ pub mod OneSizeLog
 pub mod OneSizeRows
 pub mod SurePool
 pub mod UnrefusedLemmas
+pub mod UnrefusedTexts
 pub mod VerdictLemmas

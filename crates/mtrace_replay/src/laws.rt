@@ -25,7 +25,10 @@ ghost use Rattle.mtrace_replay.specs.declared.heap.totals.Totals.{Totals};
 ghost use Rattle.mtrace_replay.specs.Totals.{first_moments, AreTotals, IsMost};
 ghost use Rattle.mtrace_replay.specs.declared.no_heap.replay.LedgerTotals.{LedgerTotals};
 ghost use Rattle.mtrace_replay.specs.Served.{served_history, served_diagnostics, without_places};
-ghost use Rattle.mtrace_replay.specs.RunServed.{AreServedTotals};
+ghost use Rattle.mtrace_replay.specs.declared.runs.report.Report.TheVariants as Report;
+ghost use Rattle.mtrace_replay.specs.Run.{whole_text};
+ghost use Rattle.mtrace_replay.specs.RunSites.{TellsSites};
+ghost use Rattle.mtrace_replay.specs.RunServed.{AreServedTotals, TellsHeld, TellsServedSites, whole_served};
 ghost use Rattle.mtrace_replay.specs.declared.no_heap.point.LedgerPoint.{LedgerPoint};
 ghost use Rattle.mtrace_replay.specs.ServedTimeline.{IsLedgerPoint, IsPointOfLines};
 ghost use Rattle.mtrace_replay.specs.declared.heap.point.Point.{Point};
@@ -120,6 +123,14 @@ pub fn unrefused_is_served()
     ensures points { (settings : Settings) (lines : List ReadLine) (many : ℕ) (point : Point) (other : LedgerPoint) → refusals settings lines ≡ 0
         → IsPoint (started settings) (history settings (take many lines)) point → IsPointOfLines (take many lines) other
         → (other.bytes ≡ point.bytes) × (other.blocks ≡ point.blocks) }
+{}
+
+/// So such a log has one text, with the heap and without: the report of leaks behind its diagnostics, and the sites.
+pub fn one_text_where_unrefused()
+    ensures leaks { (settings : Settings) (lines : List ReadLine) (all : List Given) (totals : Totals) (text : List ℕ) → refusals settings lines ≡ 0
+        → AreHeld all (history settings lines) → TellsHeld lines text → whole_served lines text ≡ whole_text Report.Leaks settings lines all totals }
+    ensures sites { (settings : Settings) (lines : List ReadLine) (whole : List ℕ) (end left : Bytes) (text other : List ℕ) → refusals settings lines ≡ 0
+        → HasReadAll (Some whole) end lines → TellsSites settings lines (Some whole) left text → TellsServedSites lines other → other ≡ text }
 {}
 
 /// A log that one heap refuses nothing is refused nothing on its sure pool, where four things hold there. After any number of its

@@ -15,7 +15,7 @@ use tlsf_class::{GREATEST_SIZE, UNIT};
 const NAME: &str = "tlsf";
 
 /// The program's version.
-const VERSION: &str = "1.0.0";
+const VERSION: &str = "1.1.0";
 
 /// What `tlsf` is for.
 const ABOUT: &str =
