@@ -91,8 +91,8 @@ static size_t taken(uintptr_t own, uint32_t records)
     return part + skipped(own + part) + TLSF_HEAP_TABLE_BYTES(records);
 }
 
-/* The mark is the sum of the control part's words, each times an odd number of its own. So a word
- * that changes shows. The live blocks and their bytes aren't in it: a check counts them again. */
+/* The mark is a sum of the number of records and of the words in front of the live figures, each
+ * times an odd number of its own. So a word that changes shows. */
 #define WORD sizeof(size_t)
 #define ODD 0x9e3779b97f4a7c15u
 static inline uint64_t times(size_t at)
@@ -100,34 +100,16 @@ static inline uint64_t times(size_t at)
     uint64_t number = (at / WORD + 1u) * ODD;
     return (number ^ (number >> 32u)) | 1u;
 }
-static uint64_t sum_of(const struct control *control, size_t from, size_t to)
+static uint64_t mark_of(const struct control *control)
 {
     size_t word = 0;
-    uint64_t sum = 0;
-    for (size_t at = from; at < to; at += WORD) {
+    size_t live = offsetof(struct control, at.live);
+    uint64_t sum = ODD * control->records;
+    for (size_t at = 0; at < live; at += WORD) {
         (void)__builtin_memcpy(&word, (const unsigned char *)control + at, WORD);
         sum += times(at) * word;
     }
     return sum;
-}
-static uint64_t mark_of(const struct control *control)
-{
-    size_t live = offsetof(struct control, at.live);
-    return sum_of(control, 0, live)
-           + sum_of(control, offsetof(struct control, at.live.most_bytes),
-                    offsetof(struct control, at.live.blocks))
-           + sum_of(control, live + sizeof control->at.live, offsetof(struct control, mark));
-}
-
-/* The most live bytes were `before`, when the mark was made. */
-static inline void mark_most(struct control *control, uint64_t before)
-{
-    size_t at = offsetof(struct control, at.live.most_bytes);
-    uint64_t most = control->at.live.most_bytes;
-    if (most != before) {
-        uint64_t above = WORD < sizeof most ? (most >> 32u) - (before >> 32u) : 0u;
-        control->mark += times(at) * ((size_t)most - (size_t)before) + times(at + WORD) * above;
-    }
 }
 
 /* Whether these bytes are none of the heap's own. */
@@ -238,12 +220,11 @@ size_t tlsf_live_size(tlsf_t tlsf, const void *ptr)
 /* A freed block's front tells none. */
 size_t tlsf_block_size(void *ptr)
 {
-    uint64_t word = 0;
-    bool may_be = ptr != NULL && (uintptr_t)ptr % UNIT == 0u;
-    if (may_be) {
+    uint64_t word = (uintptr_t)ptr;
+    if (ptr != NULL && (uintptr_t)ptr % UNIT == 0u) {
         (void)__builtin_memcpy(&word, (const unsigned char *)ptr - FRONT, FRONT);
     }
-    return may_be ? (size_t)tlsf_placed_told_size((uintptr_t)ptr, word) : 0u;
+    return (size_t)tlsf_placed_told_size((uintptr_t)ptr, word);
 }
 
 /* Counts what is refused, and tells it. */
@@ -286,13 +267,13 @@ RARE static void *refuse_bytes(struct control *control, enum tlsf_status status,
 
 /* The pointer to a new block at the address, or the refusal that its word tells. */
 static inline void *hand_out(struct control *control, uintptr_t address, uint64_t word,
-                             uint64_t most, size_t bytes)
+                             size_t bytes)
 {
     if (address == 0u) {
         return refuse_bytes(control, (enum tlsf_status)word, NULL, bytes);
     }
     write_front(address, word);
-    mark_most(control, most);
+    control->most = (uint32_t)control->at.live.most_bytes;
     return (void *)address;
 }
 
@@ -304,9 +285,8 @@ void *tlsf_malloc(tlsf_t tlsf, size_t bytes)
     if (control == NULL || bytes == 0u) {
         return NULL;
     }
-    uint64_t most = control->at.live.most_bytes;
     uintptr_t address = (uintptr_t)tlsf_placed_malloc(&control->at, bytes, &word);
-    return hand_out(control, address, word, most, bytes);
+    return hand_out(control, address, word, bytes);
 }
 
 void *tlsf_memalign(tlsf_t tlsf, size_t align, size_t bytes)
@@ -321,11 +301,10 @@ void *tlsf_memalign(tlsf_t tlsf, size_t align, size_t bytes)
     if (control == NULL) {
         return NULL;
     }
-    uint64_t most = control->at.live.most_bytes;
     if (align <= TLSF_MOST_ALIGN) {
         address = (uintptr_t)tlsf_placed_memalign(&control->at, align, bytes, &word);
     }
-    return hand_out(control, address, word, most, bytes);
+    return hand_out(control, address, word, bytes);
 }
 
 void tlsf_free(tlsf_t tlsf, void *ptr)
@@ -348,7 +327,6 @@ void tlsf_free(tlsf_t tlsf, void *ptr)
  * old one's bytes before the next call. */
 static void *resize(struct control *control, void *ptr, size_t size)
 {
-    uint64_t most = control->at.live.most_bytes;
     uint64_t front = 0;
     uint64_t copied = 0;
     if (!read_front(control, ptr, &front)) {
@@ -364,7 +342,7 @@ static void *resize(struct control *control, void *ptr, size_t size)
     }
     write_front((uintptr_t)ptr, (uintptr_t)ptr);
     write_front(address, word);
-    mark_most(control, most);
+    control->most = (uint32_t)control->at.live.most_bytes;
     return copied == 0u ? ptr : memcpy((void *)address, ptr, (size_t)copied);
 }
 
@@ -496,10 +474,9 @@ static void count_block(void *ptr, size_t size, int used, void *user)
     struct counts *counts = (struct counts *)user;
     counts->bytes += size + FRONT;
     if (used != 0) {
-        bool good = live_size(counts->control, ptr) == size && tlsf_block_size(ptr) == size;
         counts->blocks_live++;
         counts->bytes_live += size;
-        counts->faults += good ? 0 : 1;
+        counts->faults += live_size(counts->control, ptr) == size ? 0 : 1;
     }
 }
 
@@ -508,7 +485,8 @@ static void count_block(void *ptr, size_t size, int used, void *user)
 static int check(struct control *control, const struct pool *pool)
 {
     struct counts counts = {control, 0, 0, 0, 0};
-    if (control == NULL || control->mark != mark_of(control) || !tlsf_heap_check(&control->at.heap)) {
+    if (control == NULL || control->mark != mark_of(control)
+        || control->most != control->at.live.most_bytes || !tlsf_heap_check(&control->at.heap)) {
         return -1;
     }
     for (uint32_t k = 0; k < POOLS; k++) {

@@ -77,12 +77,13 @@ enum tlsf_status tlsf_placed_remove_pool(struct placed *heap, uint32_t entry);
 /* What stands at the start of the memory handed in, in front of the table. */
 struct control {
     uintptr_t magic;
-    struct placed at;
-    uint32_t records;
     size_t refusals[TLSF_REFUSALS];
     tlsf_refusal_hook hook;
     void *user;
-    uint64_t mark; /* a sum over it, but for what a check counts again */
+    struct placed at;
+    uint32_t most; /* the most live bytes once more: 32 bits tell them */
+    uint32_t records;
+    uint64_t mark; /* a sum over the records, and what stands in front of at.live */
 };
 
 typedef char control_is_told[sizeof(struct control) == TLSF_CONTROL_BYTES ? 1 : -1];
