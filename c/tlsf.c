@@ -1,8 +1,8 @@
 /* tlsf.c: the calls of Conte's tlsf over the proved heap of tlsf_heap.h. This file isn't proved.
  *
  * What is reckoned here is proved, in the calls of tlsf_front.h: they choose blocks, answer their
- * addresses, find the block that a pointer means, and keep the figures of what is live. This file
- * moves fronts and bytes, and finds room for a pool's places:
+ * addresses, find the block that a pointer means, find places for a pool, and keep the figures of
+ * what is live. This file moves fronts and bytes:
  *
  * - The control part, at the start of the memory handed in, keeps each pool's address and places. It
  *   ends with its mark, a sum over it. So tlsf_check tells a byte that is changed there, and reads
@@ -119,30 +119,23 @@ static bool is_foreign(const struct control *control, uintptr_t address, size_t 
     return address + bytes <= own || own + taken(own, control->records) <= address;
 }
 
-/* The places are the first that the heap takes: from 0 on, or behind some pool. */
 pool_t tlsf_add_pool(tlsf_t tlsf, void *mem, size_t bytes)
 {
     LOCKED(tlsf);
     struct control *control = control_of(tlsf);
-    size_t skip = skipped((uintptr_t)mem + FRONT), usable = (bytes - skip) / UNIT * UNIT;
-    uintptr_t address = (uintptr_t)mem + skip;
-    bool good = control != NULL && may_begin(mem) && bytes >= skip + UNIT
-                && bytes <= UINTPTR_MAX - (uintptr_t)mem;
-    good = good && is_foreign(control, address, usable);
-    for (uint32_t k = 0; good && k <= POOLS; k++) {
-        struct placed *at = &control->at;
-        const struct pool *last = &at->pools[k == 0u ? 0u : k - 1u];
-        uint64_t from = k == 0u ? 0u : last->place + last->reach + FRONT;
-        uint64_t place = from + ((address + FRONT - from) & (TLSF_MOST_ALIGN - 1u));
-        uint32_t entry = 0;
-        if (tlsf_placed_add_pool(at, address + FRONT, usable, place, &entry) == TLSF_OK) {
-            at->pools[entry].control = control;
-            at->pools[entry].number = entry;
-            control->mark = mark_of(control);
-            return &at->pools[entry];
-        }
+    uintptr_t address = (uintptr_t)mem;
+    uint32_t entry = 0;
+    bool good = control != NULL && may_begin(mem) && bytes <= UINTPTR_MAX - address
+                && is_foreign(control, address, bytes);
+    if (!good
+        || tlsf_placed_add_pool(&control->at, address, bytes, TLSF_MOST_ALIGN, &entry) != TLSF_OK) {
+        return NULL;
     }
-    return NULL;
+    struct pool *pool = &control->at.pools[entry];
+    pool->control = control;
+    pool->number = entry;
+    control->mark = mark_of(control);
+    return pool;
 }
 
 void tlsf_remove_pool(tlsf_t tlsf, pool_t pool)

@@ -10,6 +10,7 @@ mod LiveChanges
 mod LoadLemmas
 mod PlacedLemmas
 mod PlacedVectors
+mod PlacesLeft
 mod RangesMoved
 mod RoomLemmas
 mod ReallocGives
