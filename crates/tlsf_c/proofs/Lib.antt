@@ -1,5 +1,6 @@
 -- Lemmas that several proofs share.
 mod Alike
+mod AnySlot
 mod EntriesMoved
 mod FewRows
 mod FilledRows
