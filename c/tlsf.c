@@ -289,14 +289,14 @@ void *tlsf_memalign(tlsf_t tlsf, size_t align, size_t bytes)
     }
     LOCKED(tlsf);
     struct control *control = control_of(tlsf);
-    uint64_t word = TLSF_BAD_ALIGN;
-    uintptr_t address = 0;
+    uint64_t word = 0;
     if (control == NULL) {
         return NULL;
     }
-    if (align <= TLSF_MOST_ALIGN) {
-        address = (uintptr_t)tlsf_placed_memalign(&control->at, align, bytes, &word);
+    if (align > TLSF_MOST_ALIGN) {
+        return refuse_bytes(control, TLSF_BAD_ALIGN, NULL, bytes);
     }
+    uintptr_t address = (uintptr_t)tlsf_placed_memalign(&control->at, align, bytes, &word);
     return hand_out(control, address, word, bytes);
 }
 
@@ -452,11 +452,10 @@ void tlsf_walk_pool(pool_t pool, tlsf_walker walker, void *user)
     }
 }
 
-/* What a check counts: the live blocks, their bytes, those of all blocks, and the faults. */
+/* What a check counts: what is live, the bytes of all blocks of a pool, and the faults. */
 struct counts {
     struct control *control;
-    size_t blocks_live;
-    size_t bytes_live;
+    struct live live;
     size_t bytes;
     int faults;
 };
@@ -467,8 +466,8 @@ static void count_block(void *ptr, size_t size, int used, void *user)
     struct counts *counts = (struct counts *)user;
     counts->bytes += size + FRONT;
     if (used != 0) {
-        counts->blocks_live++;
-        counts->bytes_live += size;
+        counts->live.blocks++;
+        counts->live.bytes += size;
         counts->faults += live_size(counts->control, ptr) == size ? 0 : 1;
     }
 }
@@ -477,7 +476,7 @@ static void count_block(void *ptr, size_t size, int used, void *user)
  * where the table is. */
 static int check(struct control *control, const struct pool *pool)
 {
-    struct counts counts = {control, 0, 0, 0, 0};
+    struct counts counts = {.control = control};
     if (control == NULL || control->mark != mark_of(control)
         || control->most != control->at.live.most_bytes || !tlsf_heap_check(&control->at.heap)) {
         return -1;
@@ -490,8 +489,8 @@ static int check(struct control *control, const struct pool *pool)
             counts.faults += counts.bytes == (own->reach == 0u ? 0u : own->reach + FRONT) ? 0 : 1;
         }
     }
-    bool counted = counts.blocks_live == control->at.live.blocks
-                   && counts.bytes_live == control->at.live.bytes;
+    bool counted = counts.live.blocks == control->at.live.blocks
+                   && counts.live.bytes == control->at.live.bytes;
     return pool == NULL && !counted ? -counts.faults - 1 : -counts.faults;
 }
 
