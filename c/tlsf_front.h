@@ -60,8 +60,8 @@ struct placed {
  * tlsf_placed_has answers whether the address lies in a pool with the eight bytes in front of it.
  * tlsf_placed_told_size answers the bytes behind the front that a word tells, and 0 where it is no word for
  * this address. tlsf_placed_add_pool adds a pool of all whole units in `bytes` bytes of memory, and
- * gives *entry the number of its entry. The pool's places are multiples of `align` where its addresses
- * are. It refuses a pool that overlaps another, or for which no places are left. */
+ * gives *entry the number of its entry. The pool's places and addresses are equal modulo `align`. It
+ * refuses a pool that overlaps another, or for which no places are left. */
 uint64_t tlsf_placed_malloc(struct placed *heap, uint64_t bytes, uint64_t *word);
 uint64_t tlsf_placed_memalign(struct placed *heap, uint64_t align, uint64_t bytes, uint64_t *word);
 enum tlsf_status tlsf_placed_free(struct placed *heap, uint64_t address, uint64_t word);

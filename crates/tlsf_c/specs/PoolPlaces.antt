@@ -16,7 +16,7 @@ first_in memory = (memory + front + 15) / 16 * 16
 abbrev pub bytes_in : (memory bytes : ℕ) → ℕ
 bytes_in memory bytes = (memory + bytes - (first_in memory - front)) / 16 * 16
 
--- the place is a multiple of the alignment where the address is
+-- the place and the address are equal modulo the alignment
 abbrev pub IsLike : (align address place : ℕ) → Type 0
 IsLike align address place = address % align ≡ place % align
 
@@ -29,7 +29,7 @@ pub record HasRoom (place bytes : ℕ) (pools : List PlacedPool) : Type 0 where
   pub ends : place + bytes ≤ 2 ^ 32
   pub beside : All (IsBeside place bytes) pools
 
--- the first place from another on that is a multiple of the alignment where the address is
+-- the first place from another on that equals the address modulo the alignment
 pub record IsNextLike (align address from place : ℕ) : Type 0 where
   pub behind : from ≤ place
   pub near : place < from + align

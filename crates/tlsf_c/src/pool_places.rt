@@ -11,7 +11,7 @@ use crate::placed_pool::PlacedPool;
 /// One more than the last place.
 const END_OF_PLACES: u64 = 1 << 32;
 
-/// The first place behind another that is a multiple of the alignment where the address is.
+/// The first place from another on that equals the address modulo the alignment.
 fn next_like(align: u64, address: u64, from: u64) -> u64
     requires is { is_alignment align ≡ true }
     requires low { from ≤ 2 ^ 33 }
@@ -46,7 +46,7 @@ fn has_room(pools: &[PlacedPool; 8], place: u64, bytes: u64) -> bool
     true
 }
 
-/// A place for a pool of so many bytes: a multiple of the alignment where the address is. No pool has these places.
+/// A place for a pool of so many bytes that equals the address modulo the alignment. No pool has these places.
 pub(crate) fn place_for(
     pools: &[PlacedPool; 8],
     align: u64,
