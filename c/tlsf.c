@@ -1,8 +1,8 @@
 /* tlsf.c: the calls of Conte's tlsf over the proved heap of tlsf_heap.h. This file isn't proved.
  *
  * What is reckoned here is proved, in the calls of tlsf_front.h: they choose blocks, answer their
- * addresses, find the block that a pointer means, and keep the figures of what is live. This file
- * moves fronts and bytes, and finds room for a pool's places:
+ * addresses, find the block that a pointer means, find places for a pool, and keep the figures of
+ * what is live. This file moves fronts and bytes:
  *
  * - The control part, at the start of the memory handed in, keeps each pool's address and places. It
  *   ends with its mark, a sum over it. So tlsf_check tells a byte that is changed there, and reads
@@ -91,8 +91,8 @@ static size_t taken(uintptr_t own, uint32_t records)
     return part + skipped(own + part) + TLSF_HEAP_TABLE_BYTES(records);
 }
 
-/* The mark is the sum of the control part's words, each times an odd number of its own. So a word
- * that changes shows. The live blocks and their bytes aren't in it: a check counts them again. */
+/* The mark is a sum of the number of records and of the words in front of the live figures, each
+ * times an odd number of its own. So a word that changes shows. */
 #define WORD sizeof(size_t)
 #define ODD 0x9e3779b97f4a7c15u
 static inline uint64_t times(size_t at)
@@ -100,34 +100,16 @@ static inline uint64_t times(size_t at)
     uint64_t number = (at / WORD + 1u) * ODD;
     return (number ^ (number >> 32u)) | 1u;
 }
-static uint64_t sum_of(const struct control *control, size_t from, size_t to)
+static uint64_t mark_of(const struct control *control)
 {
     size_t word = 0;
-    uint64_t sum = 0;
-    for (size_t at = from; at < to; at += WORD) {
+    size_t live = offsetof(struct control, at.live);
+    uint64_t sum = ODD * control->records;
+    for (size_t at = 0; at < live; at += WORD) {
         (void)__builtin_memcpy(&word, (const unsigned char *)control + at, WORD);
         sum += times(at) * word;
     }
     return sum;
-}
-static uint64_t mark_of(const struct control *control)
-{
-    size_t live = offsetof(struct control, at.live);
-    return sum_of(control, 0, live)
-           + sum_of(control, offsetof(struct control, at.live.most_bytes),
-                    offsetof(struct control, at.live.blocks))
-           + sum_of(control, live + sizeof control->at.live, offsetof(struct control, mark));
-}
-
-/* The most live bytes were `before`, when the mark was made. */
-static inline void mark_most(struct control *control, uint64_t before)
-{
-    size_t at = offsetof(struct control, at.live.most_bytes);
-    uint64_t most = control->at.live.most_bytes;
-    if (most != before) {
-        uint64_t above = WORD < sizeof most ? (most >> 32u) - (before >> 32u) : 0u;
-        control->mark += times(at) * ((size_t)most - (size_t)before) + times(at + WORD) * above;
-    }
 }
 
 /* Whether these bytes are none of the heap's own. */
@@ -137,30 +119,23 @@ static bool is_foreign(const struct control *control, uintptr_t address, size_t 
     return address + bytes <= own || own + taken(own, control->records) <= address;
 }
 
-/* The places are the first that the heap takes: from 0 on, or behind some pool. */
 pool_t tlsf_add_pool(tlsf_t tlsf, void *mem, size_t bytes)
 {
     LOCKED(tlsf);
     struct control *control = control_of(tlsf);
-    size_t skip = skipped((uintptr_t)mem + FRONT), usable = (bytes - skip) / UNIT * UNIT;
-    uintptr_t address = (uintptr_t)mem + skip;
-    bool good = control != NULL && may_begin(mem) && bytes >= skip + UNIT
-                && bytes <= UINTPTR_MAX - (uintptr_t)mem;
-    good = good && is_foreign(control, address, usable);
-    for (uint32_t k = 0; good && k <= POOLS; k++) {
-        struct placed *at = &control->at;
-        const struct pool *last = &at->pools[k == 0u ? 0u : k - 1u];
-        uint64_t from = k == 0u ? 0u : last->place + last->reach + FRONT;
-        uint64_t place = from + ((address + FRONT - from) & (TLSF_MOST_ALIGN - 1u));
-        uint32_t entry = 0;
-        if (tlsf_placed_add_pool(at, address + FRONT, usable, place, &entry) == TLSF_OK) {
-            at->pools[entry].control = control;
-            at->pools[entry].number = entry;
-            control->mark = mark_of(control);
-            return &at->pools[entry];
-        }
+    uintptr_t address = (uintptr_t)mem;
+    uint32_t entry = 0;
+    bool good = control != NULL && may_begin(mem) && bytes <= UINTPTR_MAX - address
+                && is_foreign(control, address, bytes);
+    if (!good
+        || tlsf_placed_add_pool(&control->at, address, bytes, TLSF_MOST_ALIGN, &entry) != TLSF_OK) {
+        return NULL;
     }
-    return NULL;
+    struct pool *pool = &control->at.pools[entry];
+    pool->control = control;
+    pool->number = entry;
+    control->mark = mark_of(control);
+    return pool;
 }
 
 void tlsf_remove_pool(tlsf_t tlsf, pool_t pool)
@@ -238,12 +213,11 @@ size_t tlsf_live_size(tlsf_t tlsf, const void *ptr)
 /* A freed block's front tells none. */
 size_t tlsf_block_size(void *ptr)
 {
-    uint64_t word = 0;
-    bool may_be = ptr != NULL && (uintptr_t)ptr % UNIT == 0u;
-    if (may_be) {
+    uint64_t word = (uintptr_t)ptr;
+    if (ptr != NULL && (uintptr_t)ptr % UNIT == 0u) {
         (void)__builtin_memcpy(&word, (const unsigned char *)ptr - FRONT, FRONT);
     }
-    return may_be ? (size_t)tlsf_placed_told_size((uintptr_t)ptr, word) : 0u;
+    return (size_t)tlsf_placed_told_size((uintptr_t)ptr, word);
 }
 
 /* Counts what is refused, and tells it. */
@@ -286,13 +260,13 @@ RARE static void *refuse_bytes(struct control *control, enum tlsf_status status,
 
 /* The pointer to a new block at the address, or the refusal that its word tells. */
 static inline void *hand_out(struct control *control, uintptr_t address, uint64_t word,
-                             uint64_t most, size_t bytes)
+                             size_t bytes)
 {
     if (address == 0u) {
         return refuse_bytes(control, (enum tlsf_status)word, NULL, bytes);
     }
     write_front(address, word);
-    mark_most(control, most);
+    control->most = (uint32_t)control->at.live.most_bytes;
     return (void *)address;
 }
 
@@ -304,9 +278,8 @@ void *tlsf_malloc(tlsf_t tlsf, size_t bytes)
     if (control == NULL || bytes == 0u) {
         return NULL;
     }
-    uint64_t most = control->at.live.most_bytes;
     uintptr_t address = (uintptr_t)tlsf_placed_malloc(&control->at, bytes, &word);
-    return hand_out(control, address, word, most, bytes);
+    return hand_out(control, address, word, bytes);
 }
 
 void *tlsf_memalign(tlsf_t tlsf, size_t align, size_t bytes)
@@ -316,16 +289,15 @@ void *tlsf_memalign(tlsf_t tlsf, size_t align, size_t bytes)
     }
     LOCKED(tlsf);
     struct control *control = control_of(tlsf);
-    uint64_t word = TLSF_BAD_ALIGN;
-    uintptr_t address = 0;
+    uint64_t word = 0;
     if (control == NULL) {
         return NULL;
     }
-    uint64_t most = control->at.live.most_bytes;
-    if (align <= TLSF_MOST_ALIGN) {
-        address = (uintptr_t)tlsf_placed_memalign(&control->at, align, bytes, &word);
+    if (align > TLSF_MOST_ALIGN) {
+        return refuse_bytes(control, TLSF_BAD_ALIGN, NULL, bytes);
     }
-    return hand_out(control, address, word, most, bytes);
+    uintptr_t address = (uintptr_t)tlsf_placed_memalign(&control->at, align, bytes, &word);
+    return hand_out(control, address, word, bytes);
 }
 
 void tlsf_free(tlsf_t tlsf, void *ptr)
@@ -348,7 +320,6 @@ void tlsf_free(tlsf_t tlsf, void *ptr)
  * old one's bytes before the next call. */
 static void *resize(struct control *control, void *ptr, size_t size)
 {
-    uint64_t most = control->at.live.most_bytes;
     uint64_t front = 0;
     uint64_t copied = 0;
     if (!read_front(control, ptr, &front)) {
@@ -364,7 +335,7 @@ static void *resize(struct control *control, void *ptr, size_t size)
     }
     write_front((uintptr_t)ptr, (uintptr_t)ptr);
     write_front(address, word);
-    mark_most(control, most);
+    control->most = (uint32_t)control->at.live.most_bytes;
     return copied == 0u ? ptr : memcpy((void *)address, ptr, (size_t)copied);
 }
 
@@ -481,11 +452,10 @@ void tlsf_walk_pool(pool_t pool, tlsf_walker walker, void *user)
     }
 }
 
-/* What a check counts: the live blocks, their bytes, those of all blocks, and the faults. */
+/* What a check counts: what is live, the bytes of all blocks of a pool, and the faults. */
 struct counts {
     struct control *control;
-    size_t blocks_live;
-    size_t bytes_live;
+    struct live live;
     size_t bytes;
     int faults;
 };
@@ -496,10 +466,9 @@ static void count_block(void *ptr, size_t size, int used, void *user)
     struct counts *counts = (struct counts *)user;
     counts->bytes += size + FRONT;
     if (used != 0) {
-        bool good = live_size(counts->control, ptr) == size && tlsf_block_size(ptr) == size;
-        counts->blocks_live++;
-        counts->bytes_live += size;
-        counts->faults += good ? 0 : 1;
+        counts->live.blocks++;
+        counts->live.bytes += size;
+        counts->faults += live_size(counts->control, ptr) == size ? 0 : 1;
     }
 }
 
@@ -507,8 +476,9 @@ static void count_block(void *ptr, size_t size, int used, void *user)
  * where the table is. */
 static int check(struct control *control, const struct pool *pool)
 {
-    struct counts counts = {control, 0, 0, 0, 0};
-    if (control == NULL || control->mark != mark_of(control) || !tlsf_heap_check(&control->at.heap)) {
+    struct counts counts = {.control = control};
+    if (control == NULL || control->mark != mark_of(control)
+        || control->most != control->at.live.most_bytes || !tlsf_heap_check(&control->at.heap)) {
         return -1;
     }
     for (uint32_t k = 0; k < POOLS; k++) {
@@ -519,8 +489,8 @@ static int check(struct control *control, const struct pool *pool)
             counts.faults += counts.bytes == (own->reach == 0u ? 0u : own->reach + FRONT) ? 0 : 1;
         }
     }
-    bool counted = counts.blocks_live == control->at.live.blocks
-                   && counts.bytes_live == control->at.live.bytes;
+    bool counted = counts.live.blocks == control->at.live.blocks
+                   && counts.live.bytes == control->at.live.bytes;
     return pool == NULL && !counted ? -counts.faults - 1 : -counts.faults;
 }
 

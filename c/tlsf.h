@@ -1,12 +1,11 @@
 /* tlsf.h: the calls of Matthew Conte's tlsf 3.1, by their names and signatures, over a proved heap.
  *
  * A program written for his library compiles unchanged against this header. docs/C.md has a table
- * of the differences. The heap below is proved, and so are the addresses of tlsf_malloc and
- * tlsf_free. The rest of tlsf.c isn't: the comment at its head says what it relies on. In short, a
- * pointer is a multiple of 16. A block has at most 1,073,741,800 bytes, and a heap has at most
- * eight pools. A call that can't be served answers a null pointer. A pointer that no live block has
- * is refused, and nothing changes. But a stale pointer can equal that of a later block. To free it
- * frees that block.
+ * of the differences. The heap below is proved, and so are blocks' addresses and pools' places. The
+ * rest of tlsf.c isn't: the comment at its head says what it relies on. In short, a pointer is a
+ * multiple of 16. A block has at most 1,073,741,800 bytes, and a heap has at most eight pools. A call
+ * that can't be served answers a null pointer. A pointer that no live block has is refused, and
+ * nothing changes. But a stale pointer can equal that of a later block. To free it frees that block.
  *
  * The heap takes no memory but what the program hands in, which begins at a multiple of 8. Until
  * the heap or the pool is gone, the program uses only its blocks in this memory. Only one call on a

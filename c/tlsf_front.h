@@ -59,9 +59,9 @@ struct placed {
  * is how many the program copies there. Where it is refused it answers 0, and *word is the status.
  * tlsf_placed_has answers whether the address lies in a pool with the eight bytes in front of it.
  * tlsf_placed_told_size answers the bytes behind the front that a word tells, and 0 where it is no word for
- * this address. tlsf_placed_add_pool adds a pool of `bytes` bytes, of which the eight in front of
- * `first` are the first, and gives *entry the number of its entry. It refuses one that overlaps
- * another. */
+ * this address. tlsf_placed_add_pool adds a pool of all whole units in `bytes` bytes of memory, and
+ * gives *entry the number of its entry. The pool's places and addresses are equal modulo `align`. It
+ * refuses a pool that overlaps another, or for which no places are left. */
 uint64_t tlsf_placed_malloc(struct placed *heap, uint64_t bytes, uint64_t *word);
 uint64_t tlsf_placed_memalign(struct placed *heap, uint64_t align, uint64_t bytes, uint64_t *word);
 enum tlsf_status tlsf_placed_free(struct placed *heap, uint64_t address, uint64_t word);
@@ -70,19 +70,20 @@ uint64_t tlsf_placed_realloc(struct placed *heap, uint64_t address, uint64_t byt
                              uint64_t *copied);
 bool tlsf_placed_has(const struct placed *heap, uint64_t address);
 uint64_t tlsf_placed_told_size(uint64_t address, uint64_t word);
-enum tlsf_status tlsf_placed_add_pool(struct placed *heap, uint64_t first, uint64_t bytes,
-                                      uint64_t place, uint32_t *entry);
+enum tlsf_status tlsf_placed_add_pool(struct placed *heap, uint64_t memory, uint64_t bytes,
+                                      uint64_t align, uint32_t *entry);
 enum tlsf_status tlsf_placed_remove_pool(struct placed *heap, uint32_t entry);
 
 /* What stands at the start of the memory handed in, in front of the table. */
 struct control {
     uintptr_t magic;
-    struct placed at;
-    uint32_t records;
     size_t refusals[TLSF_REFUSALS];
     tlsf_refusal_hook hook;
     void *user;
-    uint64_t mark; /* a sum over it, but for what a check counts again */
+    struct placed at;
+    uint32_t most; /* the most live bytes once more: 32 bits tell them */
+    uint32_t records;
+    uint64_t mark; /* a sum over the records, and what stands in front of at.live */
 };
 
 typedef char control_is_told[sizeof(struct control) == TLSF_CONTROL_BYTES ? 1 : -1];

@@ -1,5 +1,6 @@
 -- Lemmas that several proofs share.
 mod Alike
+mod AnySlot
 mod EntriesMoved
 mod FewRows
 mod FilledRows
@@ -10,6 +11,7 @@ mod LiveChanges
 mod LoadLemmas
 mod PlacedLemmas
 mod PlacedVectors
+mod PlacesLeft
 mod RangesMoved
 mod RoomLemmas
 mod ReallocGives

@@ -7,6 +7,7 @@ pub mod Lying
 pub mod Owned
 pub mod PlacedHeaps
 pub mod PlacedPools
+pub mod PoolPlaces
 pub mod RangeMoves
 pub mod Room
 pub mod Rows

@@ -68,11 +68,11 @@ pub record IsResizedAt (address word bytes address_now : ℕ) (pools : List Plac
   pub at : IsAt pool pointer.place address_now
   pub ends : address_now + bytes ≤ pool.first + pool.reach
 
--- No such block is live; or the heap refuses it these bytes and the front. A new block would have its slot.
+-- No such block is live; or the heap refuses it these bytes and the front, whatever slot a new block would have.
 abbrev pub IsRefusedFor : (address word bytes : ℕ) → List PlacedPool → Content ℕ → Refusal → Type 0
 IsRefusedFor address word bytes pools content refusal =
     ((IsLiveAt address word pools content → ⊥) × (refusal ≡ BadPointer))
-    ⊎ ((live : IsLiveAt address word pools content) × (realloc_ptr (Some (told_block live.place address word)) (bytes + front) (told_slot word address) content ≡ Err refusal))
+    ⊎ ((live : IsLiveAt address word pools content) × ((slot : ℕ) → realloc_ptr (Some (told_block live.place address word)) (bytes + front) slot content ≡ Err refusal))
 
 -- it is refused; the answer is the number of the refusal, and all is as it was
 pub record IsNotResized (address word bytes answer : ℕ) (pools : List PlacedPool) (old new : Counted) : Type 0 where

@@ -189,6 +189,7 @@ pub extern "C" fn tlsf_placed_free(heap: &mut PlacedHeap, address: u64, word: u6
     ensures freed { result ≡ 0 → IsFreedAt address word heap.old.pools heap.old.handle.value.content heap.new.handle.value.content }
     ensures refused { result ≢ 0 → result ≡ number BadPointer }
     ensures unchanged { result ≢ 0 → IsUnchanged heap.old.handle.value heap.new.handle.value }
+    ensures reads_one { result ≢ 0 → AtMost 1 heap.old.handle.value.touches heap.new.handle.value.touches }
     ensures pools { heap.new.pools ≡ heap.old.pools }
     ensures most { heap.new.figures.most_bytes ≡ max heap.old.figures.most_bytes heap.new.figures.bytes }
     ensures bound { AtMost (free_touches + 1) heap.old.handle.value.touches heap.new.handle.value.touches }

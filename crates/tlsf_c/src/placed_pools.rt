@@ -10,13 +10,11 @@ ghost use Rattle.tlsf_c.specs.PlacedPools.{IsPlaced, IsClearOf, CanBePlaced, IsE
 ghost use Rattle.tlsf_c.specs.RangeMoves.{IsRangeAdded, IsRangeRemoved};
 ghost use Rattle.tlsf_c.specs.Status.{number, status_of};
 
+use crate::placed_blocks::FRONT;
 use crate::placed_heap::PlacedHeap;
 use crate::placed_pool::PlacedPool;
 use crate::status::{SERVED, number};
 use tlsf_heap::{Heap, Refusal};
-
-/// The bytes in front of a block's address.
-const FRONT: u64 = 8;
 
 /// `Heap::add_pool`, and which ranges of places are pools then.
 fn enter(heap: &mut Heap, place: u64, bytes: u64) -> Result<(), Refusal>
@@ -93,8 +91,7 @@ fn can_be_placed(first: u64, bytes: u64) -> bool
 ///
 /// The status is 0 or the number of `BadPool`, `PoolsFull` or `TableFull`. It is that of `BadPool` also where the pool can't
 /// have that address, or overlaps another pool's bytes.
-#[unsafe(no_mangle)]
-pub extern "C" fn tlsf_placed_add_pool(
+pub(crate) fn add_pool_at(
     heap: &mut PlacedHeap,
     first: u64,
     bytes: u64,

@@ -10,6 +10,7 @@ use Rattle.tlsf_c.specs.Fronts.{front, told_slot, told_size}
 use Rattle.tlsf_c.specs.Lying.{LiesIn}
 use Rattle.tlsf_c.specs.declared.placed_pool.PlacedPool.{PlacedPool}
 use Rattle.tlsf_c.specs.PlacedHeaps.{told_block}
+use Rattle.tlsf_c.proofs.AnySlot.{refused_for_any}
 use Rattle.tlsf_c.proofs.PlacedLemmas.{lies_somewhere, ends_in_entry}
 use Rattle.tlsf_c.proofs.ResizedBlock.{found_live, grows_above}
 use Rattle.tlsf_c.proofs.placed_sizes.tlsf_placed_realloc.Goals as goal
@@ -29,7 +30,7 @@ returns-then-bytes-gt-MOST-clause-refused c = λ none.
     let live = found_live c.args.address c.args.word.now c.in-Some.block.ptr heap.pools heap.handle.value.content some.0 some.1 some.2 in
     record {
       refusal = NoFit;
-      refused = inr (live, grows_above (told_slot c.args.word.now c.args.address) (told_block live.place c.args.address c.args.word.now) c.args.bytes (told_size c.args.word.now c.args.address) heap.handle.value.content live.live (omega (arith, c.if-bytes-gt-MOST.true)));
+      refused = inr (live, λ slot. grows_above slot (told_block live.place c.args.address c.args.word.now) c.args.bytes (told_size c.args.word.now c.args.address) heap.handle.value.content live.live (omega (arith, c.if-bytes-gt-MOST.true)));
       number_is = search rules;
       unchanged = search rules;
     }
@@ -75,8 +76,9 @@ returns-in-Err-clause-refused c = λ none.
       refusal = why.0;
       refused = inr (
         live,
-        subst (λ (p : Pointer). realloc_ptr (Some p) (c.args.bytes + 8) p.slot content ≡ Err why.0) found.0
-            (subst (λ (k : Content ℕ). realloc_ptr (Some c.in-Some.block.ptr) (c.args.bytes + 8) c.in-Some.block.ptr.slot k ≡ Err why.0) same why.2),
+        refused_for_any (told_block live.place c.args.address c.args.word.now) (c.args.bytes + 8) (told_slot c.args.word.now c.args.address) content why.0
+            (subst (λ (p : Pointer). realloc_ptr (Some p) (c.args.bytes + 8) p.slot content ≡ Err why.0) found.0
+            (subst (λ (k : Content ℕ). realloc_ptr (Some c.in-Some.block.ptr) (c.args.bytes + 8) c.in-Some.block.ptr.slot k ≡ Err why.0) same why.2)),
       );
       number_is = c.from-in-Err.ensures ∙ why.1;
       unchanged = record { content = c.in-Err.ensures.unchanged.content ∙ same; rows = c.in-Err.ensures.unchanged.rows ∙ c.find.ensures.read.unchanged.rows };

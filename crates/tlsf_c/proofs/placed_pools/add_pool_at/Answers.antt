@@ -9,7 +9,7 @@ use Rattle.tlsf_c.specs.RangeMoves.{IsRangeAdded}
 use Rattle.tlsf_c.specs.LiveFigures.{IsLiveChange}
 use Rattle.tlsf_c.proofs.LiveChanges.{same_figures}
 use Rattle.tlsf_c.proofs.EntriesMoved.{apart_after, entries_added}
-use Rattle.tlsf_c.proofs.placed_pools.tlsf_placed_add_pool.Goals as goal
+use Rattle.tlsf_c.proofs.placed_pools.add_pool_at.Goals as goal
 
 -- the new pool is clear of the others, and begins where none of them does
 pub invariant_of-heap : goal.invariant_of-heap
