@@ -345,7 +345,7 @@ class Study {
 
   headData() {
     const at = this.limits && { at: this.functions.label(this.functionOf[this.reader.reading.largest.site]) };
-    return { sites: this.locations.length, kinds: this.kinds, refused: this.refused, firstRefused: this.firstRefused,
+    return { sites: this.locations.length, bare: "", kinds: this.kinds, refused: this.refused, firstRefused: this.firstRefused,
       limits: this.limits && { ...this.limits, ...at } };
   }
 

@@ -147,6 +147,12 @@ function notFreedWords(groups) {
   return PARTS.map((name, part) => partWords(name, data.lost[part], greatest(apart, part))).join(" ");
 }
 
+// Where programs have no lines their functions are told by place: a sentence says so, and what helps.
+function bareLines() {
+  const { bare } = data.head;
+  return bare ? [["Without lines", `${bare[0].toUpperCase()}${bare.slice(1)}.`]] : [];
+}
+
 // Where nothing is held at the end. A log without a block is no sign that nothing leaks: the program may have its own malloc.
 function noneHeldWords() {
   return data.head.sites ? "Nothing: no memory leaks." : "Nothing is known: no line of the log asks for memory.";
@@ -158,6 +164,7 @@ function headLines() {
   const holders = atPeak[1] ? `. ${greatest(groups, PLACES[0])}` : "";
   return [
     ["Read", readWords()],
+    ...bareLines(),
     ["Peak", `${counted(atPeak[1], "byte")} in ${counted(atPeak[2], "block")}, after line ${told(atPeak[0])}${holders}.`],
     ["Not freed", atEnd[2] ? `${counted(atEnd[1], "byte")} in ${counted(atEnd[2], "block")}. ${notFreedWords(groups)}` : noneHeldWords()],
     ["Grows steadily", growsSteadily(seriesOf())],

@@ -38,7 +38,7 @@ pub record Called : Type 0 where
 abbrev pub called_at : (Caller → ℕ) → Origin → List Caller → ℕ
 called_at measure p callers = sum_by (λ c. weigh p c.at (measure c)) callers
 
--- one origin has so many calls, bytes and temporary calls more, and no other has
+-- one origin has these calls, bytes and temporary calls more, and no other has
 pub record CountsMore (at : Origin) (calls bytes temporary : ℕ) (old new : Called) : Type 0 where
   pub calls_are : (p : Origin) → called_at (λ c. c.calls) p new.callers ≡ weigh p at calls + called_at (λ c. c.calls) p old.callers
   pub bytes_are : (p : Origin) → called_at (λ c. c.bytes) p new.callers ≡ weigh p at bytes + called_at (λ c. c.bytes) p old.callers

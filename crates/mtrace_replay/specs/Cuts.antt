@@ -50,7 +50,7 @@ pub record ArePartsIn (part : ℕ → ℕ → Part) (spans : List Span) : Type 0
   pub placed : All IsPlaced spans
   pub all : AreAll spans
 
--- of the cuts from a range on that make at most so many parts it is a least one; or there is none
+-- of the cuts from a range on that make at most `most` parts it is a least one; or there is none
 abbrev pub IsBest : (ℕ → ℕ → Part) → (most first : ℕ) → Option Cut → Type 0
 IsBest part most first None = (ends : List ℕ) → IsCut part first ends → length ends ≤ most → ⊥
 IsBest part most first (Some cut) = IsLeastCut part most first cut.ends.items × (cut.bytes ≡ cut_bytes part first cut.ends.items)

@@ -90,7 +90,7 @@ abbrev pub cut_cmp : (ℕ → ℕ → Part) → ℕ → List ℕ → List ℕ �
 cut_cmp part first one other =
     ordering_then (nat_cmp (cut_bytes part first one) (cut_bytes part first other)) (ordering_then (nat_cmp (length one) (length other)) (slice_cmp nat_cmp one other))
 
--- of all cuts that make at most so many parts none is less
+-- of all cuts that make at most `most` parts none is less
 pub record IsLeastCut (part : ℕ → ℕ → Part) (most first : ℕ) (ends : List ℕ) : Type 0 where
   pub cut : IsCut part first ends
   pub few : length ends ≤ most

@@ -46,7 +46,7 @@ pub record RunsThenParts (heaps : ℕ) (result : Result Status RunFault) (reader
   pub runs : RunsServed Nothing run reader_old reader_new writer_old writer_middle
   pub goes_on : PartsGoOn heaps run result reader_old reader_new writer_old writer_middle writer_new
 
--- What a run leaves that tells the heaps by size that serve a log, so many at most. Where there are no heaps, or more than eight,
+-- What a run leaves that tells at most `heaps` heaps by size that serve a log. Where there are no heaps, or more than eight,
 -- nothing is done; nor where memory is refused before the first line.
 pub record RunsParts {R W : Type 0} (heaps : ℕ) (reads : R → ReaderState) (writes : W → WriterState) (result : Result Status RunFault) (reader_old reader_new : R) (writer_old writer_new : W) : Type 0 where
   pub bad_heaps : is_bad_heaps heaps ≡ true → (result ≡ Err BadSettings) × NothingDone reader_old reader_new writer_old writer_new

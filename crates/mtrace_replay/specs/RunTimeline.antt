@@ -66,7 +66,7 @@ pub record HasPointsOf {P : Type 0} (line_of : P → ℕ) (Is : List ReadLine �
   pub told : map line_of points ≡ numbers
   pub exact : All (λ point. Is (take (line_of point) again) point) points
 
--- the same of points on a heap
+-- there is a point on a heap for each number, of the first of the lines read
 abbrev pub HasPoints : (settings : Settings) (numbers : List ℕ) (points : List Point) (whole left : Bytes) → Type 0
 HasPoints settings numbers points whole left =
     HasPointsOf (λ point. point.line) (λ first point. IsPoint (started settings) (history settings first) point) numbers points whole left

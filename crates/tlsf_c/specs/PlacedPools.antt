@@ -11,7 +11,7 @@ pub record IsPlaced (pool : PlacedPool) : Type 0 where
   pub place_in_units : pool.place % 16 ≡ 0
   pub first_in_units : pool.first % 16 ≡ 0
 
--- a pool of so many bytes can have its first block at this address
+-- a pool of this size, in bytes, can have its first block at this address
 pub record CanBePlaced (first bytes : ℕ) : Type 0 where
   pub in_units : first % 16 ≡ 0
   pub some : 16 ≤ first

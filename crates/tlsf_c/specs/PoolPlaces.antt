@@ -12,7 +12,7 @@ use Rattle.tlsf_c.specs.declared.placed_pool.PlacedPool.{PlacedPool}
 abbrev pub first_in : (memory : ℕ) → ℕ
 first_in memory = (memory + front + 15) / 16 * 16
 
--- the bytes of a pool in so many bytes of memory: whole units, from that front on
+-- the bytes of a pool in this memory: whole units, from that front on
 abbrev pub bytes_in : (memory bytes : ℕ) → ℕ
 bytes_in memory bytes = (memory + bytes - (first_in memory - front)) / 16 * 16
 
@@ -24,7 +24,7 @@ IsLike align address place = address % align ≡ place % align
 abbrev pub IsBeside : (place bytes : ℕ) → PlacedPool → Type 0
 IsBeside place bytes pool = 0 < pool.reach → (place + bytes ≤ pool.place) ⊎ (pool.place + pool.reach + front ≤ place)
 
--- so many places from this one on are no pool's
+-- the places from this one on, one for each of these bytes, are no pool's
 pub record HasRoom (place bytes : ℕ) (pools : List PlacedPool) : Type 0 where
   pub ends : place + bytes ≤ 2 ^ 32
   pub beside : All (IsBeside place bytes) pools

@@ -78,7 +78,7 @@ fn is_clear(pools: &[PlacedPool; 8], first: u64, reach: u64) -> bool
     true
 }
 
-/// Whether a pool of so many bytes can have its first block at this address.
+/// Whether a pool of this size, in bytes, can have its first block at this address.
 fn can_be_placed(first: u64, bytes: u64) -> bool
     ensures yes { result ≡ true → CanBePlaced first bytes }
     ensures no { result ≡ false → CanBePlaced first bytes → ⊥ }

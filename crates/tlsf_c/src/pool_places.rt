@@ -27,7 +27,7 @@ fn next_like(align: u64, address: u64, from: u64) -> u64
     }
 }
 
-/// Whether so many places from this one on are no pool's.
+/// Whether the places from this one on, one for each of these bytes, are no pool's.
 fn has_room(pools: &[PlacedPool; 8], place: u64, bytes: u64) -> bool
     requires placed { All IsPlaced pools.now }
     requires low { place ≤ 2 ^ 34 }
@@ -46,7 +46,7 @@ fn has_room(pools: &[PlacedPool; 8], place: u64, bytes: u64) -> bool
     true
 }
 
-/// A place for a pool of so many bytes that equals the address modulo the alignment. No pool has these places.
+/// A place for a pool of these bytes that equals the address modulo the alignment. No pool has its places.
 pub(crate) fn place_for(
     pools: &[PlacedPool; 8],
     align: u64,

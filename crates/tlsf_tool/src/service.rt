@@ -139,7 +139,7 @@ pub(crate) fn run_again<R: Again, W: Sink, T: Watch>(
     }
 }
 
-/// Tells which heaps by size serve the log that the reader has left, so many at most, by `run_fit_heaps`. Puts the line of a fault
+/// Tells which heaps by size serve the log that the reader has left, at most `heaps`, by `run_fit_heaps`. Puts the line of a fault
 /// to `errors`, whose own fault doesn't matter. Answers the status that the program ends with. It is 0 where nothing was found, 1
 /// where something was, and 2 for a bad number of heaps. It is 3 where the reader or the writer failed, and 4 where memory was
 /// refused.

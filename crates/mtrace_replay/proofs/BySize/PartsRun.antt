@@ -44,7 +44,7 @@ abbrev part_in_spans : List Span → ℕ → ℕ → Part
 part_in_spans [] first last = record { blocks = 0; size = 0 }
 part_in_spans (span ∷ spans) first last = if (span.first == first) && (span.last == last) then part_of span else part_in_spans spans first last
 
--- there is such a span
+-- a span has these ranges
 record HasPart (spans : List Span) (first last : ℕ) : Type 0 where
   span : Span
   has : Contains spans span

@@ -163,7 +163,7 @@ fn next_row(
     Ok(row)
 }
 
-/// The least cut of all ranges that makes at most so many parts.
+/// The least cut of all ranges that makes at most `most` parts.
 ///
 /// # Errors
 ///

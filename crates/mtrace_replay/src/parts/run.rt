@@ -50,7 +50,7 @@ fn parts_of(spans: &[Span], ends: &[u8]) -> ArrayVec<PartOf, 8>
     parts
 }
 
-/// Puts the heaps by size that serve the log, so many at most, behind its diagnostics. Answers this status.
+/// Puts the heaps by size that serve the log, at most this number, behind its diagnostics. Answers this status.
 fn tell_parts<W: Sink>(
     alloc: Global,
     writer: &mut W,

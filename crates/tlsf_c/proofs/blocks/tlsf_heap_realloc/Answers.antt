@@ -1,3 +1,4 @@
+-- The heap gives no block only for 0 bytes, so the status tells the rest.
 use Rattle.std.proofs.Common.{◌≡◌, Ok, Err, Option, Some, None, cond, ap, ◌∙◌, subst, sym}
 use Rattle.std.specs.Prelude.{◌==◌}
 use Rattle.tlsf_heap.specs.Counted.{Counted}

@@ -1,3 +1,4 @@
+-- Places are apart in a good content, and addresses as places.
 use Rattle.std.proofs.Common.{subst}
 use Rattle.tlsf_heap.specs.Counted.{Counted}
 use Rattle.tlsf_heap.specs.Good.{IsGood}

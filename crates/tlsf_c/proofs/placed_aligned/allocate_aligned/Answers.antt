@@ -1,3 +1,4 @@
+-- What a served memalign leaves of blocks and ranges.
 use Rattle.std.proofs.lemmas.Result.{IfOk-weaker}
 use Rattle.tlsf_c.proofs.GivenBlock.{aligned_given, given_size, given_lies, given_in_units}
 use Rattle.tlsf_c.proofs.LiveChanges.{given_change}

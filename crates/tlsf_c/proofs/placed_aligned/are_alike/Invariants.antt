@@ -1,3 +1,4 @@
+-- The entries so far lie alike.
 use Rattle.std.proofs.Common.{ℕ, ◌<◌, slice_index_or}
 use Rattle.tlsf_c.specs.declared.placed_pool.PlacedPool.{PlacedPool}
 use Rattle.tlsf_c.specs.PlacedPools.{IsAlike}

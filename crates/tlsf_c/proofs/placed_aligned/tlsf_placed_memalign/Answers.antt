@@ -1,3 +1,4 @@
+-- A place at the alignment has an address at the alignment where pools lie alike.
 use Rattle.std.proofs.Common.{rules, ◌+◌, ◌*◌, ◌/◌, map, sym, ◌∙◌, subst, arith}
 use Rattle.std.proofs.lemmas.List.Elements.{All-contains}
 use Rattle.tlsf_heap.specs.declared.refusal.Refusal.TheVariants.{ZeroSize, NoFit, BadAlign}

@@ -1,3 +1,4 @@
+-- What a served malloc leaves of blocks and ranges.
 use Rattle.tlsf_c.proofs.LiveChanges.{given_change}
 use Rattle.std.proofs.lemmas.Result.{IfOk-weaker}
 use Rattle.tlsf_c.proofs.GivenBlock.{or_own_given, given_size, given_lies, given_in_units}

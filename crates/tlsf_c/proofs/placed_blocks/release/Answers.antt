@@ -1,3 +1,4 @@
+-- What a served free leaves of blocks and ranges.
 use Rattle.tlsf_c.proofs.LiveChanges.{freed_change}
 use Rattle.std.proofs.Common.{◌≡◌, subst, IfOk}
 use Rattle.std.specs.Prelude.{◌==◌}

@@ -1,3 +1,4 @@
+-- Bytes that are too many are refused, and a block lies in a pool with its front.
 use Rattle.std.proofs.Common.{rules, ◌+◌, ◌*◌, ◌/◌, map, refl, ◌∙◌, subst, arith}
 use Rattle.tlsf_heap.specs.declared.refusal.Refusal.TheVariants.{ZeroSize, NoFit}
 use Rattle.tlsf_heap.specs.Counted.{Counted, range_of}

@@ -1,3 +1,4 @@
+-- No entry so far has the place.
 use Rattle.std.proofs.Common.{◌≡◌}
 use Rattle.std.specs.List.{AllWithin}
 use Rattle.tlsf_c.specs.PlacedPools.{HasPlace}

@@ -1,3 +1,4 @@
+-- The pool enters at the place found, or none has room.
 use Rattle.std.proofs.Common.{ℕ, ◌-◌, ◌*◌, ◌/◌, sym, subst, inl, inr}
 use Rattle.std.specs.List.{All}
 use Rattle.tlsf_c.specs.Fronts.{front}

@@ -1,3 +1,4 @@
+-- A pool more leaves the live blocks, and has its range.
 use Rattle.tlsf_c.proofs.LiveChanges.{added_change}
 use Rattle.std.proofs.lemmas.Result.{IfOk-weaker}
 use Rattle.tlsf_c.proofs.RangesMoved.{added_ranges}

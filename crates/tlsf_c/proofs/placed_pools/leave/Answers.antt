@@ -1,3 +1,4 @@
+-- A pool less leaves the live blocks, and loses its range.
 use Rattle.tlsf_c.proofs.LiveChanges.{removed_change}
 use Rattle.std.proofs.lemmas.Result.{IfOk-weaker}
 use Rattle.tlsf_c.proofs.RangesMoved.{removed_ranges}

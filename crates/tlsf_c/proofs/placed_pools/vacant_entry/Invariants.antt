@@ -1,3 +1,4 @@
+-- Each entry so far holds a pool.
 use Rattle.std.proofs.Common.{◌≡◌, ◌<◌}
 use Rattle.std.specs.List.{AllWithin}
 use Rattle.tlsf_c.proofs.placed_pools.vacant_entry.Given as goal

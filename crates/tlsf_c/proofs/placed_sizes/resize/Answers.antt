@@ -1,3 +1,4 @@
+-- The block that realloc leaves is live, and has the bytes.
 use Rattle.std.proofs.Common.{◌≡◌, ℕ, ◌%◌, map, Some, Ok, sym, ap, ◌∙◌, subst, arith}
 use Rattle.tlsf_heap.specs.Content.{Content}
 use Rattle.tlsf_heap.specs.Counted.{Counted, range_of}

@@ -1,3 +1,4 @@
+-- A refusal hangs on no slot, and a block lies in a pool with its front.
 use Rattle.std.specs.Prelude.{List, Contains}
 use Rattle.std.proofs.Common.{◌≡◌, ℕ, rules, ◌+◌, ◌-◌, min, map, Some, Err, inl, inr, refl, sym, ap, ◌∙◌, subst, arith}
 use Rattle.tlsf_heap.specs.declared.refusal.Refusal.TheVariants.{BadPointer, NoFit}

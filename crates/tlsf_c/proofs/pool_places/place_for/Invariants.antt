@@ -1,3 +1,4 @@
+-- No place behind an entry so far has room.
 use Rattle.std.proofs.Common.{◌≡◌}
 use Rattle.std.specs.List.{AllWithin}
 use Rattle.tlsf_c.specs.PoolPlaces.{IsFullBehind}

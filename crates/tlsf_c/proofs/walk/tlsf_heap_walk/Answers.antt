@@ -1,3 +1,4 @@
+-- No more rows are put than there is room for.
 use Rattle.std.proofs.Common.{ap, arith}
 use Rattle.tlsf_c.proofs.FewRows.{length_of, rows_few}
 use Rattle.tlsf_c.proofs.walk.tlsf_heap_walk.Goals as goal

@@ -4,7 +4,7 @@ use Rattle.mtrace_replay.specs.Parts.{size_ranges, Part}
 use Rattle.mtrace_replay.specs.Cuts.{IsSmall, ArePartsIn, AreBest}
 use Rattle.mtrace_replay.proofs.parts.cut.least_cut.Given as goal
 
--- the best cuts of so many parts are there
+-- the best cuts are there, of as many parts as the counter says
 abbrev pub invariant-loop-fewer : goal.invariant-loop-fewer
 invariant-loop-fewer l = record {
   best : (part : ℕ → ℕ → Part) → ArePartsIn part l.spans → AreBest part l._fewer l.row.items;
