@@ -53,14 +53,15 @@ function isSteady(lows) {
 // Whether a group holds at the end what it grew to.
 const keeps = ({ numbers }, lows) => numbers[numbers.length - 1] >= lows[EIGHTHS - 1];
 
-// What a group grew to, in words: at the end of the log, or until that end begins, where it is given back then.
+// What a group grew to, in words: at the end of the log, or until that end begins, where it holds less then.
 function growthWords(group, lows, end) {
   const { numbers } = group, atEnd = numbers[numbers.length - 1], early = `${group.told}: from ${counted(lows[0], "byte")} early on to`;
   if (keeps(group, lows)) return `${early} ${told(atEnd)} at the end`;
-  return `${early} ${told(numbers[end])} until line ${told(data.points[end][0])}, then given back: ${told(atEnd)} at the end`;
+  return `${early} ${told(numbers[end])} until line ${told(data.points[end][0])}, but ${told(atEnd)} at the end`;
 }
 
-// Those that grow steadily, in words, those first that grew most. Of many groups those that held most are looked at.
+// Those that grow steadily, in words: those first that keep it to the end, and of these those that grew most. Of many groups those that
+// held most are looked at.
 function growsSteadily(groups) {
   const end = pointBeforeEnd(), begins = beginsOfEighths(end);
   if (begins.some((begin, part) => begin >= begins[part + 1])) return "Not told: too few lines are drawn.";
@@ -68,10 +69,11 @@ function growsSteadily(groups) {
   const held = groups.filter((group) => !areOthers(group)).map((group) => [group, Math.max(...group.numbers)]);
   const looked = held.sort(([, one], [, other]) => other - one).slice(0, MOST_LOOKED_AT).map(([group]) => [group, lowsOf(group.numbers)]);
   const growth = (lows) => lows[EIGHTHS - 1] - lows[0];
-  const grown = looked.filter(([, lows]) => isSteady(lows)).sort(([, one], [, other]) => growth(other) - growth(one)).slice(0, NAMED);
+  const grown = looked.filter(([, lows]) => isSteady(lows)).map(([group, lows]) => [group, lows, keeps(group, lows)])
+    .sort(([, one, keepsOne], [, other, keepsOther]) => keepsOther - keepsOne || growth(other) - growth(one)).slice(0, NAMED);
   const words = grown.map(([group, lows]) => growthWords(group, lows, end)).join("; ");
-  const whatLine = grown.every(([group, lows]) => keeps(group, lows)) ? ""
-    : ` The log's end begins at line ${told(data.points[end][0])}: what is given back there doesn't count.`;
+  const whatLine = grown.every(([, , isKept]) => isKept) ? ""
+    : ` From line ${told(data.points[end][0])} on the program gives back what it holds: that isn't growth.`;
   return words ? `${words}.${whatLine}` : `Nothing: no ${CHOICES[choice]} holds more and more all along.`;
 }
 
