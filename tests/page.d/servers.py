@@ -80,8 +80,8 @@ def running_server():
 
 
 SERVERS = {"a server that shuts down": shut_down_server, "a server that is killed": killed_server, "a server that runs": running_server}
-TOLD = re.compile(r"record: from ([\d,]+) bytes early on to ([\d,]+)(?: until line ([\d,]+), then given back: 0)? at the end\."
-                  r"(?: The log's end begins at line ([\d,]+): what is given back there doesn't count\.)?")
+TOLD = re.compile(r"record: from ([\d,]+) bytes early on to ([\d,]+)(?: until line ([\d,]+), but 0)? at the end\."
+                  r"(?: From line ([\d,]+) on the program gives back what it holds: that isn't growth\.)?")
 
 
 def is_told(told, server):
