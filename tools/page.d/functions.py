@@ -6,7 +6,7 @@ from dataclasses import dataclass
 from functools import cache, cached_property
 from itertools import chain, dropwhile, islice, takewhile
 
-from names import OPERATOR, Names, end_of_type, told_bare
+from names import Names, end_of_type, told_bare, without_brackets
 from stacks import frames_in, frames_of, list_of, text_of
 from texts import shown, site_name
 from told import told_calls
@@ -26,31 +26,13 @@ def told_text(text):
     return shown(os.fsencode(text))
 
 
-def without_types(name):
-    """A name without what stands in angle brackets, but for operators."""
-    kept, depth, at = [], 0, 0
-    while at < len(name):
-        found = OPERATOR.match(name, at) if depth == 0 else None
-        if found:
-            kept.append(found[0])
-            at = found.end()
-            continue
-        byte = name[at]
-        depth += byte == "<"
-        if depth == 0:
-            kept.append(byte)
-        depth -= byte == ">" and depth > 0 and name[at - 1] != "-"
-        at += 1
-    return "".join(kept)
-
-
 @cache
 def brief(name):
     """The last two parts of a function's name, as `Arena::grow` of `<core_arena::Arena<T> as Grow>::grow`."""
     if name.startswith("<"):
         end = end_of_type(name)
         name = name[1:end - 1].partition(" as ")[0].lstrip("&*") + name[end:]
-    parts = [part for part in without_types(name).split("::") if part] or [name]
+    parts = [part for part in without_brackets(name, "<", ">").split("::") if part] or [name]
     count = next((count for count in range(2, len(parts)) if not parts[-count + 1].startswith("{")), len(parts))
     return "::".join(parts[-count:])
 
