@@ -166,8 +166,8 @@ class Functions:
 
     def __init__(self, stacks, locations, named):
         self.stacks = stacks
-        self.lists = {location: stacks.lists.get(text) or list_of(stacks.known_frames(frames_of(text))) for location in locations if (text := text_of(location))}
-        self.names = Names(set(stacks.known.values())) if named else None
+        self.lists = {location: stacks.lists.get(text) or list_of(frames_of(text)) for location in locations if (text := text_of(location))}
+        self.names = Names({frame for stack in self.lists.values() for frame in frames_in(stack)}) if named else None
         own = cache(lambda frame: [call for call in self.names.calls(frame) if not call.is_standard])
         self.calls = {location: Calls(self.names, own, stack) for location, stack in self.lists.items() if self.is_named(stack)}
         self.function_of = cache(function_of)

@@ -115,10 +115,6 @@ class Stacks:
         frame = Frame(self.modules.get(found[1], "?") if found[1] else module, int(found[2], 16))
         return self.known.setdefault((module, part), frame)
 
-    def known_frames(self, frames):
-        """Frames that a location has itself, which are known from then on."""
-        return [self.known.setdefault(frame, frame) for frame in frames]
-
     def frames(self, location):
         """The frames of a stack's number, the nearest first; none where the log doesn't tell it."""
         return list(frames_in(self.lists.get(location)))
