@@ -170,7 +170,7 @@ function partWords(name, [bytes, blocks], holders) {
 
 // Who holds what isn't freed; where it is known what of that is lost, each part for itself.
 function notFreedWords(groups) {
-  if (!data.lost) return `${greatest(groups, PLACES[1]) || "All of 0 bytes"}.`;
+  if (!data.lost) return `${greatest(groups, PLACES[1]) || "All of 0 bytes"}. Which of it is lost, tlsf-trace --reachable tells.`;
   const lostOf = new Map(data.leaks.map(([row, ...numbers]) => [row, numbers.slice(-PARTS.length)]));
   const apart = grouped(totalRows, totalRows.map((_, at) => lostOf.get(at) || PARTS.map(() => 0)));
   return PARTS.map((name, part) => partWords(name, data.lost[part], greatest(apart, part))).join(" ");
