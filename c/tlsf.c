@@ -50,6 +50,11 @@ static void unlock(const tlsf_t *tlsf) { TLSF_UNLOCK(*tlsf); }
 #define LOCKED(tlsf) (void)(tlsf)
 #endif
 
+/* A call on a heap: with its lock, and its control part, or a null pointer where there is none. */
+#define ON_HEAP(tlsf) \
+    LOCKED(tlsf); \
+    struct control *control = control_of(tlsf)
+
 #define LEAST_POOL (FRONT + UNIT)
 /* The least block that is refused for its bytes. */
 #define TOO_GREAT (TLSF_HEAP_GREATEST - FRONT + 1u)
@@ -58,9 +63,6 @@ static void unlock(const tlsf_t *tlsf) { TLSF_UNLOCK(*tlsf); }
 /* tlsf_create_with_pool has a record for each. */
 #define BYTES_A_RECORD 112u
 typedef char records_fit[TLSF_RECORDS > 0 && TLSF_RECORDS <= TLSF_HEAP_RECORDS_MOST ? 1 : -1];
-
-/* Whether memory that is handed in may begin here. */
-static bool may_begin(const void *mem) { return mem != NULL && (uintptr_t)mem % HANDED_IN == 0u; }
 
 size_t tlsf_size_records(uint32_t records)
 {
@@ -80,16 +82,6 @@ size_t tlsf_block_size_min(void) { return UNIT - FRONT; }
 size_t tlsf_block_size_max(void) { return TOO_GREAT - 1u; }
 size_t tlsf_pool_overhead(void) { return HANDED_IN + FRONT + UNIT; }
 size_t tlsf_alloc_overhead(void) { return FRONT; }
-
-/* The bytes to the next multiple of 16. */
-static size_t skipped(uintptr_t address) { return (UNIT - address % UNIT) % UNIT; }
-
-/* What a heap takes of the memory handed in: the control part, and behind it the table. */
-static size_t taken(uintptr_t own, uint32_t records)
-{
-    size_t part = sizeof(struct control);
-    return part + skipped(own + part) + TLSF_HEAP_TABLE_BYTES(records);
-}
 
 /* The mark is a sum of the number of records and of the words in front of the live figures, each
  * times an odd number of its own. So a word that changes shows. */
@@ -112,23 +104,16 @@ static uint64_t mark_of(const struct control *control)
     return sum;
 }
 
-/* Whether these bytes are none of the heap's own. */
-static bool is_foreign(const struct control *control, uintptr_t address, size_t bytes)
-{
-    uintptr_t own = (uintptr_t)control;
-    return address + bytes <= own || own + taken(own, control->records) <= address;
-}
-
 pool_t tlsf_add_pool(tlsf_t tlsf, void *mem, size_t bytes)
 {
-    LOCKED(tlsf);
-    struct control *control = control_of(tlsf);
-    uintptr_t address = (uintptr_t)mem;
+    ON_HEAP(tlsf);
+    uintptr_t memory = (uintptr_t)mem;
     uint32_t entry = 0;
-    bool good = control != NULL && may_begin(mem) && bytes <= UINTPTR_MAX - address
-                && is_foreign(control, address, bytes);
-    if (!good
-        || tlsf_placed_add_pool(&control->at, address, bytes, TLSF_MOST_ALIGN, &entry) != TLSF_OK) {
+    bool added = control != NULL
+                 && tlsf_placed_is_apart((uintptr_t)control, sizeof *control, control->records, memory,
+                                         bytes, UINTPTR_MAX)
+                 && tlsf_placed_add_pool(&control->at, memory, bytes, TLSF_MOST_ALIGN, &entry) == TLSF_OK;
+    if (!added) {
         return NULL;
     }
     struct pool *pool = &control->at.pools[entry];
@@ -140,8 +125,7 @@ pool_t tlsf_add_pool(tlsf_t tlsf, void *mem, size_t bytes)
 
 void tlsf_remove_pool(tlsf_t tlsf, pool_t pool)
 {
-    LOCKED(tlsf);
-    struct control *control = control_of(tlsf);
+    ON_HEAP(tlsf);
     for (uint32_t k = 0; control != NULL && k < POOLS; k++) {
         struct pool *own = &control->at.pools[k];
         if (own == pool && tlsf_placed_remove_pool(&control->at, k) == TLSF_OK) {
@@ -153,25 +137,24 @@ void tlsf_remove_pool(tlsf_t tlsf, pool_t pool)
 
 pool_t tlsf_get_pool(tlsf_t tlsf)
 {
-    LOCKED(tlsf);
-    struct control *control = control_of(tlsf);
+    ON_HEAP(tlsf);
     return control != NULL && control->at.pools[0].reach != 0u ? &control->at.pools[0] : NULL;
 }
 
 tlsf_t tlsf_create_records(void *mem, size_t bytes, uint32_t records)
 {
     struct control *control = (struct control *)mem;
-    size_t table = TLSF_HEAP_TABLE_BYTES(records);
-    size_t front = taken((uintptr_t)mem, records);
-    if (!may_begin(mem) || bytes < front) {
+    struct places places;
+    if (!tlsf_placed_places((uintptr_t)mem, bytes, sizeof *control, records, UINTPTR_MAX, &places)) {
         return NULL;
     }
-    unsigned char *end = (unsigned char *)mem + front;
     *control = (struct control){.magic = (uintptr_t)mem + MAGIC};
     control->records = records;
-    if (tlsf_heap_create_in(end - table, table, records, &control->at.heap) == TLSF_OK) {
+    if (tlsf_heap_create_in((void *)(uintptr_t)places.table, TLSF_HEAP_TABLE_BYTES(records), records,
+                            &control->at.heap) == TLSF_OK) {
+        void *rest = (void *)(uintptr_t)places.pool;
         control->mark = mark_of(control);
-        if (bytes - front < LEAST_POOL || tlsf_add_pool(control, end, bytes - front) != NULL) {
+        if (places.bytes < LEAST_POOL || tlsf_add_pool(control, rest, (size_t)places.bytes) != NULL) {
             return control;
         }
     }
@@ -192,9 +175,9 @@ tlsf_t tlsf_create_with_pool(void *mem, size_t bytes)
 /* All its memory was handed in: there is nothing to give back. */
 void tlsf_destroy(tlsf_t tlsf)
 {
-    LOCKED(tlsf);
-    if (control_of(tlsf) != NULL) {
-        (void)memset(tlsf, 0, sizeof(struct control));
+    ON_HEAP(tlsf);
+    if (control != NULL) {
+        (void)memset(control, 0, sizeof *control);
     }
 }
 
@@ -206,8 +189,8 @@ static size_t live_size(struct control *control, const void *ptr)
 }
 size_t tlsf_live_size(tlsf_t tlsf, const void *ptr)
 {
-    LOCKED(tlsf);
-    return live_size(control_of(tlsf), ptr);
+    ON_HEAP(tlsf);
+    return live_size(control, ptr);
 }
 
 /* A freed block's front tells none. */
@@ -236,26 +219,18 @@ static void *refuse(struct control *control, enum tlsf_refusal what, const void 
 RARE static void *refuse_pointer(struct control *control, const void *ptr, size_t bytes,
                                  uint64_t word)
 {
-    uintptr_t address = (uintptr_t)ptr;
-    bool may_be = address % UNIT == 0u && word != 0u && word != address;
-    bool none = may_be && tlsf_placed_told_size(address, word) == 0u;
-    enum tlsf_refusal what = none ? TLSF_REFUSED_FRONT : TLSF_REFUSED_POINTER;
+    bool lost = tlsf_placed_lost_front((uintptr_t)ptr, word);
+    enum tlsf_refusal what = lost ? TLSF_REFUSED_FRONT : TLSF_REFUSED_POINTER;
     return ptr == NULL ? NULL : refuse(control, what, ptr, bytes);
 }
 
 /* A request, by the status of the proved call. */
-RARE static void *refuse_bytes(struct control *control, enum tlsf_status status, const void *ptr,
-                               size_t bytes)
+RARE static void *refuse_bytes(struct control *control, uint64_t status, const void *ptr, size_t bytes)
 {
-    enum tlsf_refusal what;
-    if (status == TLSF_TABLE_FULL) {
-        what = TLSF_REFUSED_TABLE_FULL;
-    } else if (status == TLSF_BAD_ALIGN) {
-        what = TLSF_REFUSED_ALIGNMENT;
-    } else {
-        what = TLSF_REFUSED_NO_FIT;
-    }
-    return refuse(control, what, ptr, bytes);
+    static const enum tlsf_refusal kinds[] = {[TLSF_NO_FIT] = TLSF_REFUSED_NO_FIT,
+                                              [TLSF_TABLE_FULL] = TLSF_REFUSED_TABLE_FULL,
+                                              [TLSF_BAD_ALIGN] = TLSF_REFUSED_ALIGNMENT};
+    return refuse(control, kinds[status], ptr, bytes);
 }
 
 /* The pointer to a new block at the address, or the refusal that its word tells. */
@@ -263,7 +238,7 @@ static inline void *hand_out(struct control *control, uintptr_t address, uint64_
                              size_t bytes)
 {
     if (address == 0u) {
-        return refuse_bytes(control, (enum tlsf_status)word, NULL, bytes);
+        return refuse_bytes(control, word, NULL, bytes);
     }
     write_front(address, word);
     control->most = (uint32_t)control->at.live.most_bytes;
@@ -272,8 +247,7 @@ static inline void *hand_out(struct control *control, uintptr_t address, uint64_
 
 void *tlsf_malloc(tlsf_t tlsf, size_t bytes)
 {
-    LOCKED(tlsf);
-    struct control *control = control_of(tlsf);
+    ON_HEAP(tlsf);
     uint64_t word = 0;
     if (control == NULL || bytes == 0u) {
         return NULL;
@@ -287,31 +261,26 @@ void *tlsf_memalign(tlsf_t tlsf, size_t align, size_t bytes)
     if (bytes == 0u || (align <= UNIT && (align & (align - 1u)) == 0u)) {
         return tlsf_malloc(tlsf, bytes);
     }
-    LOCKED(tlsf);
-    struct control *control = control_of(tlsf);
-    uint64_t word = 0;
+    ON_HEAP(tlsf);
+    uint64_t word = TLSF_BAD_ALIGN;
+    uint64_t address = 0;
     if (control == NULL) {
         return NULL;
     }
-    if (align > TLSF_MOST_ALIGN) {
-        return refuse_bytes(control, TLSF_BAD_ALIGN, NULL, bytes);
+    if (align <= TLSF_MOST_ALIGN) {
+        address = tlsf_placed_memalign(&control->at, align, bytes, &word);
     }
-    uintptr_t address = (uintptr_t)tlsf_placed_memalign(&control->at, align, bytes, &word);
-    return hand_out(control, address, word, bytes);
+    return hand_out(control, (uintptr_t)address, word, bytes);
 }
 
 void tlsf_free(tlsf_t tlsf, void *ptr)
 {
-    LOCKED(tlsf);
-    struct control *control = control_of(tlsf);
+    ON_HEAP(tlsf);
     uint64_t word = 0;
-    if (control == NULL) {
-        return;
-    }
-    if (read_front(control, ptr, &word)
+    if (control != NULL && read_front(control, ptr, &word)
         && tlsf_placed_free(&control->at, (uintptr_t)ptr, word) == TLSF_OK) {
         write_front((uintptr_t)ptr, (uintptr_t)ptr);
-    } else {
+    } else if (control != NULL) {
         (void)refuse_pointer(control, ptr, 0, word);
     }
 }
@@ -329,14 +298,12 @@ static void *resize(struct control *control, void *ptr, size_t size)
     uintptr_t address
         = (uintptr_t)tlsf_placed_realloc(&control->at, (uintptr_t)ptr, size, &word, &copied);
     if (address == 0u) {
-        enum tlsf_status status = (enum tlsf_status)word;
-        return status == TLSF_BAD_POINTER ? refuse_pointer(control, ptr, size, front)
-                                          : refuse_bytes(control, status, ptr, size);
+        return word == TLSF_BAD_POINTER ? refuse_pointer(control, ptr, size, front)
+                                        : refuse_bytes(control, word, ptr, size);
     }
     write_front((uintptr_t)ptr, (uintptr_t)ptr);
-    write_front(address, word);
-    control->most = (uint32_t)control->at.live.most_bytes;
-    return copied == 0u ? ptr : memcpy((void *)address, ptr, (size_t)copied);
+    void *now = hand_out(control, address, word, size);
+    return copied == 0u ? now : memcpy(now, ptr, (size_t)copied);
 }
 
 void *tlsf_realloc(tlsf_t tlsf, void *ptr, size_t size)
@@ -348,15 +315,13 @@ void *tlsf_realloc(tlsf_t tlsf, void *ptr, size_t size)
         tlsf_free(tlsf, ptr);
         return NULL;
     }
-    LOCKED(tlsf);
-    struct control *control = control_of(tlsf);
+    ON_HEAP(tlsf);
     return control == NULL ? NULL : resize(control, ptr, size);
 }
 
 void tlsf_set_refusal_hook(tlsf_t tlsf, tlsf_refusal_hook hook, void *user)
 {
-    LOCKED(tlsf);
-    struct control *control = control_of(tlsf);
+    ON_HEAP(tlsf);
     if (control != NULL) {
         control->hook = hook;
         control->user = user;
@@ -367,8 +332,7 @@ void tlsf_set_refusal_hook(tlsf_t tlsf, tlsf_refusal_hook hook, void *user)
 /* The heap's own readings tell what the control part doesn't keep. */
 int tlsf_stats(tlsf_t tlsf, tlsf_figures *out)
 {
-    LOCKED(tlsf);
-    const struct control *control = control_of(tlsf);
+    ON_HEAP(tlsf);
     if (control == NULL) {
         return -1;
     }
@@ -409,99 +373,72 @@ static void print(void *ptr, size_t size, int used, void *user)
 #endif
 }
 
-/* How many rows of a pool there are from a place on; none where it or its heap is gone. */
-static uint64_t read_rows(struct pool *own, uint64_t base, uint64_t from, tlsf_heap_row *rows)
+/* How many rows were read of a pool; none where it or its heap is gone. */
+static uint64_t read_rows(struct pool *own, uint64_t *from, struct row *rows)
 {
-    const struct control *control = control_of_pool(own);
-    uint64_t count = 0;
-    bool is = control != NULL
-              && tlsf_heap_walk(&control->at.heap, base, from, rows, TLSF_WALK_ROWS, &count) == TLSF_OK;
-    return is ? count : 0u;
-}
-static uint64_t read_locked(struct pool *own, uint64_t base, uint64_t from,
-                            tlsf_heap_row *rows)
-{
-    LOCKED(own->control);
-    return read_rows(own, base, from, rows);
+    struct control *control = control_of_pool(own);
+    LOCKED(control);
+    bool is = control != NULL && control == control_of_pool(own);
+    return is ? tlsf_placed_walk(&control->at, own->number, from, rows, TLSF_WALK_ROWS) : 0u;
 }
 
 /* The walker may free blocks, and so end the pool: each piece is read from where the last ended. It
  * runs without the lock, unless the caller has it. */
-static void walk(struct pool *own, tlsf_walker walker, void *user, bool locks)
+void tlsf_walk_pool(pool_t pool, tlsf_walker walker, void *user)
 {
-    tlsf_heap_row rows[TLSF_WALK_ROWS];
-    uint64_t base = own->place;
+    struct row rows[TLSF_WALK_ROWS];
     uint64_t from = 0;
-    uint64_t left = 1;
-    while (left > 0u) {
-        left = (locks ? read_locked : read_rows)(own, base, from, rows);
-        unsigned char *first = (unsigned char *)(uintptr_t)own->first;
-        for (uint32_t k = 0; k < TLSF_WALK_ROWS && left > 0u; k++) {
-            from = (uint64_t)rows[k].place + rows[k].size;
-            walker(first + (rows[k].place - base), rows[k].size - FRONT, rows[k].used, user);
-            left--;
+    uint64_t count = 1;
+    while (count > 0u) {
+        count = read_rows((struct pool *)pool, &from, rows);
+        for (uint64_t k = 0; k < count; k++) {
+            void *ptr = (void *)(uintptr_t)rows[k].address;
+            (walker == NULL ? print : walker)(ptr, rows[k].bytes, rows[k].used, user);
         }
     }
 }
 
-void tlsf_walk_pool(pool_t pool, tlsf_walker walker, void *user)
+/* How many live blocks of a pool have a front that isn't what it was. */
+static int lost_fronts(struct control *control, uint32_t entry)
 {
-    struct pool *own = (struct pool *)pool;
-    if (control_of_pool(own) != NULL) {
-        walk(own, walker == NULL ? print : walker, user, true);
+    struct row rows[TLSF_WALK_ROWS];
+    uint64_t from = 0;
+    uint64_t count = 1;
+    int lost = 0;
+    while (count > 0u) {
+        count = tlsf_placed_walk(&control->at, entry, &from, rows, TLSF_WALK_ROWS);
+        for (uint64_t k = 0; k < count; k++) {
+            void *ptr = (void *)(uintptr_t)rows[k].address;
+            lost += rows[k].used && live_size(control, ptr) != rows[k].bytes ? 1 : 0;
+        }
     }
+    return lost;
 }
 
-/* What a check counts: what is live, the bytes of all blocks of a pool, and the faults. */
-struct counts {
-    struct control *control;
-    struct live live;
-    size_t bytes;
-    int faults;
-};
-
-/* A live block whose front isn't what it was is a fault. */
-static void count_block(void *ptr, size_t size, int used, void *user)
+/* Of one pool, or of all. The table is read where the control part is whole, and the fronts where the
+ * table is, and agrees with the control part. */
+static int check(struct control *control, uint32_t entry)
 {
-    struct counts *counts = (struct counts *)user;
-    counts->bytes += size + FRONT;
-    if (used != 0) {
-        counts->live.blocks++;
-        counts->live.bytes += size;
-        counts->faults += live_size(counts->control, ptr) == size ? 0 : 1;
-    }
-}
-
-/* Of one pool, or of all for none. The table is read where the control part is whole, and the blocks
- * where the table is. */
-static int check(struct control *control, const struct pool *pool)
-{
-    struct counts counts = {.control = control};
+    int lost = 0;
     if (control == NULL || control->mark != mark_of(control)
-        || control->most != control->at.live.most_bytes || !tlsf_heap_check(&control->at.heap)) {
+        || control->most != control->at.live.most_bytes || !tlsf_placed_check(&control->at, entry)) {
         return -1;
     }
     for (uint32_t k = 0; k < POOLS; k++) {
-        struct pool *own = &control->at.pools[k];
-        if (pool == NULL || pool == own) {
-            counts.bytes = 0;
-            walk(own, count_block, &counts, false);
-            counts.faults += counts.bytes == (own->reach == 0u ? 0u : own->reach + FRONT) ? 0 : 1;
-        }
+        lost += entry == POOLS || entry == k ? lost_fronts(control, k) : 0;
     }
-    bool counted = counts.live.blocks == control->at.live.blocks
-                   && counts.live.bytes == control->at.live.bytes;
-    return pool == NULL && !counted ? -counts.faults - 1 : -counts.faults;
+    return -lost;
 }
 
 int tlsf_check(tlsf_t tlsf)
 {
-    LOCKED(tlsf);
-    return check(control_of(tlsf), NULL);
+    ON_HEAP(tlsf);
+    return check(control, POOLS);
 }
 int tlsf_check_pool(pool_t pool)
 {
-    struct control *control = control_of_pool((struct pool *)pool);
+    struct pool *own = (struct pool *)pool;
+    struct control *control = control_of_pool(own);
     LOCKED(control);
-    return check(control, (struct pool *)pool);
+    return check(control, control == NULL ? 0u : own->number);
 }
