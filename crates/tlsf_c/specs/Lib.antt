@@ -7,6 +7,7 @@ pub mod Lends
 pub mod LiveCounts
 pub mod LiveFigures
 pub mod Lying
+pub mod Moving
 pub mod Owned
 pub mod PlacedHeaps
 pub mod PlacedPools

@@ -21,6 +21,7 @@ mod placed_heap;
 mod placed_loading;
 mod placed_lookup;
 mod placed_memory;
+mod placed_moves;
 mod placed_pool;
 mod placed_pools;
 mod placed_row;
