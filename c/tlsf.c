@@ -104,16 +104,20 @@ static uint64_t mark_of(const struct control *control)
     return sum;
 }
 
+/* Whether these bytes are none of the heap's own. */
+static bool is_apart(const struct control *control, uint64_t address, uint64_t bytes)
+{
+    return tlsf_placed_is_apart((uintptr_t)control, sizeof *control, control->records, address, bytes,
+                                UINTPTR_MAX);
+}
+
 pool_t tlsf_add_pool(tlsf_t tlsf, void *mem, size_t bytes)
 {
     ON_HEAP(tlsf);
-    uintptr_t memory = (uintptr_t)mem;
+    uintptr_t address = (uintptr_t)mem;
     uint32_t entry = 0;
-    bool added = control != NULL
-                 && tlsf_placed_is_apart((uintptr_t)control, sizeof *control, control->records, memory,
-                                         bytes, UINTPTR_MAX)
-                 && tlsf_placed_add_pool(&control->at, memory, bytes, TLSF_MOST_ALIGN, &entry) == TLSF_OK;
-    if (!added) {
+    if (control == NULL || !is_apart(control, address, bytes)
+        || tlsf_placed_add_pool(&control->at, address, bytes, TLSF_MOST_ALIGN, &entry) != TLSF_OK) {
         return NULL;
     }
     struct pool *pool = &control->at.pools[entry];
@@ -227,9 +231,9 @@ RARE static void *refuse_pointer(struct control *control, const void *ptr, size_
 /* A request, by the status of the proved call. */
 RARE static void *refuse_bytes(struct control *control, uint64_t status, const void *ptr, size_t bytes)
 {
-    static const enum tlsf_refusal kinds[] = {[TLSF_NO_FIT] = TLSF_REFUSED_NO_FIT,
-                                              [TLSF_TABLE_FULL] = TLSF_REFUSED_TABLE_FULL,
-                                              [TLSF_BAD_ALIGN] = TLSF_REFUSED_ALIGNMENT};
+    static const enum tlsf_refusal kinds[16] = {[TLSF_NO_FIT] = TLSF_REFUSED_NO_FIT,
+                                                [TLSF_TABLE_FULL] = TLSF_REFUSED_TABLE_FULL,
+                                                [TLSF_BAD_ALIGN] = TLSF_REFUSED_ALIGNMENT};
     return refuse(control, kinds[status], ptr, bytes);
 }
 
@@ -277,10 +281,13 @@ void tlsf_free(tlsf_t tlsf, void *ptr)
 {
     ON_HEAP(tlsf);
     uint64_t word = 0;
-    if (control != NULL && read_front(control, ptr, &word)
+    if (control == NULL) {
+        return;
+    }
+    if (read_front(control, ptr, &word)
         && tlsf_placed_free(&control->at, (uintptr_t)ptr, word) == TLSF_OK) {
         write_front((uintptr_t)ptr, (uintptr_t)ptr);
-    } else if (control != NULL) {
+    } else {
         (void)refuse_pointer(control, ptr, 0, word);
     }
 }
@@ -298,8 +305,8 @@ static void *resize(struct control *control, void *ptr, size_t size)
     uintptr_t address
         = (uintptr_t)tlsf_placed_realloc(&control->at, (uintptr_t)ptr, size, &word, &copied);
     if (address == 0u) {
-        return word == TLSF_BAD_POINTER ? refuse_pointer(control, ptr, size, front)
-                                        : refuse_bytes(control, word, ptr, size);
+        return (enum tlsf_status)word == TLSF_BAD_POINTER ? refuse_pointer(control, ptr, size, front)
+                                                         : refuse_bytes(control, word, ptr, size);
     }
     write_front((uintptr_t)ptr, (uintptr_t)ptr);
     void *now = hand_out(control, address, word, size);
@@ -388,8 +395,8 @@ void tlsf_walk_pool(pool_t pool, tlsf_walker walker, void *user)
 {
     struct row rows[TLSF_WALK_ROWS];
     uint64_t from = 0;
-    uint64_t count = 1;
-    while (count > 0u) {
+    uint64_t count = TLSF_WALK_ROWS;
+    while (count == TLSF_WALK_ROWS) {
         count = read_rows((struct pool *)pool, &from, rows);
         for (uint64_t k = 0; k < count; k++) {
             void *ptr = (void *)(uintptr_t)rows[k].address;
@@ -398,18 +405,26 @@ void tlsf_walk_pool(pool_t pool, tlsf_walker walker, void *user)
     }
 }
 
-/* How many live blocks of a pool have a front that isn't what it was. */
-static int lost_fronts(struct control *control, uint32_t entry)
+/* How many live blocks of a pool have a front that isn't what it was where the pool began at an
+ * address. The others get the word of where it begins now, if that is asked for. */
+static int lost_fronts(struct control *control, uint32_t entry, uint64_t began, bool moves)
 {
     struct row rows[TLSF_WALK_ROWS];
     uint64_t from = 0;
-    uint64_t count = 1;
+    uint64_t count = TLSF_WALK_ROWS;
     int lost = 0;
-    while (count > 0u) {
+    while (count == TLSF_WALK_ROWS) {
         count = tlsf_placed_walk(&control->at, entry, &from, rows, TLSF_WALK_ROWS);
         for (uint64_t k = 0; k < count; k++) {
-            void *ptr = (void *)(uintptr_t)rows[k].address;
-            lost += rows[k].used && live_size(control, ptr) != rows[k].bytes ? 1 : 0;
+            uint64_t address = rows[k].address;
+            uint64_t word = 0;
+            bool is = rows[k].used && read_front(control, (void *)(uintptr_t)address, &word);
+            word = tlsf_placed_moved_word(word, began, control->at.pools[entry].first);
+            bool whole = is && tlsf_placed_block_size(&control->at, address, word) == rows[k].bytes;
+            lost += rows[k].used && !whole ? 1 : 0;
+            if (whole && moves) {
+                write_front((uintptr_t)address, word);
+            }
         }
     }
     return lost;
@@ -425,7 +440,8 @@ static int check(struct control *control, uint32_t entry)
         return -1;
     }
     for (uint32_t k = 0; k < POOLS; k++) {
-        lost += entry == POOLS || entry == k ? lost_fronts(control, k) : 0;
+        uint64_t first = control->at.pools[k].first;
+        lost += entry == POOLS || entry == k ? lost_fronts(control, k, first, false) : 0;
     }
     return -lost;
 }
@@ -441,4 +457,82 @@ int tlsf_check_pool(pool_t pool)
     struct control *control = control_of_pool(own);
     LOCKED(control);
     return check(control, control == NULL ? 0u : own->number);
+}
+
+size_t tlsf_save(tlsf_t tlsf, void *image, size_t room)
+{
+    ON_HEAP(tlsf);
+    struct saved saved = {.magic = SAVED};
+    unsigned char *bytes = (unsigned char *)image;
+    uint64_t count = 0;
+    if (control == NULL || room <= sizeof saved) {
+        return 0;
+    }
+    saved.records = control->records;
+    saved.most_bytes = control->at.live.most_bytes;
+    (void)memcpy(saved.pools, control->at.pools, sizeof saved.pools);
+    (void)memcpy(image, &saved, sizeof saved);
+    bool whole = tlsf_heap_save(&control->at.heap, &bytes[sizeof saved], room - sizeof saved, &count) == TLSF_OK;
+    return whole ? sizeof saved + (size_t)count : 0u;
+}
+
+/* Gives each pool of an image the memory handed in for it, or the rest behind the table. Then each front
+ * is looked at, before one is moved. */
+static int take_pools(struct control *control, const struct saved *saved, const tlsf_memory *rest,
+                      const tlsf_memory *memory)
+{
+    int lost = 0;
+    for (uint32_t k = 0; k < POOLS; k++) {
+        const tlsf_memory *of = memory == NULL || memory[k].mem == NULL ? rest : &memory[k];
+        uintptr_t address = (uintptr_t)of->mem;
+        struct pool *own = &control->at.pools[k];
+        if (saved->pools[k].reach != 0u) {
+            *own = saved->pools[k];
+            own->control = control;
+            own->number = k;
+            if (!is_apart(control, address, of->bytes)
+                || !tlsf_placed_move(&control->at, k, address, of->bytes, UINTPTR_MAX)) {
+                return TLSF_BAD_MEMORY;
+            }
+        }
+    }
+    if (!tlsf_placed_adopt(&control->at)) {
+        return TLSF_BROKEN_ADDRESSES;
+    }
+    for (uint32_t k = 0; k < 2u * POOLS && lost == 0; k++) {
+        lost = lost_fronts(control, k % POOLS, saved->pools[k % POOLS].first, k >= POOLS);
+    }
+    return lost == 0 ? 0 : TLSF_BROKEN_FRONTS;
+}
+
+int tlsf_load(void *mem, size_t bytes, const void *image, size_t length, const tlsf_memory *memory)
+{
+    struct control *control = (struct control *)mem;
+    const unsigned char *table = (const unsigned char *)image;
+    struct saved saved = {.magic = 0};
+    struct places places;
+    if (length > sizeof saved) {
+        (void)memcpy(&saved, image, sizeof saved);
+    }
+    if (saved.magic != SAVED || saved.most_bytes > UINT32_MAX || saved.records > TLSF_HEAP_RECORDS_MOST
+        || length != TLSF_IMAGE_BYTES(saved.records)) {
+        return TLSF_BROKEN_HEAD;
+    }
+    uint32_t records = (uint32_t)saved.records;
+    if (!tlsf_placed_places((uintptr_t)mem, bytes, sizeof *control, records, UINTPTR_MAX, &places)) {
+        return TLSF_BAD_MEMORY;
+    }
+    *control = (struct control){.records = records, .at.live.most_bytes = saved.most_bytes};
+    int status = (int)tlsf_heap_load_in((void *)(uintptr_t)places.table, TLSF_HEAP_TABLE_BYTES(records),
+                                   &table[sizeof saved], length - sizeof saved, &control->at.heap);
+    tlsf_memory rest = {(void *)(uintptr_t)places.pool, (size_t)places.bytes};
+    status = status == 0 ? take_pools(control, &saved, &rest, memory) : status;
+    if (status != 0) {
+        (void)memset(control, 0, sizeof *control);
+        return status;
+    }
+    control->magic = (uintptr_t)mem + MAGIC;
+    control->most = (uint32_t)control->at.live.most_bytes;
+    control->mark = mark_of(control);
+    return status;
 }
