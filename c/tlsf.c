@@ -1,8 +1,8 @@
 /* tlsf.c: the calls of Conte's tlsf over the proved heap of tlsf_heap.h. This file isn't proved.
  *
  * What is reckoned here is proved, in the calls of tlsf_front.h: they choose blocks, answer their
- * addresses, find the block that a pointer means, find places for a pool, and keep the figures of
- * what is live. This file moves fronts and bytes:
+ * addresses, find the block that a pointer means, find places for a pool, tell its rows, keep the
+ * figures of what is live, and say whether an image is a heap. This file moves fronts and bytes:
  *
  * - The control part, at the start of the memory handed in, keeps each pool's address and places. It
  *   ends with its mark, a sum over it. So tlsf_check tells a byte that is changed there, and reads
@@ -27,7 +27,7 @@
 #include "tlsf_heap.h"
 
 /* What a build may choose: the records of tlsf_create, the greatest alignment (a power of two), and
- * how many blocks a walk reads at once, at 12 bytes of stack each. */
+ * how many blocks a walk reads at once, at 16 bytes of stack each. */
 #ifndef TLSF_RECORDS
 #define TLSF_RECORDS 1024u
 #endif

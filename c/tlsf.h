@@ -224,7 +224,7 @@ typedef struct tlsf_memory {
 #define TLSF_BROKEN_FRONTS 115
 
 /* Makes the heap of an image again, in the `bytes` bytes at mem, which then is a tlsf_t. The image has
- * `length` bytes, and need not be trusted. memory[k] is the memory of the k-th of eight pools, in which
+ * `length` bytes elsewhere, and need not be trusted. memory[k] is the memory of the k-th of eight pools, in which
  * its bytes are already as they were. The first pool is that of tlsf_get_pool. The next ones are in the
  * order in which they were added, but one that is added takes the number of one that was removed. Where
  * memory is null, or its mem is, the pool is in what mem has behind the table. It may be the memory of
