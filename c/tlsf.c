@@ -56,8 +56,6 @@ static void unlock(const tlsf_t *tlsf) { TLSF_UNLOCK(*tlsf); }
     struct control *control = control_of(tlsf)
 
 #define LEAST_POOL (FRONT + UNIT)
-/* The least block that is refused for its bytes. */
-#define TOO_GREAT (TLSF_HEAP_GREATEST - FRONT + 1u)
 /* What memory that is handed in begins at a multiple of. */
 #define HANDED_IN 8u
 /* tlsf_create_with_pool has a record for each. */
@@ -79,7 +77,7 @@ size_t tlsf_sure_bytes(uint32_t blocks, size_t bytes, size_t largest)
 size_t tlsf_size(void) { return tlsf_size_records(TLSF_RECORDS); }
 size_t tlsf_align_size(void) { return UNIT; }
 size_t tlsf_block_size_min(void) { return UNIT - FRONT; }
-size_t tlsf_block_size_max(void) { return TOO_GREAT - 1u; }
+size_t tlsf_block_size_max(void) { return TLSF_HEAP_GREATEST - FRONT; }
 size_t tlsf_pool_overhead(void) { return HANDED_IN + FRONT + UNIT; }
 size_t tlsf_alloc_overhead(void) { return FRONT; }
 
@@ -152,8 +150,7 @@ tlsf_t tlsf_create_records(void *mem, size_t bytes, uint32_t records)
     if (!tlsf_placed_places((uintptr_t)mem, bytes, sizeof *control, records, UINTPTR_MAX, &places)) {
         return NULL;
     }
-    *control = (struct control){.magic = (uintptr_t)mem + MAGIC};
-    control->records = records;
+    *control = (struct control){.magic = (uintptr_t)mem + MAGIC, .records = records};
     if (tlsf_heap_create_in((void *)(uintptr_t)places.table, TLSF_HEAP_TABLE_BYTES(records), records,
                             &control->at.heap) == TLSF_OK) {
         void *rest = (void *)(uintptr_t)places.pool;
@@ -185,16 +182,12 @@ void tlsf_destroy(tlsf_t tlsf)
     }
 }
 
-static size_t live_size(struct control *control, const void *ptr)
-{
-    uint64_t word = 0;
-    bool has = control != NULL && read_front(control, ptr, &word);
-    return has ? (size_t)tlsf_placed_block_size(&control->at, (uintptr_t)ptr, word) : 0u;
-}
 size_t tlsf_live_size(tlsf_t tlsf, const void *ptr)
 {
     ON_HEAP(tlsf);
-    return live_size(control, ptr);
+    uint64_t word = 0;
+    bool has = control != NULL && read_front(control, ptr, &word);
+    return has ? (size_t)tlsf_placed_block_size(&control->at, (uintptr_t)ptr, word) : 0u;
 }
 
 /* A freed block's front tells none. */
