@@ -1,8 +1,8 @@
 /* tlsf.c: the calls of Conte's tlsf over the proved heap of tlsf_heap.h. This file isn't proved.
  *
  * What is reckoned here is proved, in the calls of tlsf_front.h: they choose blocks, answer their
- * addresses, find the block that a pointer means, find places for a pool, and keep the figures of
- * what is live. This file moves fronts and bytes:
+ * addresses, find the block that a pointer means, find places for a pool, tell its rows, keep the
+ * figures of what is live, and say whether an image is a heap. This file moves fronts and bytes:
  *
  * - The control part, at the start of the memory handed in, keeps each pool's address and places. It
  *   ends with its mark, a sum over it. So tlsf_check tells a byte that is changed there, and reads
@@ -27,7 +27,7 @@
 #include "tlsf_heap.h"
 
 /* What a build may choose: the records of tlsf_create, the greatest alignment (a power of two), and
- * how many blocks a walk reads at once, at 12 bytes of stack each. */
+ * how many blocks a walk reads at once, at 16 bytes of stack each. */
 #ifndef TLSF_RECORDS
 #define TLSF_RECORDS 1024u
 #endif
@@ -50,17 +50,17 @@ static void unlock(const tlsf_t *tlsf) { TLSF_UNLOCK(*tlsf); }
 #define LOCKED(tlsf) (void)(tlsf)
 #endif
 
+/* A call on a heap: with its lock, and its control part, or a null pointer where there is none. */
+#define ON_HEAP(tlsf) \
+    LOCKED(tlsf); \
+    struct control *control = control_of(tlsf)
+
 #define LEAST_POOL (FRONT + UNIT)
-/* The least block that is refused for its bytes. */
-#define TOO_GREAT (TLSF_HEAP_GREATEST - FRONT + 1u)
 /* What memory that is handed in begins at a multiple of. */
 #define HANDED_IN 8u
 /* tlsf_create_with_pool has a record for each. */
 #define BYTES_A_RECORD 112u
 typedef char records_fit[TLSF_RECORDS > 0 && TLSF_RECORDS <= TLSF_HEAP_RECORDS_MOST ? 1 : -1];
-
-/* Whether memory that is handed in may begin here. */
-static bool may_begin(const void *mem) { return mem != NULL && (uintptr_t)mem % HANDED_IN == 0u; }
 
 size_t tlsf_size_records(uint32_t records)
 {
@@ -77,19 +77,9 @@ size_t tlsf_sure_bytes(uint32_t blocks, size_t bytes, size_t largest)
 size_t tlsf_size(void) { return tlsf_size_records(TLSF_RECORDS); }
 size_t tlsf_align_size(void) { return UNIT; }
 size_t tlsf_block_size_min(void) { return UNIT - FRONT; }
-size_t tlsf_block_size_max(void) { return TOO_GREAT - 1u; }
+size_t tlsf_block_size_max(void) { return TLSF_HEAP_GREATEST - FRONT; }
 size_t tlsf_pool_overhead(void) { return HANDED_IN + FRONT + UNIT; }
 size_t tlsf_alloc_overhead(void) { return FRONT; }
-
-/* The bytes to the next multiple of 16. */
-static size_t skipped(uintptr_t address) { return (UNIT - address % UNIT) % UNIT; }
-
-/* What a heap takes of the memory handed in: the control part, and behind it the table. */
-static size_t taken(uintptr_t own, uint32_t records)
-{
-    size_t part = sizeof(struct control);
-    return part + skipped(own + part) + TLSF_HEAP_TABLE_BYTES(records);
-}
 
 /* The mark is a sum of the number of records and of the words in front of the live figures, each
  * times an odd number of its own. So a word that changes shows. */
@@ -113,21 +103,18 @@ static uint64_t mark_of(const struct control *control)
 }
 
 /* Whether these bytes are none of the heap's own. */
-static bool is_foreign(const struct control *control, uintptr_t address, size_t bytes)
+static bool is_apart(const struct control *control, uint64_t address, uint64_t bytes)
 {
-    uintptr_t own = (uintptr_t)control;
-    return address + bytes <= own || own + taken(own, control->records) <= address;
+    return tlsf_placed_is_apart((uintptr_t)control, sizeof *control, control->records, address, bytes,
+                                UINTPTR_MAX);
 }
 
 pool_t tlsf_add_pool(tlsf_t tlsf, void *mem, size_t bytes)
 {
-    LOCKED(tlsf);
-    struct control *control = control_of(tlsf);
+    ON_HEAP(tlsf);
     uintptr_t address = (uintptr_t)mem;
     uint32_t entry = 0;
-    bool good = control != NULL && may_begin(mem) && bytes <= UINTPTR_MAX - address
-                && is_foreign(control, address, bytes);
-    if (!good
+    if (control == NULL || !is_apart(control, address, bytes)
         || tlsf_placed_add_pool(&control->at, address, bytes, TLSF_MOST_ALIGN, &entry) != TLSF_OK) {
         return NULL;
     }
@@ -140,8 +127,7 @@ pool_t tlsf_add_pool(tlsf_t tlsf, void *mem, size_t bytes)
 
 void tlsf_remove_pool(tlsf_t tlsf, pool_t pool)
 {
-    LOCKED(tlsf);
-    struct control *control = control_of(tlsf);
+    ON_HEAP(tlsf);
     for (uint32_t k = 0; control != NULL && k < POOLS; k++) {
         struct pool *own = &control->at.pools[k];
         if (own == pool && tlsf_placed_remove_pool(&control->at, k) == TLSF_OK) {
@@ -153,25 +139,23 @@ void tlsf_remove_pool(tlsf_t tlsf, pool_t pool)
 
 pool_t tlsf_get_pool(tlsf_t tlsf)
 {
-    LOCKED(tlsf);
-    struct control *control = control_of(tlsf);
+    ON_HEAP(tlsf);
     return control != NULL && control->at.pools[0].reach != 0u ? &control->at.pools[0] : NULL;
 }
 
 tlsf_t tlsf_create_records(void *mem, size_t bytes, uint32_t records)
 {
     struct control *control = (struct control *)mem;
-    size_t table = TLSF_HEAP_TABLE_BYTES(records);
-    size_t front = taken((uintptr_t)mem, records);
-    if (!may_begin(mem) || bytes < front) {
+    struct places places;
+    if (!tlsf_placed_places((uintptr_t)mem, bytes, sizeof *control, records, UINTPTR_MAX, &places)) {
         return NULL;
     }
-    unsigned char *end = (unsigned char *)mem + front;
-    *control = (struct control){.magic = (uintptr_t)mem + MAGIC};
-    control->records = records;
-    if (tlsf_heap_create_in(end - table, table, records, &control->at.heap) == TLSF_OK) {
+    *control = (struct control){.magic = (uintptr_t)mem + MAGIC, .records = records};
+    if (tlsf_heap_create_in((void *)(uintptr_t)places.table, TLSF_HEAP_TABLE_BYTES(records), records,
+                            &control->at.heap) == TLSF_OK) {
+        void *rest = (void *)(uintptr_t)places.pool;
         control->mark = mark_of(control);
-        if (bytes - front < LEAST_POOL || tlsf_add_pool(control, end, bytes - front) != NULL) {
+        if (places.bytes < LEAST_POOL || tlsf_add_pool(control, rest, (size_t)places.bytes) != NULL) {
             return control;
         }
     }
@@ -192,22 +176,18 @@ tlsf_t tlsf_create_with_pool(void *mem, size_t bytes)
 /* All its memory was handed in: there is nothing to give back. */
 void tlsf_destroy(tlsf_t tlsf)
 {
-    LOCKED(tlsf);
-    if (control_of(tlsf) != NULL) {
-        (void)memset(tlsf, 0, sizeof(struct control));
+    ON_HEAP(tlsf);
+    if (control != NULL) {
+        (void)memset(control, 0, sizeof *control);
     }
 }
 
-static size_t live_size(struct control *control, const void *ptr)
+size_t tlsf_live_size(tlsf_t tlsf, const void *ptr)
 {
+    ON_HEAP(tlsf);
     uint64_t word = 0;
     bool has = control != NULL && read_front(control, ptr, &word);
     return has ? (size_t)tlsf_placed_block_size(&control->at, (uintptr_t)ptr, word) : 0u;
-}
-size_t tlsf_live_size(tlsf_t tlsf, const void *ptr)
-{
-    LOCKED(tlsf);
-    return live_size(control_of(tlsf), ptr);
 }
 
 /* A freed block's front tells none. */
@@ -236,26 +216,18 @@ static void *refuse(struct control *control, enum tlsf_refusal what, const void 
 RARE static void *refuse_pointer(struct control *control, const void *ptr, size_t bytes,
                                  uint64_t word)
 {
-    uintptr_t address = (uintptr_t)ptr;
-    bool may_be = address % UNIT == 0u && word != 0u && word != address;
-    bool none = may_be && tlsf_placed_told_size(address, word) == 0u;
-    enum tlsf_refusal what = none ? TLSF_REFUSED_FRONT : TLSF_REFUSED_POINTER;
+    bool lost = tlsf_placed_lost_front((uintptr_t)ptr, word);
+    enum tlsf_refusal what = lost ? TLSF_REFUSED_FRONT : TLSF_REFUSED_POINTER;
     return ptr == NULL ? NULL : refuse(control, what, ptr, bytes);
 }
 
 /* A request, by the status of the proved call. */
-RARE static void *refuse_bytes(struct control *control, enum tlsf_status status, const void *ptr,
-                               size_t bytes)
+RARE static void *refuse_bytes(struct control *control, uint64_t status, const void *ptr, size_t bytes)
 {
-    enum tlsf_refusal what;
-    if (status == TLSF_TABLE_FULL) {
-        what = TLSF_REFUSED_TABLE_FULL;
-    } else if (status == TLSF_BAD_ALIGN) {
-        what = TLSF_REFUSED_ALIGNMENT;
-    } else {
-        what = TLSF_REFUSED_NO_FIT;
-    }
-    return refuse(control, what, ptr, bytes);
+    static const enum tlsf_refusal kinds[16] = {[TLSF_NO_FIT] = TLSF_REFUSED_NO_FIT,
+                                                [TLSF_TABLE_FULL] = TLSF_REFUSED_TABLE_FULL,
+                                                [TLSF_BAD_ALIGN] = TLSF_REFUSED_ALIGNMENT};
+    return refuse(control, kinds[status], ptr, bytes);
 }
 
 /* The pointer to a new block at the address, or the refusal that its word tells. */
@@ -263,7 +235,7 @@ static inline void *hand_out(struct control *control, uintptr_t address, uint64_
                              size_t bytes)
 {
     if (address == 0u) {
-        return refuse_bytes(control, (enum tlsf_status)word, NULL, bytes);
+        return refuse_bytes(control, word, NULL, bytes);
     }
     write_front(address, word);
     control->most = (uint32_t)control->at.live.most_bytes;
@@ -272,8 +244,7 @@ static inline void *hand_out(struct control *control, uintptr_t address, uint64_
 
 void *tlsf_malloc(tlsf_t tlsf, size_t bytes)
 {
-    LOCKED(tlsf);
-    struct control *control = control_of(tlsf);
+    ON_HEAP(tlsf);
     uint64_t word = 0;
     if (control == NULL || bytes == 0u) {
         return NULL;
@@ -287,23 +258,21 @@ void *tlsf_memalign(tlsf_t tlsf, size_t align, size_t bytes)
     if (bytes == 0u || (align <= UNIT && (align & (align - 1u)) == 0u)) {
         return tlsf_malloc(tlsf, bytes);
     }
-    LOCKED(tlsf);
-    struct control *control = control_of(tlsf);
-    uint64_t word = 0;
+    ON_HEAP(tlsf);
+    uint64_t word = TLSF_BAD_ALIGN;
+    uint64_t address = 0;
     if (control == NULL) {
         return NULL;
     }
-    if (align > TLSF_MOST_ALIGN) {
-        return refuse_bytes(control, TLSF_BAD_ALIGN, NULL, bytes);
+    if (align <= TLSF_MOST_ALIGN) {
+        address = tlsf_placed_memalign(&control->at, align, bytes, &word);
     }
-    uintptr_t address = (uintptr_t)tlsf_placed_memalign(&control->at, align, bytes, &word);
-    return hand_out(control, address, word, bytes);
+    return hand_out(control, (uintptr_t)address, word, bytes);
 }
 
 void tlsf_free(tlsf_t tlsf, void *ptr)
 {
-    LOCKED(tlsf);
-    struct control *control = control_of(tlsf);
+    ON_HEAP(tlsf);
     uint64_t word = 0;
     if (control == NULL) {
         return;
@@ -329,14 +298,12 @@ static void *resize(struct control *control, void *ptr, size_t size)
     uintptr_t address
         = (uintptr_t)tlsf_placed_realloc(&control->at, (uintptr_t)ptr, size, &word, &copied);
     if (address == 0u) {
-        enum tlsf_status status = (enum tlsf_status)word;
-        return status == TLSF_BAD_POINTER ? refuse_pointer(control, ptr, size, front)
-                                          : refuse_bytes(control, status, ptr, size);
+        return (enum tlsf_status)word == TLSF_BAD_POINTER ? refuse_pointer(control, ptr, size, front)
+                                                         : refuse_bytes(control, word, ptr, size);
     }
     write_front((uintptr_t)ptr, (uintptr_t)ptr);
-    write_front(address, word);
-    control->most = (uint32_t)control->at.live.most_bytes;
-    return copied == 0u ? ptr : memcpy((void *)address, ptr, (size_t)copied);
+    void *now = hand_out(control, address, word, size);
+    return copied == 0u ? now : memcpy(now, ptr, (size_t)copied);
 }
 
 void *tlsf_realloc(tlsf_t tlsf, void *ptr, size_t size)
@@ -348,15 +315,13 @@ void *tlsf_realloc(tlsf_t tlsf, void *ptr, size_t size)
         tlsf_free(tlsf, ptr);
         return NULL;
     }
-    LOCKED(tlsf);
-    struct control *control = control_of(tlsf);
+    ON_HEAP(tlsf);
     return control == NULL ? NULL : resize(control, ptr, size);
 }
 
 void tlsf_set_refusal_hook(tlsf_t tlsf, tlsf_refusal_hook hook, void *user)
 {
-    LOCKED(tlsf);
-    struct control *control = control_of(tlsf);
+    ON_HEAP(tlsf);
     if (control != NULL) {
         control->hook = hook;
         control->user = user;
@@ -367,8 +332,7 @@ void tlsf_set_refusal_hook(tlsf_t tlsf, tlsf_refusal_hook hook, void *user)
 /* The heap's own readings tell what the control part doesn't keep. */
 int tlsf_stats(tlsf_t tlsf, tlsf_figures *out)
 {
-    LOCKED(tlsf);
-    const struct control *control = control_of(tlsf);
+    ON_HEAP(tlsf);
     if (control == NULL) {
         return -1;
     }
@@ -409,99 +373,159 @@ static void print(void *ptr, size_t size, int used, void *user)
 #endif
 }
 
-/* How many rows of a pool there are from a place on; none where it or its heap is gone. */
-static uint64_t read_rows(struct pool *own, uint64_t base, uint64_t from, tlsf_heap_row *rows)
+/* How many rows were read of a pool; none where it or its heap is gone. */
+static uint64_t read_rows(struct pool *own, uint64_t *from, struct row *rows)
 {
-    const struct control *control = control_of_pool(own);
-    uint64_t count = 0;
-    bool is = control != NULL
-              && tlsf_heap_walk(&control->at.heap, base, from, rows, TLSF_WALK_ROWS, &count) == TLSF_OK;
-    return is ? count : 0u;
-}
-static uint64_t read_locked(struct pool *own, uint64_t base, uint64_t from,
-                            tlsf_heap_row *rows)
-{
-    LOCKED(own->control);
-    return read_rows(own, base, from, rows);
+    struct control *control = control_of_pool(own);
+    LOCKED(control);
+    bool is = control != NULL && control == control_of_pool(own);
+    return is ? tlsf_placed_walk(&control->at, own->number, from, rows, TLSF_WALK_ROWS) : 0u;
 }
 
 /* The walker may free blocks, and so end the pool: each piece is read from where the last ended. It
  * runs without the lock, unless the caller has it. */
-static void walk(struct pool *own, tlsf_walker walker, void *user, bool locks)
+void tlsf_walk_pool(pool_t pool, tlsf_walker walker, void *user)
 {
-    tlsf_heap_row rows[TLSF_WALK_ROWS];
-    uint64_t base = own->place;
+    struct row rows[TLSF_WALK_ROWS];
     uint64_t from = 0;
-    uint64_t left = 1;
-    while (left > 0u) {
-        left = (locks ? read_locked : read_rows)(own, base, from, rows);
-        unsigned char *first = (unsigned char *)(uintptr_t)own->first;
-        for (uint32_t k = 0; k < TLSF_WALK_ROWS && left > 0u; k++) {
-            from = (uint64_t)rows[k].place + rows[k].size;
-            walker(first + (rows[k].place - base), rows[k].size - FRONT, rows[k].used, user);
-            left--;
+    uint64_t count = TLSF_WALK_ROWS;
+    while (count == TLSF_WALK_ROWS) {
+        count = read_rows((struct pool *)pool, &from, rows);
+        for (uint64_t k = 0; k < count; k++) {
+            void *ptr = (void *)(uintptr_t)rows[k].address;
+            (walker == NULL ? print : walker)(ptr, rows[k].bytes, rows[k].used, user);
         }
     }
 }
 
-void tlsf_walk_pool(pool_t pool, tlsf_walker walker, void *user)
+/* How many live blocks of a pool have a front that isn't what it was where the pool began at an
+ * address. The others get the word of where it begins now, if that is asked for. */
+static int lost_fronts(struct control *control, uint32_t entry, uint64_t began, bool moves)
 {
-    struct pool *own = (struct pool *)pool;
-    if (control_of_pool(own) != NULL) {
-        walk(own, walker == NULL ? print : walker, user, true);
+    struct row rows[TLSF_WALK_ROWS];
+    uint64_t from = 0;
+    uint64_t count = TLSF_WALK_ROWS;
+    int lost = 0;
+    while (count == TLSF_WALK_ROWS) {
+        count = tlsf_placed_walk(&control->at, entry, &from, rows, TLSF_WALK_ROWS);
+        for (uint64_t k = 0; k < count; k++) {
+            uint64_t address = rows[k].address;
+            uint64_t word = 0;
+            bool is = rows[k].used && read_front(control, (void *)(uintptr_t)address, &word);
+            word = tlsf_placed_moved_word(word, began, control->at.pools[entry].first);
+            bool whole = is && tlsf_placed_block_size(&control->at, address, word) == rows[k].bytes;
+            lost += rows[k].used && !whole ? 1 : 0;
+            if (whole && moves) {
+                write_front((uintptr_t)address, word);
+            }
+        }
     }
+    return lost;
 }
 
-/* What a check counts: what is live, the bytes of all blocks of a pool, and the faults. */
-struct counts {
-    struct control *control;
-    struct live live;
-    size_t bytes;
-    int faults;
-};
-
-/* A live block whose front isn't what it was is a fault. */
-static void count_block(void *ptr, size_t size, int used, void *user)
+/* Of one pool, or of all. The table is read where the control part is whole, and the fronts where the
+ * table is, and agrees with the control part. */
+static int check(struct control *control, uint32_t entry)
 {
-    struct counts *counts = (struct counts *)user;
-    counts->bytes += size + FRONT;
-    if (used != 0) {
-        counts->live.blocks++;
-        counts->live.bytes += size;
-        counts->faults += live_size(counts->control, ptr) == size ? 0 : 1;
-    }
-}
-
-/* Of one pool, or of all for none. The table is read where the control part is whole, and the blocks
- * where the table is. */
-static int check(struct control *control, const struct pool *pool)
-{
-    struct counts counts = {.control = control};
+    int lost = 0;
     if (control == NULL || control->mark != mark_of(control)
-        || control->most != control->at.live.most_bytes || !tlsf_heap_check(&control->at.heap)) {
+        || control->most != control->at.live.most_bytes || !tlsf_placed_check(&control->at, entry)) {
         return -1;
     }
     for (uint32_t k = 0; k < POOLS; k++) {
-        struct pool *own = &control->at.pools[k];
-        if (pool == NULL || pool == own) {
-            counts.bytes = 0;
-            walk(own, count_block, &counts, false);
-            counts.faults += counts.bytes == (own->reach == 0u ? 0u : own->reach + FRONT) ? 0 : 1;
-        }
+        uint64_t first = control->at.pools[k].first;
+        lost += entry == POOLS || entry == k ? lost_fronts(control, k, first, false) : 0;
     }
-    bool counted = counts.live.blocks == control->at.live.blocks
-                   && counts.live.bytes == control->at.live.bytes;
-    return pool == NULL && !counted ? -counts.faults - 1 : -counts.faults;
+    return -lost;
 }
 
 int tlsf_check(tlsf_t tlsf)
 {
-    LOCKED(tlsf);
-    return check(control_of(tlsf), NULL);
+    ON_HEAP(tlsf);
+    return check(control, POOLS);
 }
 int tlsf_check_pool(pool_t pool)
 {
-    struct control *control = control_of_pool((struct pool *)pool);
+    struct pool *own = (struct pool *)pool;
+    struct control *control = control_of_pool(own);
     LOCKED(control);
-    return check(control, (struct pool *)pool);
+    return check(control, control == NULL ? 0u : own->number);
+}
+
+size_t tlsf_save(tlsf_t tlsf, void *image, size_t room)
+{
+    ON_HEAP(tlsf);
+    struct saved saved = {.magic = SAVED};
+    unsigned char *bytes = (unsigned char *)image;
+    uint64_t count = 0;
+    if (control == NULL || room <= sizeof saved) {
+        return 0;
+    }
+    saved.records = control->records;
+    saved.most_bytes = control->at.live.most_bytes;
+    (void)memcpy(saved.pools, control->at.pools, sizeof saved.pools);
+    (void)memcpy(image, &saved, sizeof saved);
+    bool whole = tlsf_heap_save(&control->at.heap, &bytes[sizeof saved], room - sizeof saved, &count) == TLSF_OK;
+    return whole ? sizeof saved + (size_t)count : 0u;
+}
+
+/* Gives each pool of an image the memory handed in for it, or the rest behind the table. Then each front
+ * is looked at, before one is moved. */
+static int take_pools(struct control *control, const struct saved *saved, const tlsf_memory *rest,
+                      const tlsf_memory *memory)
+{
+    int lost = 0;
+    for (uint32_t k = 0; k < POOLS; k++) {
+        const tlsf_memory *of = memory == NULL || memory[k].mem == NULL ? rest : &memory[k];
+        uintptr_t address = (uintptr_t)of->mem;
+        struct pool *own = &control->at.pools[k];
+        if (saved->pools[k].reach != 0u) {
+            *own = saved->pools[k];
+            own->control = control;
+            own->number = k;
+            if (!is_apart(control, address, of->bytes)
+                || !tlsf_placed_move(&control->at, k, address, of->bytes, UINTPTR_MAX)) {
+                return TLSF_BAD_MEMORY;
+            }
+        }
+    }
+    if (!tlsf_placed_adopt(&control->at)) {
+        return TLSF_BROKEN_ADDRESSES;
+    }
+    for (uint32_t k = 0; k < 2u * POOLS && lost == 0; k++) {
+        lost = lost_fronts(control, k % POOLS, saved->pools[k % POOLS].first, k >= POOLS);
+    }
+    return lost == 0 ? 0 : TLSF_BROKEN_FRONTS;
+}
+
+int tlsf_load(void *mem, size_t bytes, const void *image, size_t length, const tlsf_memory *memory)
+{
+    struct control *control = (struct control *)mem;
+    const unsigned char *table = (const unsigned char *)image;
+    struct saved saved = {.magic = 0};
+    struct places places;
+    if (length > sizeof saved) {
+        (void)memcpy(&saved, image, sizeof saved);
+    }
+    if (saved.magic != SAVED || saved.most_bytes > UINT32_MAX || saved.records > TLSF_HEAP_RECORDS_MOST
+        || length != TLSF_IMAGE_BYTES(saved.records)) {
+        return TLSF_BROKEN_HEAD;
+    }
+    uint32_t records = (uint32_t)saved.records;
+    if (!tlsf_placed_places((uintptr_t)mem, bytes, sizeof *control, records, UINTPTR_MAX, &places)) {
+        return TLSF_BAD_MEMORY;
+    }
+    *control = (struct control){.records = records, .at.live.most_bytes = saved.most_bytes};
+    int status = (int)tlsf_heap_load_in((void *)(uintptr_t)places.table, TLSF_HEAP_TABLE_BYTES(records),
+                                   &table[sizeof saved], length - sizeof saved, &control->at.heap);
+    tlsf_memory rest = {(void *)(uintptr_t)places.pool, (size_t)places.bytes};
+    status = status == 0 ? take_pools(control, &saved, &rest, memory) : status;
+    if (status != 0) {
+        (void)memset(control, 0, sizeof *control);
+        return status;
+    }
+    control->magic = (uintptr_t)mem + MAGIC;
+    control->most = (uint32_t)control->at.live.most_bytes;
+    control->mark = mark_of(control);
+    return status;
 }

@@ -200,6 +200,41 @@ void tlsf_walk_pool(pool_t pool, tlsf_walker walker, void *user);
 int tlsf_check(tlsf_t tlsf);
 int tlsf_check_pool(pool_t pool);
 
+/* An image of a heap: which blocks are live, and where in their pools. It doesn't keep the bytes of
+ * the pools, which the program keeps, nor the hook and the counts of refusals. TLSF_IMAGE_BYTES are the
+ * bytes of the image of a heap with that many records. These calls aren't Conte's. */
+#define TLSF_IMAGE_BYTES(records) (1800u + 16u * (size_t)(records))
+
+/* Puts an image of the heap into the `room` bytes at `image`, and answers how many bytes it has.
+ * Answers 0 where there is no heap, or the image has more bytes than `room`. */
+size_t tlsf_save(tlsf_t tlsf, void *image, size_t room);
+
+/* Memory of a pool. */
+typedef struct tlsf_memory {
+    void *mem;
+    size_t bytes;
+} tlsf_memory;
+
+/* Why an image isn't loaded: it isn't one, or is cut; its pools aren't those of its table, or their
+ * memory overlaps; the 8 bytes in front of a live block aren't what they were. Other numbers are those
+ * of tlsf_heap.h: 15 where memory is too small, or is the heap's own, and 101 to 112 where the table
+ * of the image breaks a rule. */
+#define TLSF_BROKEN_HEAD 113
+#define TLSF_BROKEN_ADDRESSES 114
+#define TLSF_BROKEN_FRONTS 115
+
+/* Makes the heap of an image again, in the `bytes` bytes at mem, which then is a tlsf_t. The image has
+ * `length` bytes elsewhere, and need not be trusted. memory[k] is the memory of the k-th of eight pools, in which
+ * its bytes are already as they were. The first pool is that of tlsf_get_pool. The next ones are in the
+ * order in which they were added, but one that is added takes the number of one that was removed. Where
+ * memory is null, or its mem is, the pool is in what mem has behind the table. It may be the memory of
+ * before, or other memory. A pool that moved wants as many bytes, at an address that is equal modulo
+ * 16. A block moves with its pool, and the call writes the 8 bytes in front of it anew. Where pools
+ * moved by no multiple of an alignment, tlsf_memalign refuses that alignment.
+ * Answers 0, or else why the image isn't loaded. Then no pool was written. Only memory that is handed in
+ * is read. */
+int tlsf_load(void *mem, size_t bytes, const void *image, size_t length, const tlsf_memory *memory);
+
 #ifdef __cplusplus
 }
 #endif

@@ -47,6 +47,29 @@ struct placed {
     struct live live;
 };
 
+/* A block of a pool: its address, the bytes behind its front, and whether it is live. */
+struct row {
+    uint64_t address;
+    uint32_t bytes;
+    bool used;
+};
+
+/* Where the table of a heap lies, and its first pool, with the bytes that are left for it. */
+struct places {
+    uint64_t table;
+    uint64_t pool;
+    uint64_t bytes;
+};
+
+/* What an image of a heap begins with. Behind it the table's image follows. */
+#define SAVED 0x31474d4953465354u /* TSFSIMG1, lowest byte first */
+struct saved {
+    uint64_t magic;
+    uint64_t records;
+    uint64_t most_bytes;
+    struct pool pools[POOLS];
+};
+
 /* The proved calls. Addresses and words are numbers here. The word of a block is what stands in the
  * eight bytes in front of its address.
  *
@@ -61,7 +84,21 @@ struct placed {
  * tlsf_placed_told_size answers the bytes behind the front that a word tells, and 0 where it is no word for
  * this address. tlsf_placed_add_pool adds a pool of all whole units in `bytes` bytes of memory, and
  * gives *entry the number of its entry. The pool's places and addresses are equal modulo `align`. It
- * refuses a pool that overlaps another, or for which no places are left. */
+ * refuses a pool that overlaps another, or for which no places are left.
+ *
+ * tlsf_placed_walk puts the rows of an entry's pool from the address *from on, as many as have room, and
+ * answers how many. *from gets where the next piece begins. tlsf_placed_check answers whether the table
+ * is whole, and has the entry's pool. Of TLSF_HEAP_POOLS it tells all pools, and what is live.
+ * tlsf_placed_places tells where table and first pool lie in memory with a control part of `part` bytes,
+ * and answers whether there is room, and tlsf_placed_is_apart whether memory is none of such a heap's.
+ * No address is above `last`. tlsf_placed_lost_front answers whether a word in front of an address is
+ * neither a block's, nor of a freed one, nor zeros.
+ *
+ * tlsf_placed_adopt is for a loaded heap whose entries may be anything. It answers whether they are
+ * those of its pools, and then the figures of live blocks are set: from then on it is a heap as above.
+ * Before, tlsf_placed_move gives an entry's pool memory, and answers whether it has room.
+ * tlsf_placed_moved_word tells the word in front of a block whose pool began at an address, and begins
+ * at another. */
 uint64_t tlsf_placed_malloc(struct placed *heap, uint64_t bytes, uint64_t *word);
 uint64_t tlsf_placed_memalign(struct placed *heap, uint64_t align, uint64_t bytes, uint64_t *word);
 enum tlsf_status tlsf_placed_free(struct placed *heap, uint64_t address, uint64_t word);
@@ -73,6 +110,18 @@ uint64_t tlsf_placed_told_size(uint64_t address, uint64_t word);
 enum tlsf_status tlsf_placed_add_pool(struct placed *heap, uint64_t memory, uint64_t bytes,
                                       uint64_t align, uint32_t *entry);
 enum tlsf_status tlsf_placed_remove_pool(struct placed *heap, uint32_t entry);
+uint64_t tlsf_placed_walk(const struct placed *heap, uint32_t entry, uint64_t *from, struct row *rows,
+                          size_t room);
+bool tlsf_placed_check(const struct placed *heap, uint32_t entry);
+bool tlsf_placed_places(uint64_t memory, uint64_t bytes, uint32_t part, uint32_t records,
+                        uint64_t last, struct places *places);
+bool tlsf_placed_is_apart(uint64_t own, uint32_t part, uint32_t records, uint64_t memory,
+                          uint64_t bytes, uint64_t last);
+bool tlsf_placed_lost_front(uint64_t address, uint64_t word);
+bool tlsf_placed_adopt(struct placed *heap);
+bool tlsf_placed_move(struct placed *heap, uint32_t entry, uint64_t memory, uint64_t bytes,
+                      uint64_t last);
+uint64_t tlsf_placed_moved_word(uint64_t word, uint64_t from, uint64_t to);
 
 /* What stands at the start of the memory handed in, in front of the table. */
 struct control {
@@ -86,6 +135,7 @@ struct control {
     uint64_t mark; /* a sum over the records, and what stands in front of at.live */
 };
 
+typedef char image_is_told[sizeof(struct saved) + 1520u == TLSF_IMAGE_BYTES(0u) ? 1 : -1];
 typedef char control_is_told[sizeof(struct control) == TLSF_CONTROL_BYTES ? 1 : -1];
 
 /* Eight bytes are copied by __builtin_memcpy: a load and a store, also where -ffreestanding takes

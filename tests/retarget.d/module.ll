@@ -150,6 +150,46 @@ start:
   ret i64 0
 }
 
+define noundef zeroext i1 @tlsf_placed_adopt(ptr noundef %a0) #0 {
+start:
+  ret i1 false
+}
+
+define noundef zeroext i1 @tlsf_placed_check(ptr noundef %a0, i32 noundef %a1) #0 {
+start:
+  ret i1 false
+}
+
+define noundef zeroext i1 @tlsf_placed_is_apart(i64 noundef %a0, i32 noundef %a1, i32 noundef %a2, i64 noundef %a3, i64 noundef %a4, i64 noundef %a5) #0 {
+start:
+  ret i1 false
+}
+
+define noundef zeroext i1 @tlsf_placed_lost_front(i64 noundef %a0, i64 noundef %a1) #0 {
+start:
+  ret i1 false
+}
+
+define noundef zeroext i1 @tlsf_placed_move(ptr noundef %a0, i32 noundef %a1, i64 noundef %a2, i64 noundef %a3, i64 noundef %a4) #0 {
+start:
+  ret i1 false
+}
+
+define noundef i64 @tlsf_placed_moved_word(i64 noundef %a0, i64 noundef %a1, i64 noundef %a2) #0 {
+start:
+  ret i64 0
+}
+
+define noundef zeroext i1 @tlsf_placed_places(i64 noundef %a0, i64 noundef %a1, i32 noundef %a2, i32 noundef %a3, i64 noundef %a4, ptr noundef %a5) #0 {
+start:
+  ret i1 false
+}
+
+define noundef i64 @tlsf_placed_walk(ptr noundef %a0, i32 noundef %a1, ptr noundef %a2, ptr noundef %a3, i64 noundef %a4) #0 {
+start:
+  ret i64 0
+}
+
 declare { i64, i64 } @rattle_alloc(i64 noundef, i64 noundef) #1
 declare void @llvm.memset.p0.i64(ptr writeonly captures(none), i8, i64, i1 immarg) #2
 declare void @llvm.memmove.p0.p0.i64(ptr writeonly captures(none), ptr readonly captures(none), i64, i1 immarg) #2

@@ -51,7 +51,7 @@ module _ (base end : ℕ) where
       (pools_behind (pool.base + pool.bytes) pools (omega (arith, least, good.0)) good.2)
 
 -- a pool of good ones begins above where they may
-above_from : (range : ℕ × ℕ) (from : ℕ) (pools : List (Pool ℕ)) → AreGoodPools from pools → Contains (map range_of pools) range → from ≤ range.0
+pub above_from : (range : ℕ × ℕ) (from : ℕ) (pools : List (Pool ℕ)) → AreGoodPools from pools → Contains (map range_of pools) range → from ≤ range.0
 above_from range from [] good has = never_stands range has
 above_from range from (pool ∷ pools) good has = elim (stands_first_or_later (range_of pool) range (map range_of pools) has) [
   | inl here ↦ omega (arith, good.0, ap (λ (r : ℕ × ℕ). r.0) here)

@@ -33,7 +33,7 @@ fronts_among (block ∷ blocks) all = elim (cases_Bool (is_free block)) [
       omega (arith, rest, count-cons (λ (b : Block ℕ). not (is_free b)) block blocks, ap (λ f. one_if (not f)) live, all.0.positive, all.0.in_units, fronts_among blocks all.1)
 ]
 
-fronts_least : (content : Content ℕ) → IsGood content → front * live_blocks content ≤ live_bytes (blocks_of content.pools)
+pub fronts_least : (content : Content ℕ) → IsGood content → front * live_blocks content ≤ live_bytes (blocks_of content.pools)
 fronts_least content good = fronts_among (blocks_of content.pools) (whole_in_pools 0 content.pools good.pools_good)
 
 pub given_change : (bytes : ℕ) (ptr : Pointer) (old new : Content ℕ) → IsGood old → IsGood new → IsGiven bytes ptr old new → IsLiveChange 0 0 1 ((bytes + 15) / 16 * 16) old new

@@ -1,5 +1,5 @@
 -- What the word in front of a block's address tells: its size and its slot, scrambled with the address.
-use Rattle.std.specs.Prelude.{ℕ, ◌+◌, ◌-◌, ◌*◌, ◌/◌, ◌%◌, ◌^◌}
+use Rattle.std.specs.Prelude.{◌≡◌, ◌≢◌, ◌⊎◌, ℕ, ◌+◌, ◌-◌, ◌*◌, ◌/◌, ◌%◌, ◌^◌, ◌≤◌}
 
 -- the bytes in front of a block's address
 abbrev pub front : ℕ
@@ -19,3 +19,10 @@ told_slot word address = told word address % 65536
 
 abbrev pub told_size : (word address : ℕ) → ℕ
 told_size word address = told word address / 65536 * 16
+
+-- the word in front of an address is no block's. Nor is it that of a freed one, nor zeros, as where no block was
+pub record IsLostFront (word address : ℕ) : Type 0 where
+  pub in_units : address % 16 ≡ 0
+  pub some : word ≢ 0
+  pub not_freed : word ≢ address
+  pub told_none : (told_size word address ≤ front) ⊎ (2 ^ 30 ≤ told_size word address)

@@ -1,12 +1,17 @@
+pub mod Adopting
 pub mod Answers
 pub mod Creation
 pub mod Fronts
+pub mod HeapPlaces
 pub mod Lends
+pub mod LiveCounts
 pub mod LiveFigures
 pub mod Lying
+pub mod Moving
 pub mod Owned
 pub mod PlacedHeaps
 pub mod PlacedPools
+pub mod PlacedRows
 pub mod PoolPlaces
 pub mod RangeMoves
 pub mod Room

@@ -1,12 +1,12 @@
 //! Blocks of a heap with addresses tell their sizes, and get others.
 
-ghost use Rattle.std.specs.Prelude.{◌≡◌, ◌≢◌, ◌+◌, ◌-◌, ◌*◌, ◌/◌, ◌%◌, ◌^◌, ◌<◌, ◌≤◌, ◌⊎◌, map, max, min, true, false, Ok, Err, Some, IfOk, IfErr, OnOk, OnErr};
+ghost use Rattle.std.specs.Prelude.{◌≡◌, ◌≢◌, ◌+◌, ◌-◌, ◌*◌, ◌/◌, ◌%◌, ◌^◌, ◌<◌, ◌≤◌, ◌⊎◌, ◌↔◌, map, max, min, true, false, Ok, Err, Some, IfOk, IfErr, OnOk, OnErr};
 ghost use Rattle.tlsf_heap.specs.declared.refusal.Refusal.{Refusal};
 ghost use Rattle.tlsf_heap.specs.Counted.{IsUnchanged, Reads, range_of};
 ghost use Rattle.tlsf_heap.specs.Pointer.{realloc_ptr, block_size_ptr};
 ghost use Rattle.tlsf_heap.specs.Served.{IsMoved};
 ghost use Rattle.tlsf_heap.specs.Touches.{AtMost, realloc_touches, block_size_touches};
-ghost use Rattle.tlsf_c.specs.Fronts.{front, told_size};
+ghost use Rattle.tlsf_c.specs.Fronts.{front, told_size, IsLostFront};
 ghost use Rattle.tlsf_c.specs.LiveFigures.{IsLiveChange};
 ghost use Rattle.tlsf_c.specs.Lying.{LiesIn};
 ghost use Rattle.tlsf_c.specs.PlacedHeaps.{IsLiveAt, IsResizedAt, IsNotResized};
@@ -51,6 +51,15 @@ pub extern "C" fn tlsf_placed_told_size(address: u64, word: u64) -> u64
     } else {
         0
     }
+}
+
+/// Whether the word in front of an address, where blocks may begin, is no block's: it was changed. The word of a freed block, and
+/// zeros, as where no block was, are none that was changed.
+#[unsafe(no_mangle)]
+pub extern "C" fn tlsf_placed_lost_front(address: u64, word: u64) -> bool
+    ensures lost { (result ≡ true) ↔ IsLostFront word address }
+{
+    address % 16 == 0 && word != 0 && word != address && tlsf_placed_told_size(address, word) == 0
 }
 
 /// `tlsf_heap_realloc` of a block to some bytes. The library has the code of `Heap::realloc` once, in that export.

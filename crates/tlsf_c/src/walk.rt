@@ -1,6 +1,6 @@
 //! The rows of a pool.
 
-ghost use Rattle.std.specs.Prelude.{◌≡◌, ◌≢◌, ◌^◌, ◌≤◌, Ok, IfOk, length, slice_set};
+ghost use Rattle.std.specs.Prelude.{◌≡◌, ◌≢◌, ◌^◌, ◌≤◌, Ok, IfOk, length};
 ghost use Rattle.tlsf_heap.specs.Counted.{Reads};
 ghost use Rattle.tlsf_heap.specs.Cursors.{rows_behind, is_at_row};
 ghost use Rattle.tlsf_heap.specs.Rows.{rows_from};
@@ -9,6 +9,7 @@ ghost use Rattle.tlsf_c.specs.Rows.{IsFilled, from_place};
 ghost use Rattle.tlsf_c.specs.Status.{status_of};
 
 use crate::handle::Handle;
+use crate::room::put;
 use crate::row::Row;
 use crate::status::{SERVED, number};
 use tlsf_heap::{Cursor, Heap};
@@ -66,14 +67,4 @@ fn fill(heap: &mut Heap, cursor: Cursor, from: u64, rows: &mut [Row]) -> u64
         here = next.1;
     }
     count
-}
-
-/// Puts a row at an index, where there is room for it.
-fn put(rows: &mut [Row], index: u64, row: Row)
-    ensures { rows.new ≡ slice_set rows.old index row }
-{
-    let index = index as usize;
-    if index < rows.len() {
-        rows[index] = row;
-    }
 }
