@@ -119,7 +119,7 @@ function partsWords(parts) {
   const sum = poolBytes(parts, "sum");
   if (!isNumber(parts.heaps)) return "No heaps by size serve it.";
   const heaps = `${counted(Number(parts.heaps), "heap")} by size`;
-  return sum ? `${heaps} serve it, with ${sum} in all.` : `${heaps} don't: one would need more blocks than a heap has.`;
+  return sum ? `${heaps} serve it, with ${sum} in all.` : `${heaps} don't serve it, either: one would need more blocks than a heap has.`;
 }
 
 function requestWords({ line, size, align, classSize, at }) {
@@ -170,7 +170,7 @@ function partWords(name, [bytes, blocks], holders) {
 
 // Who holds what isn't freed; where it is known what of that is lost, each part for itself.
 function notFreedWords(groups) {
-  if (!data.lost) return `${greatest(groups, PLACES[1]) || "All of 0 bytes"}. Which of it is lost, tlsf-trace --reachable tells.`;
+  if (!data.lost) return `${greatest(groups, PLACES[1]) || "All of 0 bytes"}. To see which of it is lost, trace it by tlsf-trace --reachable.`;
   const lostOf = new Map(data.leaks.map(([row, ...numbers]) => [row, numbers.slice(-PARTS.length)]));
   const apart = grouped(totalRows, totalRows.map((_, at) => lostOf.get(at) || PARTS.map(() => 0)));
   return PARTS.map((name, part) => partWords(name, data.lost[part], greatest(apart, part))).join(" ");
