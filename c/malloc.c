@@ -5,7 +5,8 @@
  * 536,870,912. TLSF_RECORDS is the records of its table: from 1 to 65,535, without it 65,535. With
  * TLSF_PARTS it serves from parts of tlsf_parts.h in place of the pool: TLSF_PARTS=64:2130,2048:41 is
  * 2,130 blocks of at most 64 bytes, and 41 of at most 2,048. With TLSF_REPORT=1 each process writes a
- * line on standard error at its end, behind one for each part.
+ * line on standard error at its end, behind one for each part; and at once one of the first request
+ * that is refused.
  *
  * One lock lets one call in at a time, and is held over a fork. The proof is about a heap that one
  * thread calls; here each thread calls it, under the lock. Beyond the pool or the records a call
@@ -166,6 +167,16 @@ static void *ask(void *address, size_t align, size_t bytes)
                            : tlsf_realloc(heap, address, bytes);
 }
 
+/* The first request that is refused is told where a report is asked for: the program may end by it. */
+static void tell_refusal(size_t bytes)
+{
+    static bool told;
+    if (report_to >= 0 && !told) {
+        told = true;
+        say(report_to, "a request of %zu bytes is the first that is refused\n", bytes);
+    }
+}
+
 /* Without an address: a new block, of one byte at least. With one: room for the bytes in its block,
  * which is given back for no bytes. */
 static void *serve(void *address, size_t align, size_t bytes)
@@ -173,8 +184,12 @@ static void *serve(void *address, size_t align, size_t bytes)
     size_t wanted = address == NULL && bytes == 0 ? 1 : bytes;
     begin();
     void *given = ask(address, align, wanted);
+    bool refused = wanted != 0 && given == NULL;
+    if (refused) {
+        tell_refusal(wanted);
+    }
     finish();
-    if (wanted != 0 && given == NULL) {
+    if (refused) {
         errno = ENOMEM;
     }
     return given;

@@ -205,7 +205,7 @@ enum tlsf_status tlsf_heap_create_in(void *memory, size_t bytes, uint32_t record
  * before it was filled, and may be destroyed twice. */
 void tlsf_heap_destroy(tlsf_heap *heap);
 
-/* Adds a pool of `bytes` bytes from the place base on, as one free block. At most 27 touches.
+/* Adds a pool of `bytes` bytes from the place base on, as one free block. At most 25 touches.
  * Answers 0, TLSF_BAD_POOL, TLSF_POOLS_FULL or TLSF_TABLE_FULL. A pool is bad where base or bytes
  * isn't a multiple of 16, or bytes isn't from 16 to 1,073,741,808. It is bad, too, where its end is
  * above 2^32, or it overlaps another pool. Pools are never merged. */
@@ -216,7 +216,7 @@ enum tlsf_status tlsf_heap_add_pool(tlsf_heap *heap, uint64_t base, uint64_t byt
  * free block. */
 enum tlsf_status tlsf_heap_remove_pool(tlsf_heap *heap, uint64_t base);
 
-/* Gives *out a live block of at least `bytes` bytes, rounded up to 16. At most 23 touches.
+/* Gives *out a live block of at least `bytes` bytes, rounded up to 16. At most 21 touches.
  * Answers 0, TLSF_ZERO_SIZE, TLSF_NO_FIT or TLSF_TABLE_FULL.
  * Lists are searched upwards, from the lowest class whose blocks all hold the bytes. The block is
  * the first of the first list that isn't empty. So TLSF_NO_FIT says that each free block is smaller
@@ -224,16 +224,16 @@ enum tlsf_status tlsf_heap_remove_pool(tlsf_heap *heap, uint64_t base);
 enum tlsf_status tlsf_heap_malloc(tlsf_heap *heap, uint64_t bytes, tlsf_heap_block *out);
 
 /* As tlsf_heap_malloc, at a place that is a multiple of align, a power of two from 1 to 2^29. At
- * most 38 touches.
+ * most 35 touches.
  * Answers 0, TLSF_BAD_ALIGN, TLSF_ZERO_SIZE, TLSF_NO_FIT or TLSF_TABLE_FULL. */
 enum tlsf_status tlsf_heap_memalign(tlsf_heap *heap, uint64_t align, uint64_t bytes,
                                     tlsf_heap_block *out);
 
-/* Frees the block, and merges it with its free neighbours in the pool. At most 32 touches.
+/* Frees the block, and merges it with its free neighbours in the pool. At most 30 touches.
  * Answers 0, or TLSF_BAD_POINTER unless a live block has this place and this slot. */
 enum tlsf_status tlsf_heap_free(tlsf_heap *heap, tlsf_heap_block block);
 
-/* Gives *out the block with room for `bytes` bytes, at its old place or at another. At most 58
+/* Gives *out the block with room for `bytes` bytes, at its old place or at another. At most 54
  * touches. Where the place is another, the program copies the bytes that it has in the block before
  * its next call. The new block was given before the old one became free, so the two don't overlap.
  * No other block gets the old one's bytes before the next call.

@@ -216,5 +216,5 @@ int main(void)
     say_number("ticks with interrupts off, at most: free ", longest_free);
     say_number("ticks with interrupts off, at most: realloc ", longest_realloc);
     say(good ? "ok\n" : "not ok\n");
-    return 0;
+    return good ? 0 : 1;
 }

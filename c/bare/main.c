@@ -151,5 +151,5 @@ int main(void)
            && expect(serves_by_pointer(), "the calls of tlsf.h");
     tlsf_heap_destroy(&heap);
     say(good ? "ok\n" : "not ok\n");
-    return 0;
+    return good ? 0 : 1;
 }

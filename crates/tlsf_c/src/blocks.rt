@@ -17,7 +17,7 @@ use crate::block::Block;
 use crate::handle::Handle;
 use crate::status::{SERVED, number};
 
-/// A live block of at least `bytes` bytes, which goes to `out`. At most 23 touches.
+/// A live block of at least `bytes` bytes, which goes to `out`. At most 21 touches.
 ///
 /// The status is 0 or the number of `ZeroSize`, `NoFit` or `TableFull`.
 #[unsafe(no_mangle)]
@@ -35,7 +35,7 @@ pub extern "C" fn tlsf_heap_malloc(handle: &mut Handle, bytes: u64, out: &mut Bl
     }
 }
 
-/// A live block of at least `bytes` bytes that begins at a multiple of `align`, which goes to `out`. At most 38 touches.
+/// A live block of at least `bytes` bytes that begins at a multiple of `align`, which goes to `out`. At most 35 touches.
 ///
 /// The status is 0 or the number of `BadAlign`, `ZeroSize`, `NoFit` or `TableFull`.
 #[unsafe(no_mangle)]
@@ -59,7 +59,7 @@ pub extern "C" fn tlsf_heap_memalign(
     }
 }
 
-/// The block becomes free. At most 32 touches.
+/// The block becomes free. At most 30 touches.
 ///
 /// The status is 0, or the number of `BadPointer` unless a live block has both the place and the slot.
 #[unsafe(no_mangle)]
@@ -74,7 +74,7 @@ pub extern "C" fn tlsf_heap_free(handle: &mut Handle, block: Block) -> u32
 }
 
 /// The live block with room for `bytes` bytes, in its place or moved, which goes to `out`; which bytes are copied is the
-/// caller's. Where `bytes` is 0 the block becomes free, and `out` stays. At most 58 touches.
+/// caller's. Where `bytes` is 0 the block becomes free, and `out` stays. At most 54 touches.
 ///
 /// The status is 0 or the number of `BadPointer`, `NoFit` or `TableFull`.
 #[unsafe(no_mangle)]

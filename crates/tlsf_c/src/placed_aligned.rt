@@ -53,7 +53,7 @@ fn allocate_aligned(heap: &mut Heap, align: u64, bytes: u64) -> Result<Ptr, Refu
     given
 }
 
-/// A live block of at least `bytes` bytes, as by `tlsf_placed_malloc`, whose address is a multiple of `align`. At most 38 touches.
+/// A live block of at least `bytes` bytes, as by `tlsf_placed_malloc`, whose address is a multiple of `align`. At most 35 touches.
 ///
 /// Where the heap refuses the answer is 0. Then `word` gets the number of `BadAlign`, `ZeroSize`, `NoFit` or `TableFull`. It is
 /// that of `BadAlign` also where addresses aren't multiples of `align` as places are, in some pool.

@@ -112,7 +112,7 @@ pub(crate) fn place_block(pools: &[PlacedPool; 8], ptr: Ptr, size: u64, word: &m
 }
 
 /// A live block of at least `bytes` bytes, at the address that is answered, with eight bytes in front of it. `word` gets
-/// what the caller puts into these, and hands back with the address. At most 25 touches.
+/// what the caller puts into these, and hands back with the address. At most 23 touches.
 ///
 /// Where the heap refuses the answer is 0. Then `word` gets the number of `ZeroSize`, `NoFit` or `TableFull`.
 #[unsafe(no_mangle)]
@@ -180,7 +180,7 @@ pub(crate) fn find(heap: &mut PlacedHeap, address: u64, word: u64) -> Option<Siz
     })
 }
 
-/// The block at an address becomes free, where the word in front of it is the block's. At most 33 touches.
+/// The block at an address becomes free, where the word in front of it is the block's. At most 31 touches.
 ///
 /// The status is 0, or the number of `BadPointer` unless the block is live.
 #[unsafe(no_mangle)]

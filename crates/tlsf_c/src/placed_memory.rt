@@ -19,7 +19,7 @@ use tlsf_heap::{Refusal, is_alignment};
 
 /// A pool, as one free block, of the whole units of 16 bytes in the memory from `memory` on, `bytes` bytes. The first begins
 /// eight bytes in front of a multiple of 16. The pool's places and addresses are equal modulo `align`. `entry` gets which of
-/// the entries holds it. At most 27 touches.
+/// the entries holds it. At most 25 touches.
 ///
 /// The status is 0 or the number of `BadAlign`, `BadPool`, `PoolsFull` or `TableFull`. It is that of `BadPool` also where the
 /// memory has no unit or overlaps another pool's bytes, or where no places are left.

@@ -87,7 +87,7 @@ fn can_be_placed(first: u64, bytes: u64) -> bool
 }
 
 /// A pool of `bytes` bytes, as one free block, whose address is `first`: the pool begins eight bytes before it, and has the
-/// places from `place` on. `entry` gets which of the entries holds it. At most 27 touches.
+/// places from `place` on. `entry` gets which of the entries holds it. At most 25 touches.
 ///
 /// The status is 0 or the number of `BadPool`, `PoolsFull` or `TableFull`. It is that of `BadPool` also where the pool can't
 /// have that address, or overlaps another pool's bytes.

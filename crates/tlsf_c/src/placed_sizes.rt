@@ -123,7 +123,7 @@ fn to_copy(stays: bool, had: u64, has: u64) -> u64
 
 /// The live block at an address gets room for `bytes` bytes, where `word` is the word in front of it. The answer is its address
 /// then. Where that is another one, `copied` gets how many bytes the caller has to copy there, and else 0. `word` gets what
-/// stands in front of it. At most 60 touches.
+/// stands in front of it. At most 56 touches.
 ///
 /// Where that is refused the answer is 0, and all is as it was. Then `word` gets the number of `BadPointer` unless the block is
 /// live, and else that of `NoFit` or `TableFull`.

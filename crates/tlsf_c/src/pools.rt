@@ -7,7 +7,7 @@ ghost use Rattle.tlsf_c.specs.Answers.{Answers};
 use crate::handle::Handle;
 use crate::status::{SERVED, number};
 
-/// A pool of `bytes` bytes from the place `base` on, as one free block. At most 27 touches.
+/// A pool of `bytes` bytes from the place `base` on, as one free block. At most 25 touches.
 ///
 /// The status is 0 or the number of `BadPool`, `PoolsFull` or `TableFull`.
 #[unsafe(no_mangle)]

@@ -10,6 +10,7 @@ pub mod Merge
 pub mod Lists
 pub mod Taken
 pub mod Linked
+pub mod Written
 pub mod Unlinked
 pub mod PoolMoves
 pub mod Sums

@@ -14,12 +14,12 @@ ghost use Rattle.tlsf_heap.specs.Inner.Answers.{AnswersOver};
 
 use crate::Refusal;
 use crate::entries::{entries, entries_with, first_behind, is_apart, set_entries};
-use crate::free_lists::link;
+use crate::free_lists::put_first;
 use crate::image::VACANT;
 use tlsf_class::class_of;
 use tlsf_store::{Pool, Record, State, Store, can_be_pool};
 
-/// A pool of `bytes` bytes from the place `base` on enters the store, as one free block. At most 27
+/// A pool of `bytes` bytes from the place `base` on enters the store, as one free block. At most 25
 /// touches.
 ///
 /// # Errors
@@ -56,7 +56,7 @@ fn can_enter(entries: &[Pool], base: u64, bytes: u64) -> bool
 }
 
 /// Makes a pool one free block, whose slot was taken, the first of its class's list, and puts its entry
-/// among the others. At most 17 touches.
+/// among the others. At most 15 touches.
 fn put_pool(store: &mut Store, entries: &[Pool], entry: Pool)
     requires can { can_be_pool entry.base entry.bytes ≡ true }
     requires room { length entries.now < most_pools }
@@ -66,18 +66,21 @@ fn put_pool(store: &mut Store, entries: &[Pool], entry: Pool)
     requires slot_used { IsUsed store.old.cells.records (Some entry.first) }
     requires taken { (layout : Layout) × Represents store.old.cells (record layout { taken = entry.first ∷ layout.taken }) }
     ensures leads { (layout : Layout) → Represents store.old.cells (record layout { taken = entry.first ∷ layout.taken }) → Represents store.new.cells (pool_laid entry layout) }
-    ensures touches { AtMost 17 store.old.touches store.new.touches }
+    ensures touches { AtMost 15 store.old.touches store.new.touches }
 {
     let Pool { base, bytes, first } = entry;
     let place = first_behind(entries, base).unwrap_or(entries.len());
     let all = entries_with(entries, place, entry);
+    let class = class_of(bytes);
+    let second = store.head(class);
     let block = Record {
         place: base,
         size: bytes,
         state: State::Free,
+        next_free: second,
         ..VACANT
     };
     store.write(first, block);
     set_entries(store, all.as_slice());
-    link(store, class_of(bytes), first);
+    put_first(store, class, first, &second);
 }

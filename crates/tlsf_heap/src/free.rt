@@ -15,14 +15,14 @@ ghost use Rattle.tlsf_heap.specs.Inner.At.{At, StandsAt, previous_merged, next_m
 ghost use Rattle.tlsf_heap.specs.Inner.Spans.{IsRead, IsRecordOf, CanMerge, merged_by};
 ghost use Rattle.tlsf_heap.specs.Inner.Answers.{AnswersOver, Leaves};
 
-use crate::chains::{set_prev, turn};
-use crate::free_lists::{link, unlink};
+use crate::chains::set_prev;
+use crate::free_lists::{put_first, unlink};
 use crate::span::Span;
 use crate::{Ptr, Refusal};
 use tlsf_class::class_of;
 use tlsf_store::{Record, Slot, State, Store};
 
-/// The block becomes free, and one free block with its free neighbours in the pool. At most 32 touches.
+/// The block becomes free, and one free block with its free neighbours in the pool. At most 30 touches.
 ///
 /// # Errors
 ///
@@ -65,30 +65,28 @@ fn is_live_at(block: &Record, place: u32) -> bool
 }
 
 /// The block of this record becomes free, and one free block with its free neighbours in the pool. At
-/// most 31 touches.
+/// most 29 touches.
 #[inline(always)]
 pub(crate) fn release(store: &mut Store, slot: Slot, block: &Record)
     requires stands { (at : At) × StandsAt slot InUse store.old.cells at }
     requires read { block.now ≡ record_at store.old.cells.records slot }
     requires in_units { block.now.place % unit ≡ 0 }
     ensures leads { (at : At) → StandsAt slot InUse store.old.cells at → StandsAt (at_freed at).node.slot Listed store.new.cells (at_freed at) }
-    ensures touches { AtMost 31 store.old.touches store.new.touches }
+    ensures touches { AtMost 29 store.old.touches store.new.touches }
 {
-    let whole = Span::of(slot, block);
-    turn(store, &whole, State::Free);
-    let merged = merge_previous(store, block.prev, whole);
-    let all = merge_next(store, merged, State::Free);
+    let merged = merge_previous(store, block.prev, Span::of(slot, block));
+    let all = merge_next(store, merged);
     enter(store, all.slot, all.size);
 }
 
-/// The block, which is free and in no list, is merged with a free one before it, of the slot `previous`.
-/// The answer is the block that is left. At most 11 touches.
+/// The live block is merged with a free one before it, of the slot `previous`, and stays live. The answer is the
+/// block that is left. At most 11 touches.
 #[inline(always)]
 fn merge_previous(store: &mut Store, previous: Option<Slot>, block: Span) -> Span
-    requires stands { (at : At) × StandsAt block.slot Loose store.old.cells at }
+    requires stands { (at : At) × StandsAt block.slot InUse store.old.cells at }
     requires read { IsRead block store.old.cells.records }
     requires previous { previous ≡ (record_at store.old.cells.records block.slot).prev }
-    ensures leads { (at : At) → StandsAt block.slot Loose store.old.cells at → StandsAt result.slot Loose store.new.cells (previous_merged at) }
+    ensures leads { (at : At) → StandsAt block.slot InUse store.old.cells at → StandsAt result.slot InUse store.new.cells (previous_merged at) }
     ensures read { IsRead result store.new.cells.records }
     ensures touches { AtMost 11 store.old.touches store.new.touches }
 {
@@ -105,19 +103,18 @@ fn merge_previous(store: &mut Store, previous: Option<Slot>, block: Span) -> Spa
         size: front.size + block.size,
         next: block.next,
     };
-    merge(store, &merged, front.state, block.slot, &front);
+    merge(store, &merged, block.slot, &front);
     merged
 }
 
-/// The block in this state, which is in no list, is merged with a free one after it. The answer is the
-/// block that is left, under its slot. At most 11 touches.
+/// The live block is merged with a free one after it, and stays live. The answer is the block that is left, under
+/// its slot. At most 11 touches.
 #[inline(always)]
-pub(crate) fn merge_next(store: &mut Store, block: Span, state: State) -> Span
-    requires stands { (node_state : NodeState) × (at : At) × (is_listed node_state ≡ false) × StandsAt block.slot node_state store.old.cells at }
+pub(crate) fn merge_next(store: &mut Store, block: Span) -> Span
+    requires stands { (at : At) × StandsAt block.slot InUse store.old.cells at }
     requires read { IsRead block store.old.cells.records }
-    requires state { state ≡ (record_at store.old.cells.records block.slot).state }
     ensures slot { result.slot ≡ block.slot }
-    ensures leads { (node_state : NodeState) (at : At) → is_listed node_state ≡ false → StandsAt block.slot node_state store.old.cells at → StandsAt block.slot node_state store.new.cells (next_merged at) }
+    ensures leads { (at : At) → StandsAt block.slot InUse store.old.cells at → StandsAt block.slot InUse store.new.cells (next_merged at) }
     ensures read { IsRead result store.new.cells.records }
     ensures touches { AtMost 11 store.old.touches store.new.touches }
 {
@@ -133,31 +130,32 @@ pub(crate) fn merge_next(store: &mut Store, block: Span, state: State) -> Span
         next: next.next,
         ..block
     };
-    merge(store, &merged, state, next_slot, &next);
+    merge(store, &merged, next_slot, &next);
     merged
 }
 
 /// One of two neighbours, of the record `listed`, leaves its class's list. The two are merged: the
-/// first, in this state, is then what `merged` says. At most ten touches.
+/// first is live, and what `merged` says. At most ten touches.
 #[inline(always)]
-fn merge(store: &mut Store, merged: &Span, state: State, behind: Slot, listed: &Record)
-    requires can { CanMerge merged.now behind listed.now store.old.cells.records (unlinked_by (class listed.now.size) listed.now store.old.cells).records }
-    requires new_used { state ≢ Vacant }
-    ensures { Leaves (merged_by merged.now state behind listed.now store.old.cells) 10 store.old store.new }
+fn merge(store: &mut Store, merged: &Span, behind: Slot, listed: &Record)
+    requires { CanMerge merged.now behind listed.now store.old.cells.records (unlinked_by (class listed.now.size) listed.now store.old.cells).records }
+    ensures { Leaves (merged_by merged.now behind listed.now store.old.cells) 10 store.old store.new }
 {
     unlink(store, class_of(listed.size), listed);
-    store.set_block(merged.slot, merged.size, state, merged.next);
+    store.set_block(merged.slot, merged.size, State::Live, merged.next);
     set_prev(store, merged.next, merged.slot);
     store.give_vacant(behind);
 }
 
-/// The block of `size` bytes, which is free and in no list, enters its class's list. At most eight
-/// touches.
+/// The live block of `size` bytes becomes free, the first of its class's list. At most seven touches.
 pub(crate) fn enter(store: &mut Store, slot: Slot, size: u32)
-    requires stands { (at : At) × StandsAt slot Loose store.old.cells at }
+    requires stands { (at : At) × StandsAt slot InUse store.old.cells at }
     requires size { size ≡ (record_at store.old.cells.records slot).size }
-    ensures leads { (at : At) → StandsAt slot Loose store.old.cells at → StandsAt slot Listed store.new.cells (at_listed at) }
-    ensures touches { AtMost 8 store.old.touches store.new.touches }
+    ensures leads { (at : At) → StandsAt slot InUse store.old.cells at → StandsAt slot Listed store.new.cells (at_listed at) }
+    ensures touches { AtMost 7 store.old.touches store.new.touches }
 {
-    link(store, class_of(size), slot);
+    let class = class_of(size);
+    let first = store.head(class);
+    store.set_free(slot, size, first);
+    put_first(store, class, slot, &first);
 }

@@ -135,7 +135,7 @@ impl Heap {
         }
     }
 
-    /// A pool of `bytes` bytes from the place `base` on, as one free block. At most 27 touches.
+    /// A pool of `bytes` bytes from the place `base` on, as one free block. At most 25 touches.
     ///
     /// # Errors
     ///
@@ -167,7 +167,7 @@ impl Heap {
 
     /// A live block of at least `n` bytes, rounded up to the unit. It is the first block of the first list that isn't
     /// empty, from the least class whose blocks all hold as many. What is left of it behind these bytes is a free
-    /// block. At most 23 touches.
+    /// block. At most 21 touches.
     ///
     /// # Errors
     ///
@@ -189,7 +189,7 @@ impl Heap {
     }
 
     /// As `malloc`. Where that finds no block, the first of the class that `n` bytes, rounded up, are in is taken, if it
-    /// has as many. At most 25 touches.
+    /// has as many. At most 23 touches.
     ///
     /// # Errors
     ///
@@ -210,7 +210,7 @@ impl Heap {
     /// off a block that holds `n` bytes, rounded up, and for an alignment above the unit `align` less the unit more.
     /// That is the first block of the first list that isn't empty, from the least class whose blocks all hold as
     /// many. What is left in front of the live block and behind it are free blocks; the one in front enters its list
-    /// first. At most 38 touches.
+    /// first. At most 35 touches.
     ///
     /// # Errors
     ///
@@ -233,7 +233,7 @@ impl Heap {
     }
 
     /// The block becomes free. It and its free neighbours in the pool are one free block then, the first
-    /// of its class's list. At most 32 touches.
+    /// of its class's list. At most 30 touches.
     ///
     /// # Errors
     ///
@@ -251,7 +251,7 @@ impl Heap {
     /// with the free block behind it, or smaller. Else a new block is given, and the old one is freed; which bytes
     /// are copied is the caller's. Without a pointer it is `malloc`. The answer to 0 bytes is `None`, and the block
     /// is freed. A block that gets smaller stays as it is where no free block is behind it and each record is in use.
-    /// At most 58 touches.
+    /// At most 54 touches.
     ///
     /// # Errors
     ///

@@ -16,14 +16,14 @@ ghost use Rattle.tlsf_heap.specs.Inner.Spans.{IsRead, IsOfClass};
 ghost use Rattle.tlsf_heap.specs.Inner.Answers.{AnswersOver, IsPick, IsTakeable, IsTakenFor, Leaves};
 
 use crate::chains::{split, turn};
-use crate::free_lists::{link, unlink};
+use crate::free_lists::{put_first, unlink};
 use crate::search::search;
 use crate::span::Span;
 use crate::{Ptr, Refusal};
 use tlsf_class::{Class, class_for, class_of, round};
 use tlsf_store::{Record, Slot, State, Store};
 
-/// A live block of `n` bytes, rounded up to the unit. At most 23 touches.
+/// A live block of `n` bytes, rounded up to the unit. At most 21 touches.
 ///
 /// # Errors
 ///
@@ -40,7 +40,7 @@ pub(crate) fn malloc(store: &mut Store, n: u64) -> Result<Ptr, Refusal>
     allocate(store, asked)
 }
 
-/// A live block of `asked` bytes: the first of those that the block picked has. At most 23 touches.
+/// A live block of `asked` bytes: the first of those that the block picked has. At most 21 touches.
 ///
 /// # Errors
 ///
@@ -56,7 +56,7 @@ pub(crate) fn allocate(store: &mut Store, asked: u32) -> Result<Ptr, Refusal>
 }
 
 /// The same. Where no block is picked the first of the class that the bytes are in is taken, if it has them. At
-/// most 25 touches.
+/// most 23 touches.
 ///
 /// # Errors
 ///
@@ -124,7 +124,7 @@ pub(crate) fn pick(store: &mut Store, asked: u32) -> Option<(Class, Slot)>
     Some((found, slot))
 }
 
-/// The first `asked` bytes of a block that may be taken, of this class, are a live block. At most 19 touches.
+/// The first `asked` bytes of a block that may be taken, of this class, are a live block. At most 17 touches.
 ///
 /// # Errors
 ///
@@ -134,7 +134,7 @@ fn take(store: &mut Store, class: Class, slot: Slot, asked: u32) -> Result<Ptr, 
     requires stands { Stands store.old.cells }
     requires size { IsSize asked }
     requires takeable { IsTakeable asked class slot store.old.cells }
-    ensures { AnswersOver result (IsServed (λ owner. malloc_picked owner asked (Some (record_at store.old.cells.records slot).place))) (λ refusal old. (owner : ℕ) → malloc_picked owner asked (Some (record_at store.old.cells.records slot).place) old ≡ Err refusal) 19 store.old store.new }
+    ensures { AnswersOver result (IsServed (λ owner. malloc_picked owner asked (Some (record_at store.old.cells.records slot).place))) (λ refusal old. (owner : ℕ) → malloc_picked owner asked (Some (record_at store.old.cells.records slot).place) old ≡ Err refusal) 17 store.old store.new }
 {
     let block = store.read_used(slot);
     if block.size == asked {
@@ -164,7 +164,7 @@ pub(crate) fn take_whole(store: &mut Store, class: Class, slot: Slot, block: &Re
 }
 
 /// A block that is in no list keeps its first bytes and is live. What is left is a free block of the slot
-/// `rest`, first in its class's list. At most 11 touches.
+/// `rest`, first in its class's list. At most nine touches.
 fn split_off(store: &mut Store, block: &Span, rest: Slot, bytes: u32)
     requires stands { (node_state : NodeState) × (at : At) × (is_listed node_state ≡ false) × StandsAt block.now.slot node_state store.old.cells (with_slot rest at) }
     requires read { IsRead block.now store.old.cells.records }
@@ -172,14 +172,16 @@ fn split_off(store: &mut Store, block: &Span, rest: Slot, bytes: u32)
     requires less { bytes < block.now.size }
     requires whole { bytes % unit ≡ 0 }
     ensures leads { (node_state : NodeState) (at : At) → is_listed node_state ≡ false → StandsAt block.now.slot node_state store.old.cells (with_slot rest at) → StandsAt rest Listed store.new.cells (at_split_off rest bytes (at_turned InUse at)) }
-    ensures touches { AtMost 11 store.old.touches store.new.touches }
+    ensures touches { AtMost 9 store.old.touches store.new.touches }
 {
-    split(store, block, State::Live, rest, State::Free, bytes);
-    link(store, class_of(block.size - bytes), rest);
+    let class = class_of(block.size - bytes);
+    let first = store.head(class);
+    split(store, block, rest, State::Free, first, bytes);
+    put_first(store, class, rest, &first);
 }
 
 /// A live block keeps its first bytes. What is left, where anything is, is a free block first in its
-/// class's list. At most 13 touches.
+/// class's list. At most 11 touches.
 pub(crate) fn split_rest(store: &mut Store, block: &Span, bytes: u32)
     requires stands { (at : At) × StandsAt block.now.slot InUse store.old.cells at }
     requires read { IsRead block.now store.old.cells.records }
@@ -188,7 +190,7 @@ pub(crate) fn split_rest(store: &mut Store, block: &Span, bytes: u32)
     requires whole { bytes % unit ≡ 0 }
     requires room { bytes < block.now.size → 0 < vacant_count store.old.cells.records }
     ensures leads { (at : At) → StandsAt block.now.slot InUse store.old.cells at → (rest : ℕ) × StandsAt block.now.slot InUse store.new.cells (at_split_rest rest bytes at) }
-    ensures touches { AtMost 13 store.old.touches store.new.touches }
+    ensures touches { AtMost 11 store.old.touches store.new.touches }
 {
     if block.size == bytes {
         return;

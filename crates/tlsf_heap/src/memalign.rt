@@ -25,7 +25,7 @@ use tlsf_store::{Slot, State, Store};
 /// The greatest alignment, in bytes.
 const GREATEST_ALIGNMENT: u64 = 1 << 29;
 
-/// A live block of `n` bytes, rounded up to the unit, that begins at a multiple of the alignment. At most 38
+/// A live block of `n` bytes, rounded up to the unit, that begins at a multiple of the alignment. At most 35
 /// touches.
 ///
 /// # Errors
@@ -48,7 +48,7 @@ pub(crate) fn memalign(store: &mut Store, align: u64, n: u64) -> Result<Ptr, Ref
 }
 
 /// The block picked, of this class, is split: a live block of `asked` bytes begins at the least multiple
-/// of the alignment at or above its place. At most 34 touches.
+/// of the alignment at or above its place. At most 31 touches.
 ///
 /// # Errors
 ///
@@ -64,7 +64,7 @@ fn split_aligned(
     requires is { is_alignment align ≡ true }
     requires size { IsSize asked }
     requires picked { IsPick (size_asked align asked) class slot store.old.cells }
-    ensures { AnswersOver result (IsServed (λ owner. memalign_rounded owner align (Some asked))) (λ refusal old. (owner : ℕ) → memalign_rounded owner align (Some asked) old ≡ Err refusal) 34 store.old store.new }
+    ensures { AnswersOver result (IsServed (λ owner. memalign_rounded owner align (Some asked))) (λ refusal old. (owner : ℕ) → memalign_rounded owner align (Some asked) old ≡ Err refusal) 31 store.old store.new }
 {
     let block = store.read_used(slot);
     let start = start_of(block.place, align);
@@ -125,7 +125,7 @@ pub(crate) fn start_of(place: u32, align: u32) -> u32
 }
 
 /// A live block keeps what is behind its first bytes, under another slot. These are a free block, first in
-/// its class's list; where there are none, nothing changes. The answer is the live block's slot. At most 13
+/// its class's list; where there are none, nothing changes. The answer is the live block's slot. At most 12
 /// touches.
 fn leave_gap(store: &mut Store, block: &Span, bytes: u32) -> Slot
     requires stands { (at : At) × StandsAt block.now.slot InUse store.old.cells at }
@@ -135,7 +135,7 @@ fn leave_gap(store: &mut Store, block: &Span, bytes: u32) -> Slot
     requires room { 0 < bytes → 0 < vacant_count store.old.cells.records }
     ensures leads { (at : At) → StandsAt block.now.slot InUse store.old.cells at → StandsAt result InUse store.new.cells (at_gapped result bytes at) }
     ensures slot { IsLeft bytes block.now.slot result store.old.cells.records }
-    ensures touches { AtMost 13 store.old.touches store.new.touches }
+    ensures touches { AtMost 12 store.old.touches store.new.touches }
 {
     if bytes == 0 {
         return block.slot;
@@ -143,7 +143,7 @@ fn leave_gap(store: &mut Store, block: &Span, bytes: u32) -> Slot
     let Some(live) = store.take_vacant() else {
         unreachable!()
     };
-    split(store, block, State::Free, live, State::Live, bytes);
+    split(store, block, live, State::Live, None, bytes);
     enter(store, block.slot, bytes);
     live
 }

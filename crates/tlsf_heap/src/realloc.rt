@@ -20,10 +20,10 @@ use crate::malloc::{allocate, malloc, split_rest};
 use crate::span::Span;
 use crate::{Ptr, Refusal};
 use tlsf_class::round;
-use tlsf_store::{Slot, State, Store};
+use tlsf_store::{Slot, Store};
 
 /// The block with another size, in its place or moved; without a pointer a new block. Where no byte is asked for it is
-/// freed. At most 58 touches.
+/// freed. At most 54 touches.
 ///
 /// # Errors
 ///
@@ -48,7 +48,7 @@ pub(crate) fn realloc(store: &mut Store, ptr: Option<Ptr>, n: u64) -> Result<Opt
 }
 
 /// The live block with `asked` bytes, in its place where it can have them. A block that gets smaller and
-/// can't give back what is left stays as it is. At most 57 touches.
+/// can't give back what is left stays as it is. At most 53 touches.
 ///
 /// # Errors
 ///
@@ -60,7 +60,7 @@ fn resize(store: &mut Store, ptr: Ptr, block: Span, asked: u32) -> Result<Ptr, R
     requires place { block.place ≡ ptr.place }
     requires read { IsRead block store.old.cells.records }
     requires size { IsSize asked }
-    ensures { AnswersOver result (λ given. IsMoved (λ slot. realloc_sized slot ptr.place ptr.slot asked) (Some ptr) (Some given)) (λ refusal old. (owner : ℕ) → realloc_sized owner ptr.place ptr.slot asked old ≡ Err refusal) 57 store.old store.new }
+    ensures { AnswersOver result (λ given. IsMoved (λ slot. realloc_sized slot ptr.place ptr.slot asked) (Some ptr) (Some given)) (λ refusal old. (owner : ℕ) → realloc_sized owner ptr.place ptr.slot asked old ≡ Err refusal) 53 store.old store.new }
 {
     if asked == block.size {
         return Ok(ptr);
@@ -106,7 +106,7 @@ fn free_behind(store: &mut Store, block: &Span) -> Option<u32>
 }
 
 /// The live block is merged with a free one behind it, and keeps the first `asked` bytes. What is left,
-/// where anything is, is a free block. At most 24 touches.
+/// where anything is, is a free block. At most 22 touches.
 fn resize_in_place(store: &mut Store, block: Span, asked: u32)
     requires stands { Stands store.old.cells }
     requires live { is_live (λ slot. slot == block.slot) block.place (blocks_of (content_of store.old.cells).pools) ≡ true }
@@ -116,13 +116,13 @@ fn resize_in_place(store: &mut Store, block: Span, asked: u32)
     requires size { IsSize asked }
     ensures stands { Stands store.new.cells }
     ensures content { content_of store.new.cells ≡ resized block.slot block.place asked (content_of store.old.cells) }
-    ensures touches { AtMost 24 store.old.touches store.new.touches }
+    ensures touches { AtMost 22 store.old.touches store.new.touches }
 {
-    let grown = merge_next(store, block, State::Live);
+    let grown = merge_next(store, block);
     split_rest(store, &grown, asked);
 }
 
-/// A new block, and the old one is freed. At most 55 touches.
+/// A new block, and the old one is freed. At most 51 touches.
 ///
 /// # Errors
 ///
@@ -131,7 +131,7 @@ fn relocate(store: &mut Store, ptr: Ptr, asked: u32) -> Result<Ptr, Refusal>
     requires stands { Stands store.old.cells }
     requires live { is_live (λ slot. slot == ptr.slot) ptr.place (blocks_of (content_of store.old.cells).pools) ≡ true }
     requires size { IsSize asked }
-    ensures { AnswersOver result (λ given. IsMoved (λ slot old. moved slot ptr.place (malloc_rounded slot (Some asked) old)) (Some ptr) (Some given)) (λ refusal old. (owner : ℕ) → moved owner ptr.place (malloc_rounded owner (Some asked) old) ≡ Err refusal) 55 store.old store.new }
+    ensures { AnswersOver result (λ given. IsMoved (λ slot old. moved slot ptr.place (malloc_rounded slot (Some asked) old)) (Some ptr) (Some given)) (λ refusal old. (owner : ℕ) → moved owner ptr.place (malloc_rounded owner (Some asked) old) ≡ Err refusal) 51 store.old store.new }
 {
     let given = allocate(store, asked)?;
     let slot = Slot(ptr.slot());

@@ -93,7 +93,7 @@ impl Region {
         Ok(Region { heap, bytes })
     }
 
-    /// A pool of `bytes` bytes from the place `base` on, as one free block. At most 27 touches.
+    /// A pool of `bytes` bytes from the place `base` on, as one free block. At most 25 touches.
     ///
     /// # Errors
     ///
@@ -128,7 +128,7 @@ impl Region {
     }
 
     /// A live block of at least `n` bytes, as `Heap::malloc` gives it. Its bytes are those that were there.
-    /// At most 23 touches.
+    /// At most 21 touches.
     ///
     /// # Errors
     ///
@@ -146,7 +146,7 @@ impl Region {
     }
 
     /// A live block of at least `n` bytes that begins at a multiple of `align`, as `Heap::memalign` gives it. Its
-    /// bytes are those that were there. At most 38 touches.
+    /// bytes are those that were there. At most 35 touches.
     ///
     /// # Errors
     ///
@@ -165,7 +165,7 @@ impl Region {
         self.heap.memalign(align, n)
     }
 
-    /// The block becomes free, as `Heap::free` makes it. At most 32 touches.
+    /// The block becomes free, as `Heap::free` makes it. At most 30 touches.
     ///
     /// # Errors
     ///
@@ -179,7 +179,7 @@ impl Region {
     }
 
     /// The block with room for `n` bytes, as `Heap::realloc` gives it. A block that moves takes its bytes
-    /// along: they are the start of the new block then. Else no byte changes. At most 59 touches.
+    /// along: they are the start of the new block then. Else no byte changes. At most 55 touches.
     ///
     /// # Errors
     ///

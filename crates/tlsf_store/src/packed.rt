@@ -1,8 +1,8 @@
 //! A record as the table keeps it, in sixteen bytes.
 
-ghost use Rattle.std.specs.Prelude.{◌≡◌, ◌≢◌, ◌%◌};
+ghost use Rattle.std.specs.Prelude.{◌≡◌, ◌≢◌, ◌%◌, None};
 ghost use Rattle.tlsf_class.specs.Classes.{unit};
-ghost use Rattle.tlsf_store.specs.declared.records.State.TheVariants.{Vacant};
+ghost use Rattle.tlsf_store.specs.declared.records.State.TheVariants.{Vacant, Free};
 ghost use Rattle.tlsf_store.specs.Records.{most_records, blank, is_vacant, IsBelow, IsKept};
 ghost use Rattle.tlsf_store.specs.Slots.{link_of};
 ghost use Rattle.tlsf_store.specs.Table.{seen};
@@ -119,6 +119,18 @@ impl Packed {
     {
         self.size_word = size + state as u32;
         self.next = link_word(next);
+    }
+
+    /// Writes the size, a multiple of the unit, the state `Free`, and that none is in front of it in its class's list, and
+    /// this one behind it.
+    pub(crate) fn set_free(&mut self, size: u32, next: Option<Slot>)
+        requires in_units { size % unit ≡ 0 }
+        requires below { IsBelow most_records next }
+        ensures { self.new ≡ record self.old { size = size; state = Free; prev_free = None; next_free = next } }
+    {
+        self.size_word = size + State::Free as u32;
+        self.prev_free = MISSING;
+        self.next_free = link_word(next);
     }
 
     /// Writes the link `prev` alone.

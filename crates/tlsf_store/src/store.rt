@@ -1,9 +1,9 @@
 //! The store.
 
-ghost use Rattle.std.specs.Prelude.{◌≡◌, ◌≢◌, true, ◌+◌, ◌<◌, ◌≤◌, ◌%◌, ◌^◌, ◌⊎◌, ◌↔◌, IfOk, IfSome, IfNone, length, slice_index, Err};
+ghost use Rattle.std.specs.Prelude.{◌≡◌, ◌≢◌, true, ◌+◌, ◌<◌, ◌≤◌, ◌%◌, ◌^◌, ◌⊎◌, ◌↔◌, IfOk, IfSome, IfNone, length, slice_index, None, Err};
 ghost use Rattle.tlsf_class.specs.Classes.{unit, levels, classes};
 ghost use Rattle.tlsf_store.specs.declared.errors.StoreError.TheVariants.{BadCount};
-ghost use Rattle.tlsf_store.specs.declared.records.State.TheVariants.{Vacant};
+ghost use Rattle.tlsf_store.specs.declared.records.State.TheVariants.{Vacant, Free};
 ghost use Rattle.tlsf_store.specs.Records.{most_records, blank, record_at, vacant_count, IsBelow, IsKept};
 ghost use Rattle.tlsf_store.specs.CountedCells.{LeavesAfter};
 ghost use Rattle.tlsf_store.specs.Cells.{with_record, with_head, with_level_word, with_step_word, with_pool, with_taken, head_at, pool_at, most_pools, empty_cells, IsPoolBelow};
@@ -165,6 +165,19 @@ impl Store {
         self.touches.tick();
         self.table
             .edit(slot, |item| item.set_block(size, state, next));
+    }
+
+    /// Makes a record that isn't vacant one of a free block of `size` bytes, the first of its class's list, with the block of
+    /// the slot `next` behind it there. Its place and its links in the pool stay. One touch: nothing is read.
+    pub fn set_free(&mut self, slot: Slot, size: u32, next: Option<Slot>)
+        requires within { slot < length self.old.cells.records }
+        requires used { (record_at self.old.cells.records slot).state ≢ Vacant }
+        requires in_units { size % unit ≡ 0 }
+        requires below { IsBelow (length self.old.cells.records) next }
+        ensures left { LeavesAfter (with_record self.old.cells slot (record (record_at self.old.cells.records slot) { size = size; state = Free; prev_free = None; next_free = next })) 1 self.old self.new }
+    {
+        self.touches.tick();
+        self.table.edit(slot, |item| item.set_free(size, next));
     }
 
     /// Writes the link `prev` of a record that isn't vacant. One touch.

@@ -319,7 +319,7 @@ fn size_command<'a>(alloc: Global) -> Result<Command<'a>, AllocError>
     let blocks = "Most blocks that are live at once, from 1 to 32766";
     let largest = "Bytes of the largest request, from 1 to 1056964608";
     let sum =
-        "Most bytes in live blocks together, each block in whole units of 16, from 1 to 1073741808; else L times M";
+        "Most bytes in live blocks together, each block in whole units of 16, from 1 to 1073741808; else L times M in whole units";
     let align = "Greatest alignment of a request, a power of two from 1 to 536870912";
     let part =
         "One heap of its own for requests of at most M bytes, with at most L live blocks; up to 8 times, with no other option";

@@ -1,6 +1,6 @@
 -- A run that asks for blocks of one size alone is refused neither for want of a block nor for want of a record, where the pools
 -- have the bytes of as many such blocks.
-use Rattle.std.proofs.Common.{◌≡◌, ◌≢◌, ℕ, ◌+◌, ◌-◌, ◌*◌, ◌≤◌, List, [], ◌∷◌, ◌++◌, Option, Some, None, option_map, option_and_then, Ok, Err, inl, inr, refl, sym, ap, ◌∙◌, subst, arith, All}
+use Rattle.std.proofs.Common.{◌≡◌, ◌≢◌, ℕ, ◌+◌, ◌*◌, ◌≤◌, List, [], ◌∷◌, ◌++◌, Option, Some, None, option_map, option_and_then, Ok, Err, inl, inr, refl, sym, ap, ◌∙◌, subst, arith, All}
 use Rattle.std.specs.Prelude.{◌==◌, IsTrue}
 use Rattle.std.proofs.lemmas.Bool.{cases_Bool}
 use Rattle.std.proofs.lemmas.List.Elements.{All-cons}
@@ -16,7 +16,7 @@ use Rattle.tlsf_heap.specs.declared.refusal.Refusal.{Refusal}
 use Rattle.tlsf_heap.specs.declared.refusal.Refusal.TheVariants.{ZeroSize, NoFit, TableFull, BadAlign}
 use Rattle.tlsf_heap.specs.Content.{Content}
 use Rattle.tlsf_heap.specs.Malloc.{gap, malloc}
-use Rattle.tlsf_heap.specs.Memalign.{is_alignment, size_asked, aligned, memalign}
+use Rattle.tlsf_heap.specs.Memalign.{is_alignment, size_asked, memalign}
 use Rattle.tlsf_heap.specs.Pools.{created, add_pool}
 use Rattle.tlsf_heap.specs.Realloc.{realloc}
 use Rattle.tlsf_heap.specs.Pointer.{place_and_slot, slot_of}
@@ -30,7 +30,7 @@ use Rattle.tlsf_heap.proofs.Content.MallocCases.{malloc_reasons}
 use Rattle.tlsf_heap.proofs.Content.MemalignCases.{memalign_given, memalign_reasons}
 use Rattle.tlsf_heap.proofs.Content.ReallocCases.{realloc_reasons}
 use Rattle.tlsf_heap.proofs.Good.Cut.{at_base, IsCut, AreCut, gap_cut}
-use Rattle.tlsf_heap.proofs.Good.MallocIsGood.{all-append, picked, add_pool_is_good, created_is_good}
+use Rattle.tlsf_heap.proofs.Good.MallocIsGood.{all-append, add_pool_is_good, created_is_good}
 use Rattle.tlsf_heap.proofs.Good.Realloc.{realloc_is_good}
 use Rattle.tlsf_heap.proofs.Good.Within.{IsWant, not_other, not_bad, realloc_keeps, free_refused, size_refused, some_bytes, some_aligned_bytes}
 use Rattle.tlsf_heap.proofs.Content.PoolCases.{pool_added}

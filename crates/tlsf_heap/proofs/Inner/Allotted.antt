@@ -1,6 +1,6 @@
 -- A listed node leaves its list and is in use, and the rest behind its first bytes is listed. What the steps need and
 -- leave.
-use Rattle.std.proofs.Common.{◌≡◌, ℕ, ◌+◌, ◌-◌, ◌%◌, ◌<◌, ◌≤◌, ◌∙◌, Bool, List, ◌∷◌, length, map, refl, ap, subst, arith, Option, Some, true, false, cond, [], ◌++◌, sym, count_by}
+use Rattle.std.proofs.Common.{◌≡◌, ℕ, ◌+◌, ◌-◌, ◌%◌, ◌<◌, ◌≤◌, ◌∙◌, Bool, List, ◌∷◌, length, map, refl, ap, subst, arith, Option, Some, None, true, false, cond, [], ◌++◌, sym, count_by}
 use Rattle.std.proofs.lemmas.Bool.{eq-eqb, ne_eqb}
 use Rattle.tlsf_class.specs.Classes.{unit, class, greatest_size}
 use Rattle.tlsf_store.specs.declared.records.State.TheVariants.{Free, Live}
@@ -10,7 +10,7 @@ use Rattle.tlsf_store.specs.Cells.{Cells, with_taken}
 use Rattle.tlsf_heap.specs.Good.{Covers}
 use Rattle.tlsf_heap.specs.declared.span.Span.{Span}
 use Rattle.tlsf_heap.specs.Inner.Edits.{IsUsed, unlinked_by}
-use Rattle.tlsf_heap.specs.Inner.Spans.{IsRead, span_at, split_by}
+use Rattle.tlsf_heap.specs.Inner.Spans.{IsRead, span_at, rest_of, split_by}
 use Rattle.tlsf_heap.specs.Inner.Nodes.{NodeState, InUse, Listed, Loose, Node, turned, rest_node, block_of, is_listed, Layout, pool_of, nodes_of}
 use Rattle.tlsf_heap.specs.Inner.Represents.{Represents}
 use Rattle.tlsf_heap.specs.Inner.At.{At, layout_at, StandsAt, at_unlisted, with_slot, at_turned, at_split, AreCovered, at_split_off, at_split_rest}
@@ -19,7 +19,7 @@ use Rattle.tlsf_heap.proofs.Inner.Plugs.{count-filled}
 use Rattle.tlsf_heap.proofs.Content.FreeLists.{times-cons}
 use Rattle.tlsf_heap.proofs.Inner.Used.{stands_used}
 use Rattle.tlsf_heap.proofs.Inner.Unlinked.{unlinked_laid, beside_used}
-use Rattle.tlsf_heap.proofs.Inner.Split.{split_laid}
+use Rattle.tlsf_heap.proofs.Inner.Split.{split_laid, at_rest}
 use Rattle.tlsf_heap.proofs.Inner.Taken.{slot_taken}
 use Rattle.tlsf_heap.proofs.Inner.Steps.{size_read, whole_at, covered_turned}
 use Rattle.tlsf_heap.proofs.Inner.Spans.{span_is}
@@ -84,15 +84,15 @@ module _ (cells : Cells) (slot rest : ℕ) (node_state : NodeState) (at : At) (s
   rest_used = stands_used cells (layout_at (with_slot rest at)) rest stands.0 (omega (arith, times-cons rest rest at.taken, ap one_if (eq-eqb rest rest refl)))
 
 -- a block that was read, and was split into one in use and a loose one
-pub span_splits : (old new : Cells) (span : Span) (node_state : NodeState) (rest bytes : ℕ) (at : At) → is_listed node_state ≡ false → StandsAt span.slot node_state old (with_slot rest at) → IsRead span old.records → 0 < bytes → bytes < span.size → bytes % unit ≡ 0
-    → new ≡ split_by span Live rest Free bytes old → StandsAt rest Loose new (at_split rest bytes (at_turned InUse at))
-span_splits old new span node_state rest bytes at unlisted stands read some less whole is =
+pub span_splits : (old new : Cells) (span : Span) (node_state : NodeState) (rest : ℕ) (second : Option ℕ) (bytes : ℕ) (at : At) → is_listed node_state ≡ false → StandsAt span.slot node_state old (with_slot rest at) → IsRead span old.records → 0 < bytes → bytes < span.size → bytes % unit ≡ 0
+    → new ≡ split_by span rest Free second bytes old → StandsAt rest Loose new (at_split rest bytes (at_turned InUse at))
+span_splits old new span node_state rest second bytes at unlisted stands read some less whole is =
     let loose : Node → Bool = λ n. is_loose n.state in
     let first : Node = record at.node { size = bytes; state = InUse } in
     let known : span ≡ span_at at = span_is old node_state (with_slot rest at) span stands read in
     let size = ap (λ (s : Span). s.size) known in (
-      subst (λ c. Represents c (layout_at (at_split rest bytes (at_turned InUse at)))) (sym (is ∙ ap (λ s. split_by s Live rest Free bytes old) known))
-          (split_laid old at.count at.position at.node at.nodes at.lists rest InUse Loose at.taken bytes stands.0 (ap is_listed stands.1.node_state_is ∙ unlisted) refl refl),
+      subst (λ c. Represents c (layout_at (at_split rest bytes (at_turned InUse at)))) (sym (is ∙ ap (λ s. split_by s rest Free second bytes old) known))
+          (split_laid old at.count at.position at.node at.nodes at.lists rest Loose second at.taken bytes stands.0 (ap is_listed stands.1.node_state_is ∙ unlisted) refl),
       record {
         slot_is = refl;
         node_state_is = refl;
@@ -107,25 +107,34 @@ span_splits old new span node_state rest bytes at unlisted stands read some less
       },
     )
 
+-- the record of the rest
+pub span_rest : (old new : Cells) (span : Span) (node_state : NodeState) (rest : ℕ) (second : Option ℕ) (bytes : ℕ) (at : At) → is_listed node_state ≡ false → StandsAt span.slot node_state old (with_slot rest at) → IsRead span old.records
+    → new ≡ split_by span rest Free second bytes old → record_at new.records rest ≡ rest_of Free span second bytes
+span_rest old new span node_state rest second bytes at unlisted stands read is =
+    let known : span ≡ span_at at = span_is old node_state (with_slot rest at) span stands read in
+    ap (λ (c : Cells). record_at c.records rest) (is ∙ ap (λ s. split_by s rest Free second bytes old) known)
+    ∙ at_rest old at.count at.position at.node at.nodes at.lists rest Loose second at.taken bytes stands.0 (ap is_listed stands.1.node_state_is ∙ unlisted) refl
+    ∙ ap (λ s. rest_of Free s second bytes) (sym known)
+
 -- the node keeps its first bytes, and a live one of what is left stands behind it
 abbrev pub at_front : ℕ → ℕ → At → At
 at_front live bytes at = record at { node = record at.node { size = bytes }; nodes = turned InUse (rest_node live bytes at.node) ∷ at.nodes }
 
--- the same, where the first bytes become free and the rest is live
+-- the same, where the rest is live, too
 pub span_gaps : (old new : Cells) (span : Span) (live bytes : ℕ) (at : At) → StandsAt span.slot InUse old (with_slot live at) → IsRead span old.records → 0 < bytes → bytes < span.size → bytes % unit ≡ 0
-    → new ≡ split_by span Free live Live bytes old → StandsAt span.slot Loose new (at_front live bytes (at_turned Loose at))
+    → new ≡ split_by span live Live None bytes old → StandsAt span.slot InUse new (at_front live bytes (at_turned InUse at))
 span_gaps old new span live bytes at stands read some less whole is =
     let loose : Node → Bool = λ n. is_loose n.state in
     let second : Node = turned InUse (rest_node live bytes at.node) in
     let known : span ≡ span_at at = span_is old InUse (with_slot live at) span stands read in
     let size = ap (λ (s : Span). s.size) known in (
-      subst (λ c. Represents c (layout_at (at_front live bytes (at_turned Loose at)))) (sym (is ∙ ap (λ s. split_by s Free live Live bytes old) known))
-          (split_laid old at.count at.position at.node at.nodes at.lists live Loose InUse at.taken bytes stands.0 (ap is_listed stands.1.node_state_is) refl refl),
+      subst (λ c. Represents c (layout_at (at_front live bytes (at_turned InUse at)))) (sym (is ∙ ap (λ s. split_by s live Live None bytes old) known))
+          (split_laid old at.count at.position at.node at.nodes at.lists live InUse None at.taken bytes stands.0 (ap is_listed stands.1.node_state_is) refl),
       record {
         slot_is = stands.1.slot_is;
         node_state_is = refl;
         others_settled = omega (arith, stands.1.others_settled, count-filled loose at.position at.nodes, count-filled loose at.position (second ∷ at.nodes), count-cons loose second at.nodes);
-        covered = covered_refilled at.position (at.node ∷ at.nodes) (record at.node { size = bytes; state = Loose } ∷ second ∷ at.nodes) (covers_split live bytes at.node at.nodes some (omega (arith, less, size)) whole) stands.1.covered;
+        covered = covered_refilled at.position (at.node ∷ at.nodes) (record at.node { size = bytes; state = InUse } ∷ second ∷ at.nodes) (covers_split live bytes at.node at.nodes some (omega (arith, less, size)) whole) stands.1.covered;
       },
     )
 

@@ -1,16 +1,16 @@
 -- A pool whose slot was taken enters, and its one free block its class's list.
-use Rattle.std.proofs.Common.{◌≡◌, ◌≢◌, List, [], ◌∷◌, refl, sym, ap, ◌∙◌, subst, arith, Some, inl, inr}
+use Rattle.std.proofs.Common.{◌≡◌, ◌≢◌, ℕ, ◌<◌, length, List, [], ◌∷◌, refl, sym, ap, ◌∙◌, subst, arith, Option, Some, None, inl, inr}
 use Rattle.std.specs.Prelude.{nat_lt}
 use Rattle.std.proofs.lemmas.Bool.{cases_Bool, eq-eqb}
 use Rattle.std.proofs.lemmas.List.{length-set}
 use Rattle.tlsf_store.specs.declared.records.Record.{Record}
 use Rattle.tlsf_store.specs.declared.records.State.TheVariants.{Vacant, Free}
 use Rattle.tlsf_store.proofs.RecordLaws.{record_at-set_same}
-use Rattle.tlsf_store.specs.Cells.{Cells, head_at}
+use Rattle.tlsf_store.specs.Cells.{Cells, with_record, head_at}
 use Rattle.tlsf_class.specs.Classes.{class}
 use Rattle.tlsf_store.specs.declared.pools.Pool.{Pool as StoredPool}
-use Rattle.tlsf_heap.specs.Inner.Edits.{IsUsed}
-use Rattle.tlsf_heap.specs.Inner.Entries.{entries_of}
+use Rattle.tlsf_heap.specs.Inner.Edits.{IsUsed, put_first}
+use Rattle.tlsf_heap.specs.Inner.Entries.{entries_of, with_entries}
 use Rattle.tlsf_heap.specs.Inner.Nodes.{Node, Area, Layout, Listed, turned, entered, pool_node, area_of_one, entries_in, with_area, pool_laid}
 use Rattle.tlsf_heap.specs.Inner.Positions.{plug, Position}
 use Rattle.tlsf_heap.specs.Inner.Represents.{Represents}
@@ -20,6 +20,7 @@ use Rattle.tlsf_heap.proofs.Inserted.{map-inserted}
 use Rattle.tlsf_heap.proofs.Content.FreeLists.{times-cons}
 use Rattle.tlsf_heap.proofs.Inner.Used.{stands_used, head_used}
 use Rattle.tlsf_heap.proofs.Inner.Linked.{linked_laid}
+use Rattle.tlsf_heap.proofs.Inner.Written.{edited_written}
 use Rattle.tlsf_heap.proofs.Inner.PoolMoves.{pool_enters, with_entry, free_record, pool_entered, pool_put}
 
 -- where the entry's area will stand: the areas in front of it, nearest first, and those behind
@@ -86,3 +87,12 @@ pub record Enters (entry : StoredPool) (layout : Layout) (cells : Cells) : Type 
 
 pub pool_is_laid : (cells : Cells) (entry : StoredPool) (layout : Layout) → Represents cells (record layout { taken = entry.first ∷ layout.taken }) → Enters entry layout cells
 pool_is_laid cells entry layout was = record { slot = slot_used cells entry layout was; first = first_used cells entry layout was; laid = is_laid cells entry layout was }
+
+-- the pool's block is written with its links, and put in front
+pub pool_written : (cells : Cells) (entry : StoredPool) → entry.first < length cells.records
+    → put_first (class entry.bytes) entry.first (head_at cells.heads (class entry.bytes))
+    (with_entries (with_entry entry (entries_of cells.pools)) (with_record cells entry.first (record (free_record entry.base entry.bytes) { next_free = head_at cells.heads (class entry.bytes) }))) ≡ pool_entered entry cells
+pool_written cells entry below =
+    let first : Option ℕ = head_at cells.heads (class entry.bytes) in
+    ap (λ records. put_first (class entry.bytes) entry.first first (with_entries (with_entry entry (entries_of cells.pools)) (record cells { records = records })))
+    (sym (edited_written cells.records entry.first (free_record entry.base entry.bytes) (λ r. record r { prev_free = None; next_free = first }) below))

@@ -3,7 +3,7 @@ use Rattle.std.proofs.Common.{◌≡◌, ℕ, ◌+◌, ◌-◌, ◌<◌, Bool, f
 use Rattle.std.specs.Prelude.{◌==◌}
 use Rattle.std.proofs.lemmas.Bool.{ne_eqb}
 use Rattle.tlsf_store.specs.Cells.{Cells}
-use Rattle.tlsf_heap.specs.Inner.Nodes.{NodeState, InUse, Listed, Loose, Node, turned, rest_node, entered}
+use Rattle.tlsf_heap.specs.Inner.Nodes.{NodeState, InUse, Listed, Node, turned, rest_node, entered}
 use Rattle.tlsf_heap.specs.Inner.Positions.{is_loose}
 use Rattle.tlsf_heap.specs.Inner.At.{At, StandsAt, at_turned, at_listed, at_gapped}
 use Rattle.tlsf_heap.proofs.Counts.{one_if, count-cons}
@@ -35,7 +35,7 @@ stepped_on cells at first second before nodes slot other node_state was stands s
     )
 
 -- the first node entered its list: the gap is left
-pub gapped_stands : (slot live bytes : ℕ) (at : At) (cells : Cells) → at.node.slot ≡ slot → at.node.state ≡ InUse → 0 < bytes → StandsAt slot Listed cells (at_listed (at_front live bytes (at_turned Loose at))) → StandsAt live InUse cells (at_gapped live bytes at)
+pub gapped_stands : (slot live bytes : ℕ) (at : At) (cells : Cells) → at.node.slot ≡ slot → at.node.state ≡ InUse → 0 < bytes → StandsAt slot Listed cells (at_listed (at_front live bytes (at_turned InUse at))) → StandsAt live InUse cells (at_gapped live bytes at)
 gapped_stands slot live bytes at cells slot_is node_state_is some stands =
     let gap : Node = record { slot = at.node.slot; place = at.node.place; size = bytes; state = Listed } in
     let moved = stepped_on cells (record at { lists = entered gap at.lists }) gap (turned InUse (rest_node live bytes at.node)) at.position.before at.nodes live slot InUse Listed stands refl refl refl in

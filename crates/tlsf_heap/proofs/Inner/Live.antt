@@ -209,7 +209,8 @@ module _ (cells : Cells) (stands : Stands cells) where
       let loose : Node → Bool = λ n. is_loose n.state in
       let others = node.stands.1.others_settled in
       let is : content_by (layout_at (at_freed node.at)) ≡ after_free place (content_of cells) =
-      freed_is at.position at.node at.nodes at.lists (node_agrees_once cells stands place slot InUse node) at.count at.taken at.taken refl (omega (arith, others, count-filled loose at.position at.nodes)) (omega (arith, others, count-filled loose at.position at.nodes)) (node_good cells stands place slot InUse node)
+      ap (λ s. content_by (layout_at (at_freed (record node.at { node = turned s node.at.node })))) node.stands.1.node_state_is
+      ∙ freed_is at.position at.node at.nodes at.lists (node_agrees_once cells stands place slot InUse node) at.count at.taken at.taken refl (omega (arith, others, count-filled loose at.position at.nodes)) (omega (arith, others, count-filled loose at.position at.nodes)) (node_good cells stands place slot InUse node)
       ∙ ap (λ p. after_free p (content_by (layout_at at))) node.place_is
       ∙ ap (after_free place) (sym (node_stood cells stands place slot InUse node)) in
       stands_with new (at_freed node.at).node.slot Listed (at_freed node.at) (after_free place (content_of cells)) after refl (node_taken cells stands place slot InUse node) is

@@ -1,4 +1,4 @@
--- A block is merged with the one behind it, neither of them in a list.
+-- A block is merged with the one behind it, neither of them in a list. It is in use then.
 use Rattle.std.proofs.Common.{◌≡◌, ◌≢◌, ℕ, ◌+◌, ◌≤◌, Bool, false, ◌&&◌, eqb, List, ◌∷◌, length, set, refl, sym, ap, ◌∙◌, subst, arith, count_by, Some, inl, inr}
 use Rattle.std.proofs.lemmas.Bool.{cases_eq, eq-eqb, ne_eqb}
 use Rattle.std.proofs.lemmas.List.{length-set}
@@ -7,9 +7,10 @@ use Rattle.tlsf_store.specs.Records.{blank, record_at}
 use Rattle.tlsf_store.specs.Cells.{Cells}
 use Rattle.tlsf_store.proofs.RecordLaws.{record_at-set_same, record_at-set_other}
 use Rattle.tlsf_heap.specs.Inner.Edits.{edited_in}
-use Rattle.tlsf_heap.specs.Inner.Nodes.{Node, has_slot, nodes_in, is_listed, is_listed_in}
+use Rattle.tlsf_store.specs.declared.records.State.TheVariants.{Live}
+use Rattle.tlsf_heap.specs.Inner.Nodes.{InUse, Node, has_slot, nodes_in, is_listed, is_listed_in}
 use Rattle.tlsf_heap.specs.Inner.Positions.{Position, laid}
-use Rattle.tlsf_heap.specs.Inner.Represents.{InPool, pool_view, list_view, pool_views, list_views, in_pool, first_slot, state_of, uses_in, Represents}
+use Rattle.tlsf_heap.specs.Inner.Represents.{InPool, pool_view, list_view, pool_views, list_views, in_pool, first_slot, uses_in, Represents}
 use Rattle.tlsf_heap.proofs.Counts.{one_if, count-cons}
 use Rattle.tlsf_heap.proofs.Inner.Links.{linked_moved, first_stands, count-front, count-behind}
 use Rattle.tlsf_heap.proofs.Inner.Reads.{length-edited, edited_here, edited_apart, edited_kept, set_kept}
@@ -18,13 +19,13 @@ use Rattle.tlsf_heap.proofs.Inner.Chains.{uses_node, unlisted, unlisted_nowhere,
 module _ (cells : Cells) (count : ℕ) (position : Position) (node behind : Node) (nodes : List Node) (lists : List (List Node)) (taken : List ℕ)
     (was : Represents cells (laid count position (node ∷ behind ∷ nodes) lists taken)) (was_not : is_listed node.state ≡ false) (behind_not : is_listed behind.state ≡ false) where
   abbrev both : Node
-  both = record node { size = node.size + behind.size }
+  both = record node { size = node.size + behind.size; state = InUse }
 
   abbrev old : Record
   old = record_at cells.records node.slot
 
   abbrev grown : Record → Record
-  grown r = record r { size = node.size + behind.size; state = state_of node.state; next = first_slot nodes }
+  grown r = record r { size = node.size + behind.size; state = Live; next = first_slot nodes }
 
   abbrev moved : Record → Record
   moved r = record r { prev = Some node.slot }
@@ -88,7 +89,7 @@ module _ (cells : Cells) (count : ℕ) (position : Position) (node behind : Node
           ap (λ (r : Record). uses_in r.state) (record_at-set_same two behind.slot blank (omega (arith, same_count, there.below))),
           there.used,
         ))
-    | inr other ↦ omega (arith, ap one_if (ne_eqb behind.slot q (λ e. other (sym e))), seen (λ r. uses_in r.state) (λ r. refl) (uses_node node.state ∙ sym here.used) q other)
+    | inr other ↦ omega (arith, ap one_if (ne_eqb behind.slot q (λ e. other (sym e))), seen (λ r. uses_in r.state) (λ r. refl) (uses_node InUse ∙ sym here.used) q other)
   ]
 
   listed_same : (number q : ℕ) → 1 ≤ count_by (has_slot q) (nodes_in number lists) → list_views new q ≡ list_views cells.records q
@@ -102,7 +103,7 @@ module _ (cells : Cells) (count : ℕ) (position : Position) (node behind : Node
       refilled cells count position (node ∷ behind ∷ nodes) (both ∷ nodes) lists taken taken new was (length-set two behind.slot blank ∙ same_count)
       (λ q h. others q (here.outside_apart q h) (there.outside_apart q (omega (arith, h, count-cons (has_slot q) node position.before))) (not_first q (omega (arith, h, here.most q, count-cons (has_slot q) node (behind ∷ nodes), count-cons (has_slot q) behind nodes))))
       refl (
-        ap pool_view at_slot ∙ ap (λ (v : InPool). record v { size = node.size + behind.size; state = state_of node.state; next = first_slot nodes }) here.says,
+        ap pool_view at_slot ∙ ap (λ (v : InPool). record v { size = node.size + behind.size; state = Live; next = first_slot nodes }) here.says,
         linked_moved in_pool (pool_views cells.records) (pool_views new) (λ v. record v { prev = Some node.slot }) (Some behind.slot) (Some node.slot) (λ other next. refl) nodes there.behind_once
             (λ q is. ap pool_view (at_first q is))
             (λ q isnt h. ap pool_view (others q (here.behind_apart q (count-behind q behind nodes h)) (there.behind_apart q h) isnt))
@@ -112,4 +113,4 @@ module _ (cells : Cells) (count : ℕ) (position : Position) (node behind : Node
       listed_same
       (λ number test.
       let listed : Node → Bool = λ other. is_listed_in number other && test other in
-      omega (arith, count-cons listed node (behind ∷ nodes), count-cons listed behind nodes, count-cons listed both nodes, unlisted number test node was_not, unlisted number test behind behind_not, unlisted number test both was_not))
+      omega (arith, count-cons listed node (behind ∷ nodes), count-cons listed behind nodes, count-cons listed both nodes, unlisted number test node was_not, unlisted number test behind behind_not, unlisted number test both refl))

@@ -4,8 +4,6 @@ use Rattle.std.proofs.Math.Path.{transport}
 use Rattle.std.proofs.lemmas.Bool.{cases_Bool, false≢true}
 use Rattle.tlsf_class.specs.Classes.{unit, class}
 use Rattle.tlsf_store.specs.declared.records.Record.{Record}
-use Rattle.tlsf_store.specs.declared.records.State.{State}
-use Rattle.tlsf_store.specs.declared.records.State.TheVariants.{Free}
 use Rattle.tlsf_store.specs.Records.{record_at, is_free_state}
 use Rattle.tlsf_store.specs.Cells.{Cells}
 use Rattle.tlsf_heap.specs.declared.span.Span.{Span}
@@ -23,14 +21,14 @@ use Rattle.tlsf_heap.proofs.Inner.Chains.{AtNode, at_node}
 use Rattle.tlsf_heap.proofs.Inner.Used.{node_is_used, next_used}
 use Rattle.tlsf_heap.proofs.Inner.Unlinked.{unlinked_laid, beside_used}
 use Rattle.tlsf_heap.proofs.Inner.Merge.{merge_laid}
-use Rattle.tlsf_heap.proofs.Inner.Steps.{prev_is, next_is, state_read}
+use Rattle.tlsf_heap.proofs.Inner.Steps.{prev_is, next_is}
 use Rattle.tlsf_heap.proofs.Inner.Spans.{span_is}
 use Rattle.tlsf_heap.proofs.Meaning.Covered.{node_whole, covered_refilled, covers_both}
 
 -- what a merge needs and leads to, where one of the two is listed, of this record
-pub record Merges (span : Span) (state : State) (behind : ℕ) (listed : Record) (node_state : NodeState) (cells : Cells) (after : At) : Type 0 where
+pub record Merges (span : Span) (behind : ℕ) (listed : Record) (cells : Cells) (after : At) : Type 0 where
   pub ready : CanMerge span behind listed cells.records (unlinked_by (class listed.size) listed cells).records
-  pub leads : StandsAt span.slot node_state (merged_by span state behind listed cells) after
+  pub leads : StandsAt span.slot InUse (merged_by span behind listed cells) after
   pub is : span ≡ span_at after
   pub fits : span.size < 2 ^ 32
 
@@ -38,7 +36,7 @@ pub record Merges (span : Span) (state : State) (behind : ℕ) (listed : Record)
 module _ (cells : Cells) (count : ℕ) (listed_position : Position) (listed : Node) (listed_nodes : List Node) (position : Position) (front behind : Node) (nodes : List Node) (lists : List (List Node)) (taken : List ℕ)
     (was : Represents cells (laid count listed_position (turned Listed listed ∷ listed_nodes) lists taken)) (covered : AreCovered 0 (map pool_of (filled listed_position (turned Listed listed ∷ listed_nodes))))
     (side_by_side : filled listed_position (turned Loose listed ∷ listed_nodes) ≡ filled position (front ∷ behind ∷ nodes)) (front_unlisted : is_listed front.state ≡ false) (behind_unlisted : is_listed behind.state ≡ false)
-    (covered_after : AreCovered 0 (map pool_of (filled position (record front { size = front.size + behind.size } ∷ nodes)))) where
+    (covered_after : AreCovered 0 (map pool_of (filled position (record front { size = front.size + behind.size; state = InUse } ∷ nodes)))) where
   abbrev block : Record
   block = record_at cells.records listed.slot
 
@@ -46,7 +44,7 @@ module _ (cells : Cells) (count : ℕ) (listed_position : Position) (listed : No
   out = unlinked_by (class block.size) block cells
 
   abbrev both : Node
-  both = record front { size = front.size + behind.size }
+  both = record front { size = front.size + behind.size; state = InUse }
 
   size_is : block.size ≡ listed.size
   size_is = ap (λ (v : InPool). v.size) (at_node cells.records listed_position (turned Listed listed) listed_nodes taken was.chains).says
@@ -77,13 +75,13 @@ module _ (cells : Cells) (count : ℕ) (listed_position : Position) (listed : No
         in_units = both_whole.in_units;
       }
 
-  merges_sides : (node_state : NodeState) → front.state ≡ node_state → count_by (λ node. is_loose node.state) (nodes_of (filled position nodes)) ≡ 0
-      → Merges (node_span both nodes) (state_of front.state) behind.slot block node_state cells (record { count = count; position = position; node = both; nodes = nodes; lists = left (turned Listed listed) lists; taken = taken })
-  merges_sides node_state node_state_is settled = record {
+  merges_sides : count_by (λ node. is_loose node.state) (nodes_of (filled position nodes)) ≡ 0
+      → Merges (node_span both nodes) behind.slot block cells (record { count = count; position = position; node = both; nodes = nodes; lists = left (turned Listed listed) lists; taken = taken })
+  merges_sides settled = record {
     ready = mergeable;
     leads = (
       merge_laid out count position front behind nodes (left (turned Listed listed) lists) taken unlinked_was front_unlisted behind_unlisted,
-      record { slot_is = refl; node_state_is = node_state_is; others_settled = settled; covered = covered_after },
+      record { slot_is = refl; node_state_is = refl; others_settled = settled; covered = covered_after },
     );
     is = refl;
     fits = omega (arith, both_whole.at_most);
@@ -94,24 +92,24 @@ module _ (cells : Cells) (at : At) (front : Node) (before : List Node) where
   abbrev seen : List Node → At
   seen nodes = record at { position = record at.position { before = nodes } }
 
-  merges_seen : (slot : ℕ) → StandsAt slot Loose cells (seen (turned Listed front ∷ before))
-      → Merges (node_span (record front { size = front.size + at.node.size }) at.nodes) Free at.node.slot (record_at cells.records front.slot) Loose cells (previous_merged (seen (turned Listed front ∷ before)))
+  merges_seen : (slot : ℕ) → StandsAt slot InUse cells (seen (turned Listed front ∷ before))
+      → Merges (node_span (record front { size = front.size + at.node.size }) at.nodes) at.node.slot (record_at cells.records front.slot) cells (previous_merged (seen (turned Listed front ∷ before)))
   merges_seen slot stands =
       let position : Position = record at.position { before = before } in
       let loose : Node → Bool = λ node. is_loose node.state in
-      let covered_after = covered_refilled position (turned Listed front ∷ at.node ∷ at.nodes) (record front { size = front.size + at.node.size; state = Loose } ∷ at.nodes) (λ from to c. covers_both Loose (turned Listed front) at.node at.nodes from to c) stands.1.covered in
+      let covered_after = covered_refilled position (turned Listed front ∷ at.node ∷ at.nodes) (record front { size = front.size + at.node.size; state = InUse } ∷ at.nodes) (λ from to c. covers_both InUse (turned Listed front) at.node at.nodes from to c) stands.1.covered in
       let settled : count_by loose (nodes_of (filled position at.nodes)) ≡ 0 = omega (arith, stands.1.others_settled, count-filled loose (record position { before = turned Listed front ∷ before }) at.nodes, count-filled loose position at.nodes, count-cons loose (turned Listed front) before) in
-      merges_sides cells at.count position front (at.node ∷ at.nodes) position (turned Loose front) at.node at.nodes at.lists at.taken stands.0 stands.1.covered refl refl (ap is_listed stands.1.node_state_is) covered_after Loose refl settled
+      merges_sides cells at.count position front (at.node ∷ at.nodes) position (turned Loose front) at.node at.nodes at.lists at.taken stands.0 stands.1.covered refl refl (ap is_listed stands.1.node_state_is) covered_after settled
 
 -- the node behind is free
 module _ (cells : Cells) (at : At) (behind : Node) (nodes : List Node) where
-  merges_behind : (slot : ℕ) (node_state : NodeState) → is_listed node_state ≡ false → StandsAt slot node_state cells (record at { nodes = turned Listed behind ∷ nodes })
-      → Merges (node_span (record at.node { size = at.node.size + behind.size }) nodes) (state_of at.node.state) behind.slot (record_at cells.records behind.slot) node_state cells (next_merged (record at { nodes = turned Listed behind ∷ nodes }))
-  merges_behind slot node_state unlisted stands =
+  merges_behind : (slot : ℕ) → StandsAt slot InUse cells (record at { nodes = turned Listed behind ∷ nodes })
+      → Merges (node_span (record at.node { size = at.node.size + behind.size }) nodes) behind.slot (record_at cells.records behind.slot) cells (next_merged (record at { nodes = turned Listed behind ∷ nodes }))
+  merges_behind slot stands =
       let loose : Node → Bool = λ node. is_loose node.state in
-      let covered_after = covered_refilled at.position (at.node ∷ turned Listed behind ∷ nodes) (record at.node { size = at.node.size + behind.size } ∷ nodes) (λ from to c. covers_both at.node.state at.node (turned Listed behind) nodes from to c) stands.1.covered in
+      let covered_after = covered_refilled at.position (at.node ∷ turned Listed behind ∷ nodes) (record at.node { size = at.node.size + behind.size; state = InUse } ∷ nodes) (λ from to c. covers_both InUse at.node (turned Listed behind) nodes from to c) stands.1.covered in
       let settled : count_by loose (nodes_of (filled at.position nodes)) ≡ 0 = omega (arith, stands.1.others_settled, count-filled loose at.position (turned Listed behind ∷ nodes), count-filled loose at.position nodes, count-cons loose (turned Listed behind) nodes) in
-      merges_sides cells at.count (record at.position { before = at.node ∷ at.position.before }) behind nodes at.position at.node (turned Loose behind) nodes at.lists at.taken stands.0 stands.1.covered refl (ap is_listed stands.1.node_state_is ∙ unlisted) refl covered_after node_state stands.1.node_state_is settled
+      merges_sides cells at.count (record at.position { before = at.node ∷ at.position.before }) behind nodes at.position at.node (turned Loose behind) nodes at.lists at.taken stands.0 stands.1.covered refl (ap is_listed stands.1.node_state_is) refl covered_after settled
 
 -- the first of some nodes, which has this slot, and what its record says
 pub record Neighbour (records : List Record) (slot : ℕ) (nodes : List Node) (prev next : List Node → Option ℕ) : Type 0 where
@@ -193,53 +191,50 @@ unmerged_front at same = λ i. record at { position = record at.position { befor
 unmerged_back : (at : At) → (past at.nodes ≡ at.nodes) × (listed_first at.nodes ≡ None) → next_merged at ≡ at
 unmerged_back at same = λ i. record at { nodes = same.0 i; node = merged_with_behind (same.1 i) at.node; lists = left_by (same.1 i) at.lists }
 
-module _ (cells : Cells) (at : At) (span : Span) (stands : StandsAt span.slot Loose cells at) where
+module _ (cells : Cells) (at : At) (span : Span) (stands : StandsAt span.slot InUse cells at) where
   -- the free block in front takes it in
   pub previous_merges : (p : ℕ) (front : Record) → IsRead span cells.records → (record_at cells.records span.slot).prev ≡ Some p → front ≡ record_at cells.records p → is_free_state front.state ≡ true
-      → Merges (record { slot = p; place = front.place; size = front.size + span.size; next = span.next }) front.state span.slot front Loose cells (previous_merged at)
+      → Merges (record { slot = p; place = front.place; size = front.size + span.size; next = span.next }) span.slot front cells (previous_merged at)
   previous_merges p front read link is free =
-      let by = in_front cells at span.slot Loose stands p link in
-      let known : span ≡ span_at at = span_is cells Loose at span stands read in
+      let by = in_front cells at span.slot InUse stands p link in
+      let known : span ≡ span_at at = span_is cells InUse at span stands read in
       let front_free = ap (λ (r : Record). is_free_state r.state) (sym is) ∙ free in
-      let P : List Node → Type 0 = λ ns. StandsAt span.slot Loose cells (seen cells at by.node by.others ns)
-      → Merges (node_span (record by.node { size = by.node.size + at.node.size }) at.nodes) Free at.node.slot (record_at cells.records by.node.slot) Loose cells (previous_merged (seen cells at by.node by.others ns)) in
+      let P : List Node → Type 0 = λ ns. StandsAt span.slot InUse cells (seen cells at by.node by.others ns)
+      → Merges (node_span (record by.node { size = by.node.size + at.node.size }) at.nodes) at.node.slot (record_at cells.records by.node.slot) cells (previous_merged (seen cells at by.node by.others ns)) in
       let base = subst P (sym (turned_listed cells.records p at.position.before by front_free)) (merges_seen cells at by.node by.others span.slot) stands in
       let place : by.node.place ≡ front.place = sym (ap (λ (r : Record). r.place) is ∙ ap (λ (v : InPool). v.place) by.says) in
       let size : by.node.size + at.node.size ≡ front.size + span.size = omega (arith, ap (λ (r : Record). r.size) is, ap (λ (v : InPool). v.size) by.says, ap (λ (s : Span). s.size) known) in
       let next : first_slot at.nodes ≡ span.next = sym (ap (λ (s : Span). s.next) known) in
-      let state : Free ≡ front.state = sym (ap (λ (r : Record). r.state) is ∙ by_state cells.records p at.position.before by ∙ ap state_of (by_free cells.records p at.position.before by front_free)) in
       let block : record_at cells.records by.node.slot ≡ front = ap (record_at cells.records) by.slot_is ∙ sym is in
-      transport (λ i. Merges (record { slot = by.slot_is i; place = place i; size = size i; next = next i }) (state i) (stands.1.slot_is i) (block i) Loose cells (previous_merged at)) base
+      transport (λ i. Merges (record { slot = by.slot_is i; place = place i; size = size i; next = next i }) (stands.1.slot_is i) (block i) cells (previous_merged at)) base
 
   pub front_stays : (record_at cells.records span.slot).prev ≡ None → previous_merged at ≡ at
-  front_stays none = unmerged_front at (past_none at.position.before (sym (prev_is cells span.slot Loose at stands) ∙ none))
+  front_stays none = unmerged_front at (past_none at.position.before (sym (prev_is cells span.slot InUse at stands) ∙ none))
 
   pub front_is_live : (p : ℕ) → (record_at cells.records span.slot).prev ≡ Some p → is_free_state (record_at cells.records p).state ≡ false → previous_merged at ≡ at
-  front_is_live p link live = unmerged_front at (past_live cells.records p at.position.before (in_front cells at span.slot Loose stands p link) live)
+  front_is_live p link live = unmerged_front at (past_live cells.records p at.position.before (in_front cells at span.slot InUse stands p link) live)
 
-module _ (cells : Cells) (at : At) (span : Span) (node_state : NodeState) (unlisted : is_listed node_state ≡ false) (stands : StandsAt span.slot node_state cells at) where
   -- it is merged with the free block behind
-  pub next_merges : (n : ℕ) (state : State) (next : Record) → IsRead span cells.records → state ≡ (record_at cells.records span.slot).state → span.next ≡ Some n → next ≡ record_at cells.records n → is_free_state next.state ≡ true
-      → Merges (record span { size = span.size + next.size; next = next.next }) state n next node_state cells (next_merged at)
-  next_merges n state next read same link is free =
-      let by = in_back cells at span.slot node_state stands n (sym read.next ∙ link) in
-      let known : span ≡ span_at at = span_is cells node_state at span stands read in
+  pub next_merges : (n : ℕ) (next : Record) → IsRead span cells.records → span.next ≡ Some n → next ≡ record_at cells.records n → is_free_state next.state ≡ true
+      → Merges (record span { size = span.size + next.size; next = next.next }) n next cells (next_merged at)
+  next_merges n next read link is free =
+      let by = in_back cells at span.slot InUse stands n (sym read.next ∙ link) in
+      let known : span ≡ span_at at = span_is cells InUse at span stands read in
       let next_free = ap (λ (r : Record). is_free_state r.state) (sym is) ∙ free in
-      let P : List Node → Type 0 = λ ns. StandsAt span.slot node_state cells (record at { nodes = ns })
-      → Merges (node_span (record at.node { size = at.node.size + by.node.size }) by.others) (state_of at.node.state) by.node.slot (record_at cells.records by.node.slot) node_state cells (next_merged (record at { nodes = ns })) in
-      let base = subst P (sym (turned_listed cells.records n at.nodes by next_free)) (merges_behind cells at by.node by.others span.slot node_state unlisted) stands in
+      let P : List Node → Type 0 = λ ns. StandsAt span.slot InUse cells (record at { nodes = ns })
+      → Merges (node_span (record at.node { size = at.node.size + by.node.size }) by.others) by.node.slot (record_at cells.records by.node.slot) cells (next_merged (record at { nodes = ns })) in
+      let base = subst P (sym (turned_listed cells.records n at.nodes by next_free)) (merges_behind cells at by.node by.others span.slot) stands in
       let place : at.node.place ≡ span.place = sym (ap (λ (s : Span). s.place) known) in
       let size : at.node.size + by.node.size ≡ span.size + next.size = omega (arith, ap (λ (r : Record). r.size) is, ap (λ (v : InPool). v.size) by.says, ap (λ (s : Span). s.size) known) in
       let behind : first_slot by.others ≡ next.next = sym (ap (λ (r : Record). r.next) is ∙ ap (λ (v : InPool). v.next) by.says) in
-      let state_same : state_of at.node.state ≡ state = ap state_of stands.1.node_state_is ∙ sym (same ∙ state_read cells span.slot node_state at stands) in
       let block : record_at cells.records by.node.slot ≡ next = ap (record_at cells.records) by.slot_is ∙ sym is in
-      transport (λ i. Merges (record { slot = stands.1.slot_is i; place = place i; size = size i; next = behind i }) (state_same i) (by.slot_is i) (block i) node_state cells (next_merged at)) base
+      transport (λ i. Merges (record { slot = stands.1.slot_is i; place = place i; size = size i; next = behind i }) (by.slot_is i) (block i) cells (next_merged at)) base
 
   pub back_stays : (record_at cells.records span.slot).next ≡ None → next_merged at ≡ at
-  back_stays none = unmerged_back at (past_none at.nodes (sym (next_is cells span.slot node_state at stands) ∙ none))
+  back_stays none = unmerged_back at (past_none at.nodes (sym (next_is cells span.slot InUse at stands) ∙ none))
 
   pub back_is_live : (n : ℕ) → (record_at cells.records span.slot).next ≡ Some n → is_free_state (record_at cells.records n).state ≡ false → next_merged at ≡ at
-  back_is_live n link live = unmerged_back at (past_live cells.records n at.nodes (in_back cells at span.slot node_state stands n link) live)
+  back_is_live n link live = unmerged_back at (past_live cells.records n at.nodes (in_back cells at span.slot InUse stands n link) live)
 
 -- the free one behind, by the records
 module _ (cells : Cells) (at : At) (slot : ℕ) (node_state : NodeState) (stands : StandsAt slot node_state cells at) where

@@ -1,7 +1,7 @@
 -- Layouts of worked rows: what the cells say of their nodes, what they stand for, and what edits leave.
 use Rattle.std.proofs.Common.{◌≡◌, ℕ, List, [], ◌∷◌, map, replicate, Some, None, refl}
 use Rattle.tlsf_class.specs.Classes.{classes, class, low}
-use Rattle.tlsf_store.specs.declared.records.State.TheVariants.{Free, Live}
+use Rattle.tlsf_store.specs.declared.records.State.TheVariants.{Free}
 use Rattle.tlsf_store.specs.Cells.{Cells, empty_cells, with_taken}
 use Rattle.tlsf_store.specs.declared.pools.Pool.{Pool as StoredPool}
 use Rattle.tlsf_heap.specs.Content.{Content}
@@ -30,7 +30,7 @@ abbrev first_split : Cells
 first_split =
     let old = with_taken (pool_entered entry (with_taken (empty_cells 4) (Some 0))) (Some 1) in
     let block = record_at old.records 0 in
-    linked 57 1 (split_by (span_of 0 block) Live 1 Free 112 (unlinked_by 64 block old))
+    linked 57 1 (split_by (span_of 0 block) 1 Free None 112 (unlinked_by 64 block old))
 
 abbrev taken : Node
 taken = record { slot = 0; place = 0; size = 112; state = InUse }

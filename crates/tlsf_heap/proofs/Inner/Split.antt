@@ -1,15 +1,16 @@
 -- A block that is in no list keeps its first bytes, and a taken slot has the rest.
-use Rattle.std.proofs.Common.{◌≡◌, ◌≢◌, ℕ, ◌+◌, ◌≤◌, Bool, false, ◌&&◌, List, ◌∷◌, set, refl, sym, ap, ◌∙◌, arith, count_by, length, Some}
+use Rattle.std.proofs.Common.{◌≡◌, ◌≢◌, ℕ, ◌+◌, ◌≤◌, Bool, false, ◌&&◌, List, ◌∷◌, set, refl, sym, ap, ◌∙◌, arith, count_by, length, Option, Some}
 use Rattle.std.proofs.lemmas.Bool.{eq-eqb}
 use Rattle.std.proofs.lemmas.List.{length-set}
 use Rattle.tlsf_store.specs.declared.records.Record.{Record}
+use Rattle.tlsf_store.specs.declared.records.State.TheVariants.{Live}
 use Rattle.tlsf_store.specs.Records.{record_at}
 use Rattle.tlsf_store.specs.Cells.{Cells}
 use Rattle.tlsf_store.proofs.RecordLaws.{record_at-set_same, record_at-set_other}
 use Rattle.tlsf_heap.specs.Inner.Edits.{edited_in}
 use Rattle.tlsf_heap.specs.Inner.Spans.{node_span, rest_of, split_by}
 use Rattle.tlsf_heap.specs.Good.{times}
-use Rattle.tlsf_heap.specs.Inner.Nodes.{NodeState, Node, turned, rest_node, has_slot, nodes_in, is_listed, is_listed_in}
+use Rattle.tlsf_heap.specs.Inner.Nodes.{NodeState, InUse, Node, turned, rest_node, has_slot, nodes_in, is_listed, is_listed_in}
 use Rattle.tlsf_heap.specs.Inner.Positions.{Position, laid, filled}
 use Rattle.tlsf_heap.specs.Inner.Represents.{InPool, pool_view, list_view, pool_views, list_views, in_pool, first_slot, state_of, uses_in, Represents}
 use Rattle.tlsf_heap.proofs.Counts.{one_if, count-cons}
@@ -19,13 +20,13 @@ use Rattle.tlsf_heap.proofs.Inner.Reads.{length-edited, edited_here, edited_apar
 use Rattle.tlsf_heap.proofs.Content.FreeLists.{times-cons}
 use Rattle.tlsf_heap.proofs.Inner.Chains.{uses_node, not_taken, unlisted, listed_within, AtNode, at_node, refilled}
 
-module _ (cells : Cells) (count : ℕ) (position : Position) (node : Node) (nodes : List Node) (lists : List (List Node)) (rest : ℕ) (front back : NodeState) (taken : List ℕ) (bytes : ℕ)
-    (was : Represents cells (laid count position (node ∷ nodes) lists (rest ∷ taken))) (was_not : is_listed node.state ≡ false) (front_not : is_listed front ≡ false) (back_not : is_listed back ≡ false) where
+module _ (cells : Cells) (count : ℕ) (position : Position) (node : Node) (nodes : List Node) (lists : List (List Node)) (rest : ℕ) (back : NodeState) (second : Option ℕ) (taken : List ℕ) (bytes : ℕ)
+    (was : Represents cells (laid count position (node ∷ nodes) lists (rest ∷ taken))) (was_not : is_listed node.state ≡ false) (back_not : is_listed back ≡ false) where
   abbrev left : Record
-  left = rest_of (state_of back) (node_span node nodes) bytes
+  left = rest_of (state_of back) (node_span node nodes) second bytes
 
   abbrev kept : Record → Record
-  kept r = record r { size = bytes; state = state_of front; next = Some rest }
+  kept r = record r { size = bytes; state = Live; next = Some rest }
 
   abbrev moved : Record → Record
   moved r = record r { prev = Some rest }
@@ -71,7 +72,7 @@ module _ (cells : Cells) (count : ℕ) (position : Position) (node : Node) (node
       not_first node.slot (omega (arith, here.most node.slot, count-cons (has_slot node.slot) node nodes, ap one_if (eq-eqb node.slot node.slot refl)))
       ∙ edited_here kept (Some node.slot) one node.slot (omega (arith, length-set cells.records rest left, here.below)) refl ∙ ap kept still
 
-  at_rest : record_at new rest ≡ left
+  pub at_rest : record_at new rest ≡ left
   at_rest =
       not_first rest (omega (arith, here.most rest, rest_counts, count-cons (has_slot rest) node nodes))
       ∙ record_at-set_other one node.slot rest (kept (record_at one node.slot)) apart ∙ record_at-set_same cells.records rest left (here.taken_below rest rest_counts)
@@ -84,21 +85,21 @@ module _ (cells : Cells) (count : ℕ) (position : Position) (node : Node) (node
   in_use q =
       let view : Record → ℕ = λ r. uses_in r.state in
       let rest_used : uses_in (state_of back) ≡ uses_in (record_at cells.records rest).state = omega (arith, uses_node back, here.once rest, rest_counts, here.most rest) in
-      seen view (λ r. refl) (uses_node front ∙ sym (ap view still ∙ here.used)) q (set_kept view cells.records rest left rest_used q)
+      seen view (λ r. refl) (uses_node InUse ∙ sym (ap view still ∙ here.used)) q (set_kept view cells.records rest left rest_used q)
 
   listed_same : (number q : ℕ) → 1 ≤ count_by (has_slot q) (nodes_in number lists) → list_views new q ≡ list_views cells.records q
   listed_same number q h =
       seen list_view (λ r. refl) refl q (ap list_view (record_at-set_other cells.records rest q left
       (not_taken q rest taken (omega (arith, h, listed_within (filled position (node ∷ nodes)) lists was.agree number q, was.chains.once q, here.most q, here.once q))).0))
 
-  pub split_laid : Represents (split_by (node_span node nodes) (state_of front) rest (state_of back) bytes cells) (laid count position (record node { size = bytes; state = front } ∷ turned back (rest_node rest bytes node) ∷ nodes) lists taken)
+  pub split_laid : Represents (split_by (node_span node nodes) rest (state_of back) second bytes cells) (laid count position (record node { size = bytes; state = InUse } ∷ turned back (rest_node rest bytes node) ∷ nodes) lists taken)
   split_laid =
-      let first : Node = record node { size = bytes; state = front } in
+      let first : Node = record node { size = bytes; state = InUse } in
       let second : Node = turned back (rest_node rest bytes node) in
       refilled cells count position (node ∷ nodes) (first ∷ second ∷ nodes) lists (rest ∷ taken) taken new was (length-edited moved (first_slot nodes) two ∙ same_count)
       (λ q h. not_first q (omega (arith, h, here.most q, count-cons (has_slot q) node nodes)) ∙ others q (here.outside_apart q h) (rest_apart q (omega (arith, h))))
       refl (
-        ap pool_view at_slot ∙ ap (λ (v : InPool). record v { size = bytes; state = state_of front; next = Some rest }) here.says,
+        ap pool_view at_slot ∙ ap (λ (v : InPool). record v { size = bytes; state = Live; next = Some rest }) here.says,
         (
           ap pool_view at_rest,
           linked_moved in_pool (pool_views cells.records) (pool_views new) (λ v. record v { prev = Some rest }) (Some node.slot) (Some rest) (λ other next. refl) nodes here.behind_once
@@ -113,4 +114,4 @@ module _ (cells : Cells) (count : ℕ) (position : Position) (node : Node) (node
       listed_same
       (λ number test.
       let listed : Node → Bool = λ other. is_listed_in number other && test other in
-      omega (arith, count-cons listed node nodes, count-cons listed first (second ∷ nodes), count-cons listed second nodes, unlisted number test node was_not, unlisted number test first front_not, unlisted number test second back_not))
+      omega (arith, count-cons listed node nodes, count-cons listed first (second ∷ nodes), count-cons listed second nodes, unlisted number test node was_not, unlisted number test first refl, unlisted number test second back_not))

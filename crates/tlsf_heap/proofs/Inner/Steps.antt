@@ -1,11 +1,12 @@
 -- A node at a position that changes its state or enters its list: what the steps need and leave.
 use Rattle.std.proofs.Common.{◌≡◌, ℕ, false, ◌∷◌, map, refl, sym, ap, ◌∙◌, subst, Some}
 use Rattle.tlsf_class.specs.Classes.{class}
+use Rattle.tlsf_store.specs.declared.records.State.TheVariants.{Free}
 use Rattle.tlsf_store.specs.Records.{record_at}
 use Rattle.tlsf_store.specs.Cells.{Cells, head_at}
 use Rattle.tlsf_heap.specs.Inner.Edits.{IsUsed, linked, with_state}
 use Rattle.tlsf_heap.specs.Inner.At.{AreCovered, At, areas_at, layout_at, StandsAt, at_turned, at_listed}
-use Rattle.tlsf_heap.specs.Inner.Nodes.{NodeState, Listed, Loose, Node, turned, block_of, pool_of, is_listed}
+use Rattle.tlsf_heap.specs.Inner.Nodes.{NodeState, InUse, Listed, Loose, Node, turned, block_of, pool_of, is_listed}
 use Rattle.tlsf_heap.specs.Inner.Represents.{InPool, state_of, first_slot, Represents}
 use Rattle.tlsf_heap.proofs.Good.MallocIsGood.{IsWholeBlock}
 use Rattle.tlsf_heap.proofs.Inner.Chains.{AtNode, at_node}
@@ -65,3 +66,7 @@ listed_stands cells slot at stands =
       subst Q stands.1.slot_is (linked_laid cells at.count at.position at.node at.nodes at.lists at.taken (subst P loose stands.0)),
       record { slot_is = stands.1.slot_is; node_state_is = refl; others_settled = stands.1.others_settled; covered = covered_turned cells slot Loose at stands Listed },
     )
+
+-- a node in use becomes free, and enters its list
+pub entered_stands : (cells : Cells) (slot : ℕ) (at : At) → StandsAt slot InUse cells at → StandsAt slot Listed (linked (class at.node.size) slot (with_state slot Free cells)) (at_listed at)
+entered_stands cells slot at stands = listed_stands (with_state slot Free cells) slot (at_turned Loose at) (turned_stands cells slot InUse at stands Loose refl refl)

@@ -17,9 +17,9 @@ use Rattle.tlsf_heap.proofs.Meaning.NodeBlocks.{first_block}
 use Rattle.tlsf_heap.proofs.Meaning.FreeFirst.{past_free, free_first, merged_of}
 use Rattle.tlsf_heap.proofs.Meaning.FreedIsGood.{after_is}
 
--- the loose node that is left of a node and those beside it
+-- the node that is left of a node and those beside it
 abbrev pub merged_node : Position → Node → List Node → Node
-merged_node position node nodes = merged_with_behind (listed_first nodes) (merged_with_front (listed_first position.before) (turned Loose node))
+merged_node position node nodes = merged_with_behind (listed_first nodes) (merged_with_front (listed_first position.before) node)
 
 -- the layout after the node at the position was freed: one listed node is left of it and those beside it
 abbrev pub freed_layout : ℕ → Position → Node → List Node → List (List Node) → List ℕ → Layout
@@ -98,7 +98,7 @@ module _ (position : Position) (node : Node) (nodes : List Node) (lists : List (
       go (b ∷ others) there = neighbour_left (record position { before = node ∷ position.before }) b others o there
 
   -- the block that is left
-  block_merged : (f b : Option Node) → block_of (turned Listed (merged_with_behind b (merged_with_front f (turned Loose node)))) ≡ merged_of (option_map block_of f) (block_of node) (option_map block_of b)
+  block_merged : (f b : Option Node) → block_of (turned Listed (merged_with_behind b (merged_with_front f node))) ≡ merged_of (option_map block_of f) (block_of node) (option_map block_of b)
   block_merged None None = let n : node.size ≡ 0 + node.size + 0 = omega arith in ap (free_block node.place) n
   block_merged None (Some b) = let n : node.size + b.size ≡ 0 + node.size + b.size = omega arith in ap (free_block node.place) n
   block_merged (Some f) None = let n : f.size + node.size ≡ f.size + node.size + 0 = omega arith in ap (free_block f.place) n

@@ -95,7 +95,7 @@ at_gapped live bytes at = record at {
 
 -- a node in use became free, one with the free ones beside it, and listed
 abbrev pub at_freed : At → At
-at_freed at = at_listed (next_merged (previous_merged (at_turned Loose at)))
+at_freed at = at_listed (next_merged (previous_merged at))
 
 -- the layout without the node's area, whose node left its list
 abbrev pub without_area : At → Layout

@@ -60,11 +60,15 @@ abbrev pub with_bit_before : Option ℕ → ℕ → Cells → Cells
 with_bit_before None class cells = with_class_bit class cells
 with_bit_before (Some first) class cells = cells
 
+-- the slot's free block, whose record has its links, stands in front of the class's list, whose first was this one
+abbrev pub put_first : ℕ → ℕ → Option ℕ → Cells → Cells
+put_first class slot first cells = with_bit_before first class (with_head (with_prev_free first (Some slot) cells) class (Some slot))
+
 -- the slot's free block enters the class's list in front of the others
 abbrev pub linked : ℕ → ℕ → Cells → Cells
 linked class slot cells =
     let first = head_at cells.heads class in
-    with_bit_before first class (with_head (with_prev_free first (Some slot) (with_free_links slot None first cells)) class (Some slot))
+    put_first class slot first (with_free_links slot None first cells)
 
 -- the slot, if there is one, is of a record that isn't vacant
 abbrev pub IsUsed : List Record → Option ℕ → Type 0

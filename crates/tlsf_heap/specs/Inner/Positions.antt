@@ -2,7 +2,7 @@
 -- it, merged.
 use Rattle.std.specs.Prelude.{ℕ, List, [], ◌∷◌, ◌+◌, Bool, true, false, Option, Some, None, if◌then◌else◌}
 use Rattle.tlsf_store.specs.declared.pools.Pool.{Pool as StoredPool}
-use Rattle.tlsf_heap.specs.Inner.Nodes.{Node, Area, Layout, NodeState, Loose, is_listed, left}
+use Rattle.tlsf_heap.specs.Inner.Nodes.{Node, Area, Layout, NodeState, InUse, Loose, is_listed, left}
 
 -- the items in front, nearest first, and then those behind
 abbrev pub plug : {A : Type 0} → List A → List A → List A
@@ -47,15 +47,15 @@ abbrev pub left_by : Option Node → List (List Node) → List (List Node)
 left_by None lists = lists
 left_by (Some node) lists = left node lists
 
--- a node in front, where there is one, is merged with the node
+-- a node in front, where there is one, is merged with the node, which is in use
 abbrev pub merged_with_front : Option Node → Node → Node
 merged_with_front None node = node
-merged_with_front (Some front) node = record front { size = front.size + node.size; state = Loose }
+merged_with_front (Some front) node = record front { size = front.size + node.size; state = InUse }
 
--- the node is merged with one behind, where there is one
+-- the node, which is in use, is merged with one behind, where there is one
 abbrev pub merged_with_behind : Option Node → Node → Node
 merged_with_behind None node = node
-merged_with_behind (Some behind) node = record node { size = node.size + behind.size }
+merged_with_behind (Some behind) node = record node { size = node.size + behind.size; state = InUse }
 
 -- the position without a listed node in front
 abbrev pub position_past : Position → Position

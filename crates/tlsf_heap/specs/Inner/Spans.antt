@@ -2,6 +2,7 @@
 use Rattle.std.specs.Prelude.{◌≡◌, ℕ, ◌+◌, ◌-◌, ◌%◌, ◌<◌, ◌≤◌, List, length, Option, Some, None}
 use Rattle.tlsf_class.specs.Classes.{unit, class, greatest_size}
 use Rattle.tlsf_store.specs.declared.records.State.{State}
+use Rattle.tlsf_store.specs.declared.records.State.TheVariants.{Live}
 use Rattle.tlsf_store.specs.declared.records.Record.{Record}
 use Rattle.tlsf_store.specs.Records.{blank, record_at}
 use Rattle.tlsf_store.specs.Cells.{Cells, with_record}
@@ -50,20 +51,20 @@ span_at at = node_span at.node at.nodes
 abbrev pub with_block : ℕ → ℕ → State → Option ℕ → Cells → Cells
 with_block slot size state next cells = edited (λ r. record r { size = size; state = state; next = next }) (Some slot) cells
 
--- what is left of the block behind its first bytes, in this state
-abbrev pub rest_of : State → Span → ℕ → Record
-rest_of state span bytes = record { place = span.place + bytes; size = span.size - bytes; state = state; prev = Some span.slot; next = span.next; prev_free = None; next_free = None }
+-- what is left of the block behind its first bytes, in this state, in front of this one in a list
+abbrev pub rest_of : State → Span → Option ℕ → ℕ → Record
+rest_of state span second bytes = record { place = span.place + bytes; size = span.size - bytes; state = state; prev = Some span.slot; next = span.next; prev_free = None; next_free = second }
 
--- the block keeps its first bytes, in one state; the rest is a block of the other slot, behind it, in the other state
-abbrev pub split_by : Span → State → ℕ → State → ℕ → Cells → Cells
-split_by span front rest back bytes cells =
-    with_prev span.next (Some rest) (with_block span.slot bytes front (Some rest) (with_record cells rest (rest_of back span bytes)))
+-- the block keeps its first bytes, and is live; the rest is a block of the other slot, behind it, in this state
+abbrev pub split_by : Span → ℕ → State → Option ℕ → ℕ → Cells → Cells
+split_by span rest back second bytes cells =
+    with_prev span.next (Some rest) (with_block span.slot bytes Live (Some rest) (with_record cells rest (rest_of back span second bytes)))
 
--- One of two neighbours, of this record, left its list. The first, in this state, is merged with the one behind it, whose slot
+-- One of two neighbours, of this record, left its list. The first, which is live, is merged with the one behind it, whose slot
 -- becomes vacant; the span says what it is then.
-abbrev pub merged_by : Span → State → ℕ → Record → Cells → Cells
-merged_by span state behind listed cells =
-    with_record (with_prev span.next (Some span.slot) (with_block span.slot span.size state span.next (unlinked_by (class listed.size) listed cells))) behind blank
+abbrev pub merged_by : Span → ℕ → Record → Cells → Cells
+merged_by span behind listed cells =
+    with_record (with_prev span.next (Some span.slot) (with_block span.slot span.size Live span.next (unlinked_by (class listed.size) listed cells))) behind blank
 
 -- one of two neighbours, the listed one of this record, can leave its list. The two can then be merged.
 -- out: the records once the listed one left

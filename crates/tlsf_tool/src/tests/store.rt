@@ -54,6 +54,13 @@ fn write_parts(rt: &impl Abort, store: &mut Store, slot: Slot, other: Slot) {
     store.set_next_free(slot, None);
 }
 
+/// Makes a record, of which the caller knows that it isn't vacant, that of a free block of 64 bytes in front of another.
+fn set_free(rt: &impl Abort, store: &mut Store, slot: Slot, other: Slot) {
+    assert!(rt; u32::from(slot.0) < store.records() && u32::from(other.0) < store.records());
+    assert!(rt; store.read(slot).state != State::Vacant);
+    store.set_free(slot, 64, Some(other));
+}
+
 /// A record of these fields.
 fn row(
     (place, size): (u32, u32),
@@ -149,6 +156,12 @@ fn parts_of_a_record(rt: HostRuntime) {
         (Some(other), None),
     );
     assert_eq!(rt; read(&rt, &mut store, slot), written);
+    set_free(&rt, &mut store, slot, other);
+    let links = (None, Some(other));
+    assert_eq!(rt;
+        read(&rt, &mut store, slot),
+        row((32, 64), State::Free, links, links)
+    );
 }
 
 /// Each other test that makes one store fails where the first allocation is refused, and passes where the second is.
