@@ -1,5 +1,5 @@
 """Logs of servers, planted: `record` keeps a block of each eighth request, `put` is a cache that is emptied again and again, and `parse`
-frees what it takes. Who grows, and to what, is told by the plant."""
+frees what it takes. One of them has a burst of `record`, too. Who grows, and to what, is told by the plant."""
 import re
 
 KEPT, CACHED = 40, 900
@@ -79,9 +79,23 @@ def running_server():
     return server
 
 
-SERVERS = {"a server that shuts down": shut_down_server, "a server that is killed": killed_server, "a server that runs": running_server}
-TOLD = re.compile(r"record: from ([\d,]+) bytes early on to ([\d,]+)(?: until line ([\d,]+), but 0)? at the end\."
-                  r"(?: From line ([\d,]+) on the program gives back what it holds: that isn't growth\.)?")
+def bursting_server():
+    """Between its requests 300 and 600 `record` holds a hundred blocks more, so that what it holds falls behind them."""
+    server = Server()
+    for number in range(1200):
+        server.serve(number, 90)
+        if number == 300:
+            burst = [server.ask("record", KEPT) for _ in range(100)]
+        if number == 600:
+            for place in burst:
+                server.line(f"- 0x{place:x}", -KEPT)
+    return server
+
+
+SERVERS = {"a server that shuts down": shut_down_server, "a server that is killed": killed_server, "a server that runs": running_server,
+           "a server with a burst": bursting_server}
+TOLD = re.compile(r"(?:Until line ([\d,]+), where the program begins to give back what it holds: )?"
+                  r"record: from ([\d,]+) bytes early on to ([\d,]+)( at the end)?\.")
 
 
 def is_told(told, server):
@@ -90,9 +104,9 @@ def is_told(told, server):
     found = TOLD.fullmatch(told)
     if not found:
         return False
-    early, most, until, end = (number and int(number.replace(",", "")) for number in found.groups())
+    until, early, most = (number and int(number.replace(",", "")) for number in found.groups()[:3])
     step, last = -(-len(server.lines) // 200), server.served or len(server.lines)
     is_early = server.recorded[(last - 2 * step) // 10] <= early <= server.recorded[last // 10 + step]
     if server.served is None:
-        return is_early and until is None and end is None and most == server.recorded[-1]
-    return is_early and until == end and last - 2 * step <= until <= last and most == server.recorded[until]
+        return is_early and until is None and found[4] is not None and most == server.recorded[-1]
+    return is_early and found[4] is None and until is not None and last - 2 * step <= until <= last and most == server.recorded[until]

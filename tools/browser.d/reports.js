@@ -7,7 +7,7 @@ const MOST_POOL = 1073741808, UNIT = 16;
 const KINDS = ["too long", "not a line", " is not held", " is already held", " refused: ", "half of a reallocation", "no < before >"];
 const [TOO_LONG, NOT_A_LINE, NOT_HELD, ALREADY_HELD, REFUSED, HALF, STRAY] = KINDS.keys();
 // What `fit` may read again, in seconds of one processor by the estimate below.
-const SECONDS_TO_FIT = 7;
+const SECONDS_TO_FIT = 3;
 const LINES = "line bytes blocks", HEAP_LINES = "line bytes blocks reach free largest";
 
 // The reports don't agree with each other, or with what was read beside them.

@@ -51,15 +51,16 @@ function bandsOf(groups) {
   groups.forEach((group) => { group.most = Math.max(...group.numbers); group.peak = group.numbers[data.peak]; });
   const held = groups.filter((group) => group.most > 0 && !areOthers(group)), others = groups.filter(areOthers);
   held.sort((one, other) => other.most - one.most || (one.told < other.told ? -1 : 1));
-  const all = groups.reduce((sum, group) => sum + group.peak, 0);
+  const whole = groups.reduce((sum, group) => sum + group.peak, 0);
   const shown = held.slice(0, MOST_BANDS).reduce((sum, group) => sum + group.peak, 0);
-  if (shown < SHARE_OF_PEAK * all) held.sort((one, other) => other.peak - one.peak || (one.told < other.told ? -1 : 1));
+  if (shown < SHARE_OF_PEAK * whole) held.sort((one, other) => other.peak - one.peak || (one.told < other.told ? -1 : 1));
   const bands = held.slice(0, MOST_BANDS).map((group, at) => ({ name: `s${at}`, told: group.told, values: group.numbers }));
   const rest = held.slice(MOST_BANDS);
   if (rest.length) {
-    const greatest = rest.reduce((best, group) => group.most > best.most ? group : best);
-    bands.push({ name: "rest", told: `${counted(rest.length, "other")}${others.length ? " and more" : ""}, the greatest ${greatest.told}`,
-      values: data.points.map((_, point) => [...rest, ...others].reduce((sum, group) => sum + group.numbers[point], 0)) });
+    const greatest = rest.reduce((best, group) => group.most > best.most ? group : best), all = [...rest, ...others];
+    const values = data.points.map((_, point) => all.reduce((sum, group) => sum + group.numbers[point], 0));
+    bands.push({ name: "rest", told: `${counted(rest.length, "other")}${others.length ? " and more" : ""}, with ` +
+      `${(100 * values[data.peak] / Math.max(whole, 1)).toFixed(0)} % of the peak, the greatest ${greatest.told}`, values });
   }
   return bands;
 }
@@ -130,15 +131,14 @@ class Chart {
     this.anchor = null;
     this.regroup();
     this.listen();
-    this.tell(this.at);
-    this.cursor.setAttribute("visibility", "hidden");
     this.named();
   }
 
-  // Draws the chart by the groups that are chosen.
+  // Draws the chart by the groups that are chosen, and tells by them what is held where it was last told.
   regroup() {
     this.bands = bandsOf(seriesOf());
     this.redraw();
+    this.tellWords();
     find("legend").replaceChildren(...[...this.bands].reverse().map((band) =>
       make("li", {}, make("span", { class: `key ${band.name}` }), " ", isolated(band.told))));
   }
@@ -226,15 +226,20 @@ class Chart {
     return best;
   }
 
-  // Says what is held at a point, and by whom.
+  // Says what is held at a point, and marks it.
   tell(point) {
     this.at = point;
-    const [line, bytes, blocks, reach, , largest] = data.points[point];
+    this.cursor.setAttribute("d", `M${this.x(point)} ${TOP}V${this.frame.bottom}`);
+    this.cursor.setAttribute("visibility", "visible");
+    this.tellWords();
+  }
+
+  // Who holds how much at the point that was last told.
+  tellWords() {
+    const point = this.at, [line, bytes, blocks, reach, , largest] = data.points[point];
     const groups = between(0, point).filter((group) => group.numbers[AFTER]).sort((one, other) => other.numbers[AFTER] - one.numbers[AFTER]).slice(0, 5);
     const words = groups.map((group) => `${told(group.numbers[AFTER])} at ${group.told}`).join("; ");
     const heap = data.fits ? `, reach ${told(reach)}, largest free block ${told(largest)}` : "";
-    this.cursor.setAttribute("d", `M${this.x(point)} ${TOP}V${this.frame.bottom}`);
-    this.cursor.setAttribute("visibility", "visible");
     find("readout").replaceChildren(isolated(`Line ${told(line)}${point === data.peak && bytes ? " (peak)" : ""}: ${counted(bytes, "byte")} in ` +
       `${counted(blocks, "block")}${heap}. ${words}`));
   }

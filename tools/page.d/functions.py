@@ -3,13 +3,13 @@ import os
 import re
 from collections import defaultdict
 from dataclasses import dataclass
-from functools import lru_cache
-from itertools import chain, takewhile
+from functools import cache, cached_property
+from itertools import chain, dropwhile, islice, takewhile
 
-from names import OPERATOR, Names, end_of_type, told_bare
-from stacks import frames_of, text_of
+from names import Names, end_of_type, told_bare, without_brackets
+from stacks import frames_in, frames_of, list_of, text_of
 from texts import shown, site_name
-from told import calls_of, told_calls
+from told import told_calls
 
 # A function that only asks for memory on behalf of who called it, as xmalloc or a class's own operator new, is passed over.
 ALLOCATES = re.compile(r"(?:alloc|Alloc)(?:ate|ator|f|z|0|_?array\w*|_?n|_?or_die|_?zero(?:ed)?|Raw|RawNN|RawNNTyped|Zero|Size|WithAlarm|NoTrack)?$|"
@@ -20,42 +20,24 @@ MANY_CALLERS, MOST_WRAPPERS = 8, 6
 NO_NAME = "(no location)"
 
 
-@lru_cache(maxsize=None)
+@cache
 def told_text(text):
     """A text that a log or binutils gave, as it is shown."""
     return shown(os.fsencode(text))
 
 
-def without_types(name):
-    """A name without what stands in angle brackets, but for operators."""
-    kept, depth, at = [], 0, 0
-    while at < len(name):
-        found = OPERATOR.match(name, at) if depth == 0 else None
-        if found:
-            kept.append(found[0])
-            at = found.end()
-            continue
-        byte = name[at]
-        depth += byte == "<"
-        if depth == 0:
-            kept.append(byte)
-        depth -= byte == ">" and depth > 0 and name[at - 1] != "-"
-        at += 1
-    return "".join(kept)
-
-
-@lru_cache(maxsize=None)
+@cache
 def brief(name):
     """The last two parts of a function's name, as `Arena::grow` of `<core_arena::Arena<T> as Grow>::grow`."""
     if name.startswith("<"):
         end = end_of_type(name)
         name = name[1:end - 1].partition(" as ")[0].lstrip("&*") + name[end:]
-    parts = [part for part in without_types(name).split("::") if part] or [name]
+    parts = [part for part in without_brackets(name, "<", ">").split("::") if part] or [name]
     count = next((count for count in range(2, len(parts)) if not parts[-count + 1].startswith("{")), len(parts))
     return "::".join(parts[-count:])
 
 
-@lru_cache(maxsize=None)
+@cache
 def only_allocates(name):
     """Whether a function is named for asking for memory alone."""
     return bool(ALLOCATES.search(brief(name).rpartition("::")[2]))
@@ -71,46 +53,75 @@ class Function:
     module: str
 
 
-@dataclass(frozen=True)
 class Site:
-    """What is told of a location: its function, the line in it, or 0, and its frames, the nearest first, long and brief."""
-    function: Function
-    line: int
-    frames: tuple
-    briefs: tuple
+    """What is told of a location: its function, the line in it, or 0, and its frames, the nearest first, long and brief. Frames are told
+    when they are asked for, since a page shows those of the greatest sites alone."""
+
+    def __init__(self, function, line, tell, shorten=None):
+        self.function, self.line, self.tell, self.shorten = function, line, tell, shorten
+
+    @cached_property
+    def frames(self):
+        return tuple(self.tell())
+
+    @cached_property
+    def briefs(self):
+        return tuple(map(self.shorten, self.frames)) if self.shorten else self.frames
 
 
-def own_calls(calls):
-    """The calls of the program's own code."""
-    return [call for call in calls if not call.is_standard]
+class Calls:
+    """The calls of a stack, the nearest first. They are looked for as they are asked for, since the first few tell most."""
+
+    def __init__(self, names, own_of, stack):
+        self.names, self.own_of, self.stack = names, own_of, stack
+
+    def __iter__(self):
+        return chain.from_iterable(map(self.names.calls, frames_in(self.stack)))
+
+    def own(self):
+        """The calls of the program's own code."""
+        return chain.from_iterable(map(self.own_of, frames_in(self.stack)))
 
 
-def own_call(calls, own, general=frozenset()):
-    """The first call of the program's own code that doesn't only ask for memory, by its name or, where it has none, since many functions
-    call it; else the first of its own, or of all. Where it has no name it is the next of its module that has one, if there is one."""
-    found = (call for call in own if (call.module, call.start) not in general and not (call.function and only_allocates(call.function)))
+def asks_for_itself(call, general):
+    """Whether a call doesn't only ask for memory, by its name or, where it has none, since many functions call it."""
+    return (call.module, call.start) not in general and not (call.function and only_allocates(call.function))
+
+
+def own_call(calls, general=frozenset()):
+    """The first call of the program's own code that asks for itself; else the first of its own, or of all. Where it has no name it is the
+    next of its module that has one, if there is one."""
+    found = (call for call in calls.own() if asks_for_itself(call, general))
     first = next(found, None)
     if first is None:
-        return (own or calls)[0]
+        return next(chain(calls.own(), calls))
     same = takewhile(lambda call: call.module == first.module, chain([first], found))
     return next((call for call in same if call.function or call.file), first)
+
+
+def callers_of(call, calls):
+    """Where the two calls of the program's own code begin that stand above a call of a stack, but for calls of itself."""
+    above = islice(dropwhile(lambda other: other is not call, calls.own()), 1, 3)
+    return {(other.module, other.start) for other in above} - {(call.module, call.start)}
 
 
 def general_functions(stacks):
     """Functions without a name that many others call for memory, as xmalloc of a program whose names are stripped: by module and begin.
     Those that call it are looked for one and two calls above it."""
-    general, both = set(), [(calls, own) for calls in stacks if (own := own_calls(calls))]
+    general, above, stacks_of = set(), defaultdict(set), defaultdict(list)
     for _ in range(MOST_WRAPPERS):
-        above = defaultdict(set)
-        for calls, own in both:
-            at = own.index(own_call(calls, own, general))
-            if own[at].start and not own[at].function:
-                key = own[at].module, own[at].start
-                above[key].update((call.module, call.start) for call in own[at + 1:at + 3] if (call.module, call.start) != key)
-        found = {key for key, callers in above.items() if len(callers) >= MANY_CALLERS}
+        for calls in stacks:
+            call = own_call(calls, general)
+            if call.start and not call.function and not call.is_standard:
+                key = call.module, call.start
+                above[key] |= callers_of(call, calls)
+                stacks_of[key].append(calls)
+        found = {key for key, callers in above.items() if len(callers) >= MANY_CALLERS} - general
         if not found:
             break
         general |= found
+        # Other stacks are told as before.
+        stacks = [calls for key in found for calls in stacks_of.pop(key)]
     return frozenset(general)
 
 
@@ -125,7 +136,7 @@ def function_of(call):
     return Function(place, place, "", module)
 
 
-@lru_cache(maxsize=None)
+@cache
 def brief_frame(told):
     """A frame as source-lines tells it, with a brief name."""
     head, space, place = told.rpartition(" ")
@@ -145,46 +156,43 @@ def plain_site(location):
         frames.append(modules[-1] + b"[" + found[2] + b"]")
     if len(frames) < 2:
         frames = [location]
-    told = tuple(map(site_name, frames))
+    name = site_name(frames[0])
     of = shown(modules[0]) if modules else shown(location.partition(b":")[0]) or NO_NAME
-    return Site(Function(told[0], told[0], "", of), 0, told, told)
+    return Site(Function(name, name, "", of), 0, lambda: map(site_name, frames))
 
 
 class Functions:
     """The sites of a log, each with its function. Names are asked of binutils, where they are wanted."""
 
     def __init__(self, stacks, locations, named):
-        self.frames = {location: stacks.frames(text_of(location)) or frames_of(text_of(location)) for location in locations if location}
         self.stacks = stacks
-        self.names = Names({frame for frames in self.frames.values() for frame in frames}) if named else None
-        self.calls = {tuple(frames): calls_of(self.names, frames) for frames in self.frames.values() if self.is_named(frames)}
+        self.lists = {location: stacks.lists.get(text) or list_of(frames_of(text)) for location in locations if (text := text_of(location))}
+        self.names = Names({frame for stack in self.lists.values() for frame in frames_in(stack)}) if named else None
+        own = cache(lambda frame: [call for call in self.names.calls(frame) if not call.is_standard])
+        self.calls = {location: Calls(self.names, own, stack) for location, stack in self.lists.items() if self.is_named(stack)}
+        self.function_of = cache(function_of)
         self.tell_by(locations, general_functions(self.calls.values()))
 
     def tell_by(self, locations, general):
         """The site of each location, where the functions that only ask for memory are known."""
-        self.general, self.labels, told = general, {}, {}
-        self.sites = [self.site(location, told) for location in locations]
+        self.general, self.labels = general, {}
+        self.sites = [self.site(location) for location in locations]
         lines = defaultdict(set)
         for site in self.sites:
             lines[site.function].add(site.line)
         self.one_line = {function: next(iter(found)) for function, found in lines.items() if len(found) == 1}
 
-    def is_named(self, frames):
+    def is_named(self, stack):
         """Whether names are asked for, and a file of the frames can be read."""
-        return bool(self.names) and any(self.names.modules[frame.module].is_object for frame in frames)
+        return bool(self.names) and any(self.names.modules[frame.module].is_object for frame in frames_in(stack))
 
-    def site(self, location, told):
-        """What is told of a location; sites of the same calls share it."""
-        frames = self.frames.get(location, [])
-        if not self.is_named(frames):
+    def site(self, location):
+        """What is told of a location."""
+        calls = self.calls.get(location)
+        if not calls:
             return plain_site(os.fsencode(self.stacks.whole(text_of(location))))
-        key = tuple(frames)
-        if key not in told:
-            calls = self.calls[key]
-            call = own_call(calls, own_calls(calls), self.general)
-            names = tuple(told_text(name) for name in told_calls(calls))
-            told[key] = Site(function_of(call), call.line, names, tuple(map(brief_frame, names)))
-        return told[key]
+        call = own_call(calls, self.general)
+        return Site(self.function_of(call), call.line, lambda: map(told_text, told_calls(list(calls))), brief_frame)
 
     def label(self, function):
         """A function's short name: `Arena::grow arena.rs:210`, with the line where it is one."""

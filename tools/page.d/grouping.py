@@ -2,6 +2,7 @@
 from collections import namedtuple
 
 from log import CHANGE
+from texts import counted
 
 TOP = 10
 # The chart's groups hold this share of the peak, where ten of them can.
@@ -52,5 +53,6 @@ def stacked(log, groups):
     if rest:
         values = [sum(held) for held in zip(*(series[row] for row in rest))]
         greatest = max(rest, key=lambda row: most[row])
-        bands.append(Band("rest", f"{len(rest):,} other{'s' if len(rest) > 1 else ''}, the greatest {groups[greatest].told}", values))
+        share = 100 * sum(peak[row] for row in rest) / max(sum(peak), 1)
+        bands.append(Band("rest", f"{counted(len(rest), 'other')}, with {share:.0f} % of the peak, the greatest {groups[greatest].told}", values))
     return bands

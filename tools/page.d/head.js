@@ -17,10 +17,10 @@ function greatest(groups, place) {
 //
 // A step leads from one line that is drawn to the next. The end of the log is made of its last steps that free at least two blocks for
 // each that they ask for, and of the step before these. It isn't looked at, nor is the first tenth of the lines before it, in which a
-// program starts. The rest is cut in eight parts of equally many lines. Of each part the least counts that a group holds at a line drawn.
-// A group grows steadily where this least never falls from a part to the next, and rises from each quarter to the next. A block that is
-// taken once, and bytes that rise and fall, don't do so.
-const EIGHTHS = 8, FREED_FOR_ONE = 2;
+// program starts. The rest is cut in eight parts of equally many lines. The floor of a part is the least that a group holds at a line
+// drawn from the part's begin on. So a burst, however great, leaves no trace where it is over, and bytes that rise and fall have no floor.
+// A group grows steadily where its floor rises from each quarter to the next.
+const EIGHTHS = 8, FREED_FOR_ONE = 2, MOST_GROWERS = 5;
 
 // How many blocks are asked for in the step that leads to each point.
 function callsOfSteps() {
@@ -45,36 +45,63 @@ function beginsOfEighths(end) {
   return [...begins, end + 1];
 }
 
-function isSteady(lows) {
-  const quarters = lows.filter((_, part) => part % 2 === 0);
-  return lows.every((low, part) => part === 0 || low >= lows[part - 1]) && quarters.every((low, part) => part === 0 || low > quarters[part - 1]);
+// A group as it grows: its floors, and whether it holds at the end what it grew to.
+function growthOf(group, begins) {
+  const { numbers } = group, floors = begins.slice(0, EIGHTHS).map((begin) => Math.min(...numbers.slice(begin, begins[EIGHTHS])));
+  return { group, floors, isKept: numbers[numbers.length - 1] >= floors[EIGHTHS - 1] };
 }
 
-// Whether a group holds at the end what it grew to.
-const keeps = ({ numbers }, lows) => numbers[numbers.length - 1] >= lows[EIGHTHS - 1];
+// By how much the floor rose up to a part, by default the last; those that rose most come first.
+const rise = ({ floors }, part = EIGHTHS - 1) => floors[part] - floors[0];
+const inOrder = (growths, part) => growths.sort((one, other) => rise(other, part) - rise(one, part));
 
-// What a group grew to, in words: at the end of the log, or until that end begins, where it holds less then.
-function growthWords(group, lows, end) {
-  const { numbers } = group, atEnd = numbers[numbers.length - 1], early = `${group.told}: from ${counted(lows[0], "byte")} early on to`;
-  if (keeps(group, lows)) return `${early} ${told(atEnd)} at the end`;
-  return `${early} ${told(numbers[end])} until line ${told(data.points[end][0])}, but ${told(atEnd)} at the end`;
+function isSteady({ floors }) {
+  const quarters = floors.filter((_, part) => part % 2 === 0);
+  return quarters.every((floor, part) => part === 0 || floor > quarters[part - 1]);
 }
 
-// Those that grow steadily, in words: those first that keep it to the end, and of these those that grew most. Of many groups those that
-// held most are looked at.
-function growsSteadily(groups) {
+// What growers came to hold, in words: the first of them, and how many more there are.
+function growersWords(growers, heldBy, where) {
+  const words = growers.slice(0, MOST_GROWERS).map(({ group, floors }) => `${group.told}: from ${counted(floors[0], "byte")} early on to ` +
+    `${told(heldBy(group))}${where}`);
+  const more = growers.length - MOST_GROWERS;
+  return `${words.join("; ")}${more > 0 ? `; and ${told(more)} more` : ""}.`;
+}
+
+// What a group holds at the peak, or at the end, with those of its sites whose changes aren't told.
+function heldAt({ key, numbers }, totals, place, point) {
+  const whole = totals.find((group) => group.key === key);
+  return whole ? whole.numbers[PLACES[place]] : numbers[point];
+}
+
+// Those that grow steadily, in words: those first that keep it to the end, and then those that give it back there.
+function steadyWords(growers, end, totals) {
+  const kept = growers.filter(({ isKept }) => isKept), given = growers.filter(({ isKept }) => !isKept);
+  const until = `Until line ${told(data.points[end][0])}, where the program begins to give back what it holds: `;
+  return [...kept.length ? [growersWords(kept, (group) => heldAt(group, totals, 1, data.points.length - 1), " at the end")] : [],
+    ...given.length ? [until + growersWords(given, ({ numbers }) => numbers[end], "")] : []].join(" ");
+}
+
+// Where nothing grows steadily: who grew most up to the peak, and held that for the last quarter of the lines before it.
+function mostGrownWords(groups, totals) {
+  const none = `Nothing: no ${CHOICES[choice]} holds more and more all along.`, begins = beginsOfEighths(data.peak), quarter = EIGHTHS - 2;
+  if (areTooFew(begins)) return none;
+  const [most] = inOrder(groups.map((group) => growthOf(group, begins)), quarter);
+  if (!most || rise(most, quarter) <= 0) return none;
+  return `${none} Up to the peak ${most.group.told} grew most, from ${counted(most.floors[0], "byte")} early on to ` +
+    `${told(heldAt(most.group, totals, 0, data.peak))}.`;
+}
+
+const areTooFew = (begins) => begins.some((begin, part) => begin >= begins[part + 1]);
+
+// Who grows, in words. Of many groups those that held most are looked at.
+function growsSteadily(groups, totals) {
   const end = pointBeforeEnd(), begins = beginsOfEighths(end);
-  if (begins.some((begin, part) => begin >= begins[part + 1])) return "Not told: too few lines are drawn.";
-  const lowsOf = (values) => begins.slice(1).map((next, part) => Math.min(...values.slice(begins[part], next)));
+  if (areTooFew(begins)) return "Not told: too few lines are drawn.";
   const held = groups.filter((group) => !areOthers(group)).map((group) => [group, Math.max(...group.numbers)]);
-  const looked = held.sort(([, one], [, other]) => other - one).slice(0, MOST_LOOKED_AT).map(([group]) => [group, lowsOf(group.numbers)]);
-  const growth = (lows) => lows[EIGHTHS - 1] - lows[0];
-  const grown = looked.filter(([, lows]) => isSteady(lows)).map(([group, lows]) => [group, lows, keeps(group, lows)])
-    .sort(([, one, keepsOne], [, other, keepsOther]) => keepsOther - keepsOne || growth(other) - growth(one)).slice(0, NAMED);
-  const words = grown.map(([group, lows]) => growthWords(group, lows, end)).join("; ");
-  const whatLine = grown.every(([, , isKept]) => isKept) ? ""
-    : ` From line ${told(data.points[end][0])} on the program gives back what it holds: that isn't growth.`;
-  return words ? `${words}.${whatLine}` : `Nothing: no ${CHOICES[choice]} holds more and more all along.`;
+  const looked = held.sort(([, one], [, other]) => other - one).slice(0, MOST_LOOKED_AT).map(([group]) => group);
+  const growers = inOrder(looked.map((group) => growthOf(group, begins)).filter(isSteady));
+  return growers.length ? steadyWords(growers, end, totals) : mostGrownWords(looked, totals);
 }
 
 // ---- the pools to give, by the report of fit
@@ -143,7 +170,7 @@ function partWords(name, [bytes, blocks], holders) {
 
 // Who holds what isn't freed; where it is known what of that is lost, each part for itself.
 function notFreedWords(groups) {
-  if (!data.lost) return `${greatest(groups, PLACES[1]) || "All of 0 bytes"}.`;
+  if (!data.lost) return `${greatest(groups, PLACES[1]) || "All of 0 bytes"}. Which of it is lost, tlsf-trace --reachable tells.`;
   const lostOf = new Map(data.leaks.map(([row, ...numbers]) => [row, numbers.slice(-PARTS.length)]));
   const apart = grouped(totalRows, totalRows.map((_, at) => lostOf.get(at) || PARTS.map(() => 0)));
   return PARTS.map((name, part) => partWords(name, data.lost[part], greatest(apart, part))).join(" ");
@@ -169,7 +196,7 @@ function headLines() {
     ...bareLines(),
     ["Peak", `${counted(atPeak[1], "byte")} in ${counted(atPeak[2], "block")}, after line ${told(atPeak[0])}${holders}.`],
     ["Not freed", atEnd[2] ? `${counted(atEnd[1], "byte")} in ${counted(atEnd[2], "block")}. ${notFreedWords(groups)}` : noneHeldWords()],
-    ["Grows steadily", growsSteadily(seriesOf())],
+    ["Grows steadily", growsSteadily(seriesOf(), groups)],
     ["Pools to give", poolWords()],
   ];
 }

@@ -26,7 +26,7 @@ LLVM = "llvm-addr2line"
 MOST_BARE = 4
 
 
-def without_arguments(name):
+def without_brackets(name, opening="(<", closing=")>"):
     """A demangled name without what stands in brackets, but for names of operators and for a type in front, as of Rust."""
     kept, depth, at = [], 0, 0
     while at < len(name):
@@ -36,10 +36,10 @@ def without_arguments(name):
             at = found.end()
             continue
         byte = name[at]
-        depth -= byte in ")>" and name[at - 1:at + 1] != "->"
-        if depth == 0 and byte not in "()<>":
+        depth += byte in opening
+        if depth == 0:
             kept.append(byte)
-        depth += byte in "(<"
+        depth -= byte in closing and depth > 0 and name[at - 1:at + 1] != "->"
         at += 1
     return "".join(kept)
 
@@ -67,8 +67,8 @@ def short_name(name):
     name = name.replace("std::__cxx11::", "std::").replace("::<", "<")
     if name.startswith("<"):
         end = end_of_type(name)
-        return name[:end] + without_arguments(name[end:])
-    return without_result(without_arguments(name))
+        return name[:end] + without_brackets(name[end:])
+    return without_result(without_brackets(name))
 
 
 @dataclass(frozen=True)

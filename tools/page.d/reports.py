@@ -13,7 +13,7 @@ KINDS = (b"too long", b"not a line", b" is not held", b" is already held", b" re
 TOO_LONG, NOT_A_LINE, NOT_HELD, ALREADY_HELD, REFUSED, HALF, STRAY = range(len(KINDS))
 DIAGNOSTIC = re.compile(rb"line \d+: ")
 # What `fit` may read again, in seconds of one processor by the estimate below.
-SECONDS_TO_FIT = 7
+SECONDS_TO_FIT = 3
 
 
 def give_up(text, status=1):

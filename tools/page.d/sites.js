@@ -1,6 +1,6 @@
 // ---- sites, and the groups that they are told by
 
-const CHOICES = { function: "function", file: "file", module: "module", stack: "whole stack" };
+const CHOICES = { function: "function", namespace: "namespace or crate", file: "file", module: "module", stack: "whole stack" };
 const MEASURES = ["Bytes at the peak", "Bytes at the end", "Calls", "Temporary blocks"];
 // Where each measure stands among the totals of a row.
 const PLACES = [0, 2, 4, 6];
@@ -24,15 +24,22 @@ const inTree = (frame) => data.named ? briefOf(frame).replace(/:\d+$/, "") : bri
 const framesInTree = (row) => row.site < 0 ? [`${counted(row.count, "other stack")} of ${data.functions[row.of][0]}`]
   : data.sites[row.site].slice(1).map(inTree);
 
+// The outermost namespace of a function of C++, or the crate of one of Rust, as `net` of `net::Pool::accept`, and `net` of
+// `<net::Pool as core::clone::Clone>::clone`. A function without one is told by its file.
+function namespaceOf([, name, file]) {
+  const found = data.named && /^<?[&*[]*(?:mut |dyn )?([A-Za-z_]\w*)::/.exec(name);
+  return found ? found[1] : file;
+}
+
 function keyOf(row) {
-  const [, , file, module] = data.functions[row.of];
+  const of = data.functions[row.of], [, , file, module] = of;
   if (choice === "stack") return row.site < 0 ? `other ${row.of}` : row.site;
-  return { function: row.of, file, module }[choice];
+  return { function: row.of, namespace: namespaceOf(of), file, module }[choice];
 }
 
 function nameOf(row) {
-  const [label, , file, module] = data.functions[row.of];
-  if (choice !== "stack") return { function: label, file, module }[choice];
+  const of = data.functions[row.of], [label, , file, module] = of;
+  if (choice !== "stack") return { function: label, namespace: namespaceOf(of), file, module }[choice];
   if (row.site < 0) return `${counted(row.count, "other stack")} of ${label}`;
   return data.sites[row.site].length === 2 ? framesOf(row.site)[0] : `${briefOf(data.sites[row.site][1])} … (${label})`;
 }

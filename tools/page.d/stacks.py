@@ -9,6 +9,7 @@ Frame = namedtuple("Frame", "module offset")
 
 NUMBER = re.compile(r"s[1-9][0-9]*")
 NO_EFFECT = b" ! (nil) 0\n"
+PIECE = 1 << 23
 TIME = re.compile(rb"@ t([0-9]{1,15})")
 PART = re.compile(rb"@ ([ms])([0-9]+)([=+])([\x21-\x7e\x80-\xff]*)")
 SHARED = re.compile(r"s[0-9]+\.([0-9]+)")
@@ -22,10 +23,41 @@ def text_of(raw):
     return raw.decode("utf-8", "surrogateescape")
 
 
+def frames_in(stack):
+    """The frames of a list, the nearest first."""
+    while stack:
+        frame, stack = stack
+        yield frame
+
+
+def list_of(frames):
+    """The list of frames."""
+    stack = None
+    for frame in reversed(frames):
+        stack = frame, stack
+    return stack
+
+
+def lines_without_effect(log):
+    """The number of each line that has no effect, and what stands in front of that. All others are passed over at once."""
+    number, rest = 0, b""
+    while piece := log.read(PIECE):
+        piece = rest + piece
+        at = 0
+        while (found := piece.find(NO_EFFECT, at)) >= 0:
+            begin = max(at, piece.rfind(b"\n", at, found) + 1)
+            number += piece.count(b"\n", at, begin) + 1
+            yield number, piece[begin:found]
+            at = found + len(NO_EFFECT)
+        end = piece.rfind(b"\n") + 1
+        number += piece.count(b"\n", at, end)
+        rest = piece[end:]
+
+
 def parts_of(log):
     """Each line that tells a part of a module or a stack: letter, number, sign, text."""
-    for line in log:
-        if line.endswith(NO_EFFECT) and (found := PART.fullmatch(line, 0, len(line) - len(NO_EFFECT))):
+    for _, line in lines_without_effect(log):
+        if found := PART.fullmatch(line):
             yield text_of(found[1]), int(found[2]), text_of(found[3]), text_of(found[4])
 
 
@@ -47,11 +79,11 @@ class Stacks:
     """The stacks that a log tells, or those of them that are wanted, each as a linked list from its nearest frame on: a frame, and the list
     of those that called it."""
 
-    def __init__(self, log, wanted=None):
+    def __init__(self, log=None, wanted=None):
         self.modules, self.lists, self.known = {}, {}, {}
         # The lists that the stack before ends in, by the number of their frames.
         self.ends = [None]
-        for letter, number, text in whole_parts(parts_of(log)):
+        for letter, number, text in whole_parts(parts_of(log) if log else ()):
             if letter == "m":
                 self.modules[str(number)] = text
                 continue
@@ -85,11 +117,7 @@ class Stacks:
 
     def frames(self, location):
         """The frames of a stack's number, the nearest first; none where the log doesn't tell it."""
-        frames, rest = [], self.lists.get(location)
-        while rest:
-            frame, rest = rest
-            frames.append(frame)
-        return frames
+        return list(frames_in(self.lists.get(location)))
 
     def whole(self, location):
         """A location with its frames for a stack's number; else as it is."""
@@ -98,9 +126,8 @@ class Stacks:
 
 def times_of(path):
     """The lines that tell a log's age: the number of each, and milliseconds."""
-    with open(path, "rb", buffering=1 << 20) as log:
-        return [(number, int(found[1])) for number, line in enumerate(log, 1)
-                if line.endswith(NO_EFFECT) and (found := TIME.fullmatch(line, 0, len(line) - len(NO_EFFECT)))]
+    with open(path, "rb") as log:
+        return [(number, int(found[1])) for number, line in lines_without_effect(log) if (found := TIME.fullmatch(line))]
 
 
 def joined(frames):
@@ -132,7 +159,7 @@ def stacks_of(path, wanted=None):
     was_on = gc.isenabled()
     gc.disable()
     try:
-        with open(path, "rb", buffering=1 << 20) as log:
+        with open(path, "rb") as log:
             return Stacks(log, wanted)
     finally:
         if was_on:

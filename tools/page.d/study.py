@@ -73,8 +73,9 @@ class Study:
             self.locations, self.changes, self.powers, requests = read_log(self.path, points, self.counted(text, end), self.progress)
         except (IndexError, KeyError, ValueError) as error:
             raise Differs(f"{self.path} isn't what the reports say of it") from error
-        self.progress.tell("names of functions and the pools that the log needs are looked for")
+        self.progress.tell("names of functions are looked for")
         names.result()
+        self.progress.tell("the pools that the log needs are looked for")
         heap.result()
         if self.fits:
             self.limits = sizing.limits_of(self.path, requests, self.unserved, dict(self.fit))
@@ -127,6 +128,7 @@ class Study:
 
     def agree(self):
         """What was reckoned here is what the proved reports tell, or there is no page."""
+        self.progress.tell("the numbers are compared with the reports")
         self.most, self.asked = [0] * len(self.locations), [0] * len(self.locations)
         self.changed, self.calls = [0] * len(self.locations), [0] * len(self.locations)
         self.temporary = [0] * len(self.locations)
@@ -194,6 +196,7 @@ class Study:
 
     def keep_greatest(self):
         """The greatest sites that are told one by one, and how many of them also between the points."""
+        self.progress.tell("the greatest sites are looked for")
         self.find_functions()
         order = sorted(range(len(self.locations)), key=lambda site: (-self.most[site], -self.asked[site], self.locations[site]))
         # Of a log of less than a second no time is told.
