@@ -157,11 +157,13 @@ fn parts_of_a_record(rt: HostRuntime) {
     );
     assert_eq!(rt; read(&rt, &mut store, slot), written);
     set_free(&rt, &mut store, slot, other);
-    let links = (None, Some(other));
-    assert_eq!(rt;
-        read(&rt, &mut store, slot),
-        row((32, 64), State::Free, links, links)
+    let freed = row(
+        (32, 64),
+        State::Free,
+        (None, Some(other)),
+        (None, Some(other)),
     );
+    assert_eq!(rt; read(&rt, &mut store, slot), freed);
 }
 
 /// Each other test that makes one store fails where the first allocation is refused, and passes where the second is.
