@@ -119,6 +119,8 @@ static bool make_heap(void)
     if (memory == MAP_FAILED) {
         return false;
     }
+    /* Few large pages are found sooner than many small ones. A system without them gives small ones. */
+    (void)madvise(memory, bytes, MADV_HUGEPAGE);
     by_size = of_parts == 0 ? NULL : tlsf_parts_create(memory, bytes, told, count);
     heap = of_parts != 0 ? NULL : tlsf_create_records(memory, bytes, (uint32_t)records);
     return true;

@@ -1,8 +1,9 @@
-/* tlsf.c: the calls of Conte's tlsf over the proved heap of tlsf_heap.h. This file isn't proved.
+/* tlsf.c: the calls of Conte's tlsf over the proved heap of tlsf_heap.h. Those that look at a whole heap
+ * are in tlsf_check.c, and images in tlsf_image.c. These three files aren't proved.
  *
  * What is reckoned here is proved, in the calls of tlsf_front.h: they choose blocks, answer their
- * addresses, find the block that a pointer means, find places for a pool, tell its rows, keep the
- * figures of what is live, and say whether an image is a heap. This file moves fronts and bytes:
+ * addresses, find the block that a pointer means, find places for a pool, and keep the figures of
+ * what is live. This file moves fronts and bytes:
  *
  * - The control part, at the start of the memory handed in, keeps each pool's address and places. It
  *   ends with its mark, a sum over it. So tlsf_check tells a byte that is changed there, and reads
@@ -19,41 +20,17 @@
 #include "tlsf.h"
 
 #include <string.h>
-#if __STDC_HOSTED__
-#include <stdio.h>
-#endif
 
 #include "tlsf_front.h"
 #include "tlsf_heap.h"
 
-/* What a build may choose: the records of tlsf_create, the greatest alignment (a power of two), and
- * how many blocks a walk reads at once, at 16 bytes of stack each. */
+/* What a build may choose: the records of tlsf_create, and the greatest alignment, a power of two. */
 #ifndef TLSF_RECORDS
 #define TLSF_RECORDS 1024u
 #endif
 #ifndef TLSF_MOST_ALIGN
 #define TLSF_MOST_ALIGN 2097152u
 #endif
-#ifndef TLSF_WALK_ROWS
-#define TLSF_WALK_ROWS 64u
-#endif
-
-/* A build for several threads defines both macros. Each call has the lock of its heap to its end.
- * The macros get the call's first argument: a heap, a null pointer, or what the program takes for
- * a heap. */
-#ifdef TLSF_LOCK
-static void unlock(const tlsf_t *tlsf) { TLSF_UNLOCK(*tlsf); }
-#define LOCKED(tlsf) \
-    TLSF_LOCK(tlsf); \
-    __attribute__((cleanup(unlock))) const tlsf_t locked = (tlsf)
-#else
-#define LOCKED(tlsf) (void)(tlsf)
-#endif
-
-/* A call on a heap: with its lock, and its control part, or a null pointer where there is none. */
-#define ON_HEAP(tlsf) \
-    LOCKED(tlsf); \
-    struct control *control = control_of(tlsf)
 
 #define LEAST_POOL (FRONT + UNIT)
 /* What memory that is handed in begins at a multiple of. */
@@ -81,8 +58,8 @@ size_t tlsf_block_size_max(void) { return TLSF_HEAP_GREATEST - FRONT; }
 size_t tlsf_pool_overhead(void) { return HANDED_IN + FRONT + UNIT; }
 size_t tlsf_alloc_overhead(void) { return FRONT; }
 
-/* The mark is a sum of the number of records and of the words in front of the live figures, each
- * times an odd number of its own. So a word that changes shows. */
+/* Each word of the control part counts in its mark by an odd number of its own. So a word that changes
+ * shows. */
 #define WORD sizeof(size_t)
 #define ODD 0x9e3779b97f4a7c15u
 static inline uint64_t times(size_t at)
@@ -90,7 +67,7 @@ static inline uint64_t times(size_t at)
     uint64_t number = (at / WORD + 1u) * ODD;
     return (number ^ (number >> 32u)) | 1u;
 }
-static uint64_t mark_of(const struct control *control)
+uint64_t mark_of(const struct control *control)
 {
     size_t word = 0;
     size_t live = offsetof(struct control, at.live);
@@ -100,13 +77,6 @@ static uint64_t mark_of(const struct control *control)
         sum += times(at) * word;
     }
     return sum;
-}
-
-/* Whether these bytes are none of the heap's own. */
-static bool is_apart(const struct control *control, uint64_t address, uint64_t bytes)
-{
-    return tlsf_placed_is_apart((uintptr_t)control, sizeof *control, control->records, address, bytes,
-                                UINTPTR_MAX);
 }
 
 pool_t tlsf_add_pool(tlsf_t tlsf, void *mem, size_t bytes)
@@ -212,50 +182,51 @@ static void *refuse(struct control *control, enum tlsf_refusal what, const void 
     return NULL;
 }
 
-/* A pointer, in front of which a word was read, if it lies in a pool; a null pointer is none. */
-RARE static void *refuse_pointer(struct control *control, const void *ptr, size_t bytes,
-                                 uint64_t word)
+/* A pointer: by what stands in front of it, where it lies in a pool. A null pointer is none. */
+RARE static void *refuse_pointer(struct control *control, const void *ptr, size_t bytes)
 {
-    bool lost = tlsf_placed_lost_front((uintptr_t)ptr, word);
-    enum tlsf_refusal what = lost ? TLSF_REFUSED_FRONT : TLSF_REFUSED_POINTER;
-    return ptr == NULL ? NULL : refuse(control, what, ptr, bytes);
+    uint64_t word = 0;
+    if (ptr == NULL) {
+        return NULL;
+    }
+    bool lost = read_front(control, ptr, &word) && tlsf_placed_lost_front((uintptr_t)ptr, word);
+    return refuse(control, lost ? TLSF_REFUSED_FRONT : TLSF_REFUSED_POINTER, ptr, bytes);
 }
 
-/* A request, by the status of the proved call. */
+/* A request, by the status of the proved call. One for 0 bytes is none. */
 RARE static void *refuse_bytes(struct control *control, uint64_t status, const void *ptr, size_t bytes)
 {
     static const enum tlsf_refusal kinds[16] = {[TLSF_NO_FIT] = TLSF_REFUSED_NO_FIT,
                                                 [TLSF_TABLE_FULL] = TLSF_REFUSED_TABLE_FULL,
                                                 [TLSF_BAD_ALIGN] = TLSF_REFUSED_ALIGNMENT};
-    return refuse(control, kinds[status], ptr, bytes);
+    return bytes == 0u ? NULL : refuse(control, kinds[status], ptr, bytes);
 }
 
 /* The pointer to a new block at the address, or the refusal that its word tells. */
-static inline void *hand_out(struct control *control, uintptr_t address, uint64_t word,
-                             size_t bytes)
+static inline void *hand_out(struct control *control, uint64_t address, uint64_t word, size_t bytes)
 {
     if (address == 0u) {
         return refuse_bytes(control, word, NULL, bytes);
     }
-    write_front(address, word);
+    write_front((uintptr_t)address, word);
     control->most = (uint32_t)control->at.live.most_bytes;
-    return (void *)address;
+    return (void *)(uintptr_t)address;
 }
 
 void *tlsf_malloc(tlsf_t tlsf, size_t bytes)
 {
     ON_HEAP(tlsf);
     uint64_t word = 0;
-    if (control == NULL || bytes == 0u) {
+    if (control == NULL) {
         return NULL;
     }
-    uintptr_t address = (uintptr_t)tlsf_placed_malloc(&control->at, bytes, &word);
+    uint64_t address = tlsf_placed_malloc(&control->at, bytes, &word);
     return hand_out(control, address, word, bytes);
 }
 
 void *tlsf_memalign(tlsf_t tlsf, size_t align, size_t bytes)
 {
-    if (bytes == 0u || (align <= UNIT && (align & (align - 1u)) == 0u)) {
+    if (align <= UNIT && (align & (align - 1u)) == 0u) {
         return tlsf_malloc(tlsf, bytes);
     }
     ON_HEAP(tlsf);
@@ -267,7 +238,7 @@ void *tlsf_memalign(tlsf_t tlsf, size_t align, size_t bytes)
     if (align <= TLSF_MOST_ALIGN) {
         address = tlsf_placed_memalign(&control->at, align, bytes, &word);
     }
-    return hand_out(control, (uintptr_t)address, word, bytes);
+    return hand_out(control, address, word, bytes);
 }
 
 void tlsf_free(tlsf_t tlsf, void *ptr)
@@ -281,7 +252,7 @@ void tlsf_free(tlsf_t tlsf, void *ptr)
         && tlsf_placed_free(&control->at, (uintptr_t)ptr, word) == TLSF_OK) {
         write_front((uintptr_t)ptr, (uintptr_t)ptr);
     } else {
-        (void)refuse_pointer(control, ptr, 0, word);
+        (void)refuse_pointer(control, ptr, 0);
     }
 }
 
@@ -289,16 +260,15 @@ void tlsf_free(tlsf_t tlsf, void *ptr)
  * old one's bytes before the next call. */
 static void *resize(struct control *control, void *ptr, size_t size)
 {
-    uint64_t front = 0;
+    uint64_t word = 0;
     uint64_t copied = 0;
-    if (!read_front(control, ptr, &front)) {
-        return refuse_pointer(control, ptr, size, 0);
+    if (!read_front(control, ptr, &word)) {
+        return refuse_pointer(control, ptr, size);
     }
-    uint64_t word = front;
-    uintptr_t address
-        = (uintptr_t)tlsf_placed_realloc(&control->at, (uintptr_t)ptr, size, &word, &copied);
+    uint64_t address
+        = tlsf_placed_realloc(&control->at, (uintptr_t)ptr, size, &word, &copied);
     if (address == 0u) {
-        return (enum tlsf_status)word == TLSF_BAD_POINTER ? refuse_pointer(control, ptr, size, front)
+        return (enum tlsf_status)word == TLSF_BAD_POINTER ? refuse_pointer(control, ptr, size)
                                                          : refuse_bytes(control, word, ptr, size);
     }
     write_front((uintptr_t)ptr, (uintptr_t)ptr);
@@ -327,205 +297,4 @@ void tlsf_set_refusal_hook(tlsf_t tlsf, tlsf_refusal_hook hook, void *user)
         control->user = user;
         control->mark = mark_of(control);
     }
-}
-
-/* The heap's own readings tell what the control part doesn't keep. */
-int tlsf_stats(tlsf_t tlsf, tlsf_figures *out)
-{
-    ON_HEAP(tlsf);
-    if (control == NULL) {
-        return -1;
-    }
-    size_t largest = tlsf_heap_largest_request(&control->at.heap);
-    *out = (tlsf_figures){.bytes_live = (size_t)control->at.live.bytes,
-                          .blocks_live = (size_t)control->at.live.blocks,
-                          .most_bytes_live = (size_t)control->at.live.most_bytes,
-                          .records = control->records,
-                          .records_used = tlsf_heap_records_used(&control->at.heap)};
-    (void)memcpy(out->refusals, control->refusals, sizeof out->refusals);
-    if (largest != 0u) {
-        out->largest_request = largest - FRONT;
-        out->largest_free = largest - FRONT + (size_t)tlsf_heap_class_step(largest) - UNIT;
-    }
-    for (uint32_t k = 0; k < POOLS; k++) {
-        const struct pool *pool = &control->at.pools[k];
-        out->bytes_free += pool->reach == 0u ? 0u : (size_t)pool->reach + FRONT;
-    }
-    out->bytes_free -= out->bytes_live + FRONT * out->blocks_live;
-    return 0;
-}
-
-/* The control part of a pool's heap, or a null pointer where the pool isn't there. It isn't read
- * where it doesn't have the entry. */
-static struct control *control_of_pool(struct pool *pool)
-{
-    size_t at = offsetof(struct control, at.pools);
-    bool is = pool != NULL && pool->number < POOLS
-              && (uintptr_t)pool - (uintptr_t)pool->control == at + pool->number * sizeof *pool;
-    return is ? control_of(pool->control) : NULL;
-}
-
-static void print(void *ptr, size_t size, int used, void *user)
-{
-    (void)ptr, (void)size, (void)used, (void)user;
-#if __STDC_HOSTED__
-    (void)printf("\t%p %s size: %zx\n", ptr, used ? "used" : "free", size);
-#endif
-}
-
-/* How many rows were read of a pool; none where it or its heap is gone. */
-static uint64_t read_rows(struct pool *own, uint64_t *from, struct row *rows)
-{
-    struct control *control = control_of_pool(own);
-    LOCKED(control);
-    bool is = control != NULL && control == control_of_pool(own);
-    return is ? tlsf_placed_walk(&control->at, own->number, from, rows, TLSF_WALK_ROWS) : 0u;
-}
-
-/* The walker may free blocks, and so end the pool: each piece is read from where the last ended. It
- * runs without the lock, unless the caller has it. */
-void tlsf_walk_pool(pool_t pool, tlsf_walker walker, void *user)
-{
-    struct row rows[TLSF_WALK_ROWS];
-    uint64_t from = 0;
-    uint64_t count = TLSF_WALK_ROWS;
-    while (count == TLSF_WALK_ROWS) {
-        count = read_rows((struct pool *)pool, &from, rows);
-        for (uint64_t k = 0; k < count; k++) {
-            void *ptr = (void *)(uintptr_t)rows[k].address;
-            (walker == NULL ? print : walker)(ptr, rows[k].bytes, rows[k].used, user);
-        }
-    }
-}
-
-/* How many live blocks of a pool have a front that isn't what it was where the pool began at an
- * address. The others get the word of where it begins now, if that is asked for. */
-static int lost_fronts(struct control *control, uint32_t entry, uint64_t began, bool moves)
-{
-    struct row rows[TLSF_WALK_ROWS];
-    uint64_t from = 0;
-    uint64_t count = TLSF_WALK_ROWS;
-    int lost = 0;
-    while (count == TLSF_WALK_ROWS) {
-        count = tlsf_placed_walk(&control->at, entry, &from, rows, TLSF_WALK_ROWS);
-        for (uint64_t k = 0; k < count; k++) {
-            uint64_t address = rows[k].address;
-            uint64_t word = 0;
-            bool is = rows[k].used && read_front(control, (void *)(uintptr_t)address, &word);
-            word = tlsf_placed_moved_word(word, began, control->at.pools[entry].first);
-            bool whole = is && tlsf_placed_block_size(&control->at, address, word) == rows[k].bytes;
-            lost += rows[k].used && !whole ? 1 : 0;
-            if (whole && moves) {
-                write_front((uintptr_t)address, word);
-            }
-        }
-    }
-    return lost;
-}
-
-/* Of one pool, or of all. The table is read where the control part is whole, and the fronts where the
- * table is, and agrees with the control part. */
-static int check(struct control *control, uint32_t entry)
-{
-    int lost = 0;
-    if (control == NULL || control->mark != mark_of(control)
-        || control->most != control->at.live.most_bytes || !tlsf_placed_check(&control->at, entry)) {
-        return -1;
-    }
-    for (uint32_t k = 0; k < POOLS; k++) {
-        uint64_t first = control->at.pools[k].first;
-        lost += entry == POOLS || entry == k ? lost_fronts(control, k, first, false) : 0;
-    }
-    return -lost;
-}
-
-int tlsf_check(tlsf_t tlsf)
-{
-    ON_HEAP(tlsf);
-    return check(control, POOLS);
-}
-int tlsf_check_pool(pool_t pool)
-{
-    struct pool *own = (struct pool *)pool;
-    struct control *control = control_of_pool(own);
-    LOCKED(control);
-    return check(control, control == NULL ? 0u : own->number);
-}
-
-size_t tlsf_save(tlsf_t tlsf, void *image, size_t room)
-{
-    ON_HEAP(tlsf);
-    struct saved saved = {.magic = SAVED};
-    unsigned char *bytes = (unsigned char *)image;
-    uint64_t count = 0;
-    if (control == NULL || room <= sizeof saved) {
-        return 0;
-    }
-    saved.records = control->records;
-    saved.most_bytes = control->at.live.most_bytes;
-    (void)memcpy(saved.pools, control->at.pools, sizeof saved.pools);
-    (void)memcpy(image, &saved, sizeof saved);
-    bool whole = tlsf_heap_save(&control->at.heap, &bytes[sizeof saved], room - sizeof saved, &count) == TLSF_OK;
-    return whole ? sizeof saved + (size_t)count : 0u;
-}
-
-/* Gives each pool of an image the memory handed in for it, or the rest behind the table. Then each front
- * is looked at, before one is moved. */
-static int take_pools(struct control *control, const struct saved *saved, const tlsf_memory *rest,
-                      const tlsf_memory *memory)
-{
-    int lost = 0;
-    for (uint32_t k = 0; k < POOLS; k++) {
-        const tlsf_memory *of = memory == NULL || memory[k].mem == NULL ? rest : &memory[k];
-        uintptr_t address = (uintptr_t)of->mem;
-        struct pool *own = &control->at.pools[k];
-        if (saved->pools[k].reach != 0u) {
-            *own = saved->pools[k];
-            own->control = control;
-            own->number = k;
-            if (!is_apart(control, address, of->bytes)
-                || !tlsf_placed_move(&control->at, k, address, of->bytes, UINTPTR_MAX)) {
-                return TLSF_BAD_MEMORY;
-            }
-        }
-    }
-    if (!tlsf_placed_adopt(&control->at)) {
-        return TLSF_BROKEN_ADDRESSES;
-    }
-    for (uint32_t k = 0; k < 2u * POOLS && lost == 0; k++) {
-        lost = lost_fronts(control, k % POOLS, saved->pools[k % POOLS].first, k >= POOLS);
-    }
-    return lost == 0 ? 0 : TLSF_BROKEN_FRONTS;
-}
-
-int tlsf_load(void *mem, size_t bytes, const void *image, size_t length, const tlsf_memory *memory)
-{
-    struct control *control = (struct control *)mem;
-    const unsigned char *table = (const unsigned char *)image;
-    struct saved saved = {.magic = 0};
-    struct places places;
-    if (length > sizeof saved) {
-        (void)memcpy(&saved, image, sizeof saved);
-    }
-    if (saved.magic != SAVED || saved.most_bytes > UINT32_MAX || saved.records > TLSF_HEAP_RECORDS_MOST
-        || length != TLSF_IMAGE_BYTES(saved.records)) {
-        return TLSF_BROKEN_HEAD;
-    }
-    uint32_t records = (uint32_t)saved.records;
-    if (!tlsf_placed_places((uintptr_t)mem, bytes, sizeof *control, records, UINTPTR_MAX, &places)) {
-        return TLSF_BAD_MEMORY;
-    }
-    *control = (struct control){.records = records, .at.live.most_bytes = saved.most_bytes};
-    int status = (int)tlsf_heap_load_in((void *)(uintptr_t)places.table, TLSF_HEAP_TABLE_BYTES(records),
-                                   &table[sizeof saved], length - sizeof saved, &control->at.heap);
-    tlsf_memory rest = {(void *)(uintptr_t)places.pool, (size_t)places.bytes};
-    status = status == 0 ? take_pools(control, &saved, &rest, memory) : status;
-    if (status != 0) {
-        (void)memset(control, 0, sizeof *control);
-        return status;
-    }
-    control->magic = (uintptr_t)mem + MAGIC;
-    control->most = (uint32_t)control->at.live.most_bytes;
-    control->mark = mark_of(control);
-    return status;
 }

@@ -2,7 +2,7 @@
  *
  * A program written for his library compiles unchanged against this header. docs/C.md has a table
  * of the differences. The heap below is proved, and so are blocks' addresses and pools' places. The
- * rest of tlsf.c isn't: the comment at its head says what it relies on. In short, a pointer is a
+ * C around them isn't: the comment at the head of tlsf.c says what it relies on. In short, a pointer is a
  * multiple of 16. A block has at most 1,073,741,800 bytes, and a heap has at most eight pools. A call
  * that can't be served answers a null pointer. A pointer that no live block has is refused, and
  * nothing changes. But a stale pointer can equal that of a later block. To free it frees that block.

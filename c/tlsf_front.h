@@ -1,5 +1,5 @@
-/* tlsf_front.h: how tlsf.c brings a pointer back to its block. It belongs to tlsf.c, and is for no
- * program. Not proved.
+/* tlsf_front.h: how tlsf.c brings a pointer back to its block. It is what tlsf.c, tlsf_check.c and
+ * tlsf_image.c share, and is for no program. Not proved.
  *
  * A block begins eight bytes in front of its pointer. These bytes, its front, keep a word that the
  * proved calls give: the block's slot and size, scrambled with the pointer. So a byte that is changed
@@ -10,6 +10,28 @@
 
 #include "tlsf.h"
 #include "tlsf_heap.h"
+
+/* A build for several threads defines both macros, for all three files. Each call has the lock of its
+ * heap to its end. The macros get the call's first argument: a heap, a null pointer, or what the
+ * program takes for a heap. */
+#ifdef TLSF_LOCK
+static void unlock(const tlsf_t *tlsf) { TLSF_UNLOCK(*tlsf); }
+#define LOCKED(tlsf) \
+    TLSF_LOCK(tlsf); \
+    __attribute__((cleanup(unlock))) const tlsf_t locked = (tlsf)
+/* What the files share has another name, so that they don't link with one that has no lock. */
+#define mark_of tlsf_mark_with_lock
+#define lost_fronts tlsf_lost_fronts_with_lock
+#else
+#define LOCKED(tlsf) (void)(tlsf)
+#define mark_of tlsf_mark
+#define lost_fronts tlsf_lost_fronts
+#endif
+
+/* A call on a heap: with its lock, and its control part, or a null pointer where there is none. */
+#define ON_HEAP(tlsf) \
+    LOCKED(tlsf); \
+    struct control *control = control_of(tlsf)
 
 /* A function that few calls come to: the others don't save registers for it. */
 #define RARE __attribute__((noinline))
@@ -59,15 +81,6 @@ struct places {
     uint64_t table;
     uint64_t pool;
     uint64_t bytes;
-};
-
-/* What an image of a heap begins with. Behind it the table's image follows. */
-#define SAVED 0x31474d4953465354u /* TSFSIMG1, lowest byte first */
-struct saved {
-    uint64_t magic;
-    uint64_t records;
-    uint64_t most_bytes;
-    struct pool pools[POOLS];
 };
 
 /* The proved calls. Addresses and words are numbers here. The word of a block is what stands in the
@@ -135,7 +148,6 @@ struct control {
     uint64_t mark; /* a sum over the records, and what stands in front of at.live */
 };
 
-typedef char image_is_told[sizeof(struct saved) + 1520u == TLSF_IMAGE_BYTES(0u) ? 1 : -1];
 typedef char control_is_told[sizeof(struct control) == TLSF_CONTROL_BYTES ? 1 : -1];
 
 /* Eight bytes are copied by __builtin_memcpy: a load and a store, also where -ffreestanding takes
@@ -174,5 +186,20 @@ static inline bool read_front(const struct control *control, const void *ptr, ui
     }
     return has;
 }
+
+/* Whether these bytes are none of the heap's own. */
+static inline bool is_apart(const struct control *control, uint64_t address, uint64_t bytes)
+{
+    return tlsf_placed_is_apart((uintptr_t)control, sizeof *control, control->records, address, bytes,
+                                UINTPTR_MAX);
+}
+
+/* The mark that a whole control part has: a sum of the number of records, and of the words in front of
+ * the live figures. */
+uint64_t mark_of(const struct control *control);
+
+/* How many live blocks of an entry's pool have a front that isn't what it was where the pool began at an
+ * address. The others get the word of where it begins now, if that is asked for. */
+int lost_fronts(struct control *control, uint32_t entry, uint64_t began, bool moves);
 
 #endif

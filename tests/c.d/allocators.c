@@ -1,7 +1,8 @@
 /* One allocator at work: some blocks are live, and each step frees one of them and asks for another
  * of 1 to 512 bytes. Each allocator gets equal choices. Built with -DOVER_HEAP it is tlsf_heap.h,
- * with -DOVER_TLSF tlsf.h, with -DOVER_CONTE Conte's own, else whatever malloc is. The words are a
- * mode and how many blocks are live:
+ * with -DOVER_TLSF tlsf.h, with -DOVER_CONTE Conte's own, else whatever malloc is. Where the
+ * environment has HUGE_PAGES, tlsf.h's and Conte's memory is of huge pages, if the system gives
+ * them. The words are a mode and how many blocks are live:
  *   times LIVE   nanoseconds of a pair of free and malloc
  *   calls LIVE   nanoseconds of one call: 50, 99, 99.9 and 99.99 of a hundred take no more
  *   pairs LIVE   pairs alone, for callgrind to count the instructions of counted_pairs
@@ -68,6 +69,9 @@ static void start(void)
     size_t bytes = POOL + ((size_t)1 << 21);
     void *memory = mmap(NULL, bytes, PROT_READ | PROT_WRITE,
                         MAP_PRIVATE | MAP_ANONYMOUS | MAP_NORESERVE, -1, 0);
+    if (getenv("HUGE_PAGES") != NULL && madvise(memory, bytes, MADV_HUGEPAGE) != 0) {
+        perror("no huge pages");
+    }
     heap = memory == MAP_FAILED ? NULL : tlsf_create_records(memory, bytes, RECORDS);
 }
 #define MALLOC(bytes) tlsf_malloc(heap, bytes)

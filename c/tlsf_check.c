@@ -1,0 +1,137 @@
+/* tlsf_check.c: the calls of tlsf.h that look at a whole heap: figures, walk and check. This file isn't
+ * proved. What it reckons of blocks is, in the calls of tlsf_front.h. */
+#include "tlsf.h"
+
+#include <string.h>
+#if __STDC_HOSTED__
+#include <stdio.h>
+#endif
+
+#include "tlsf_front.h"
+#include "tlsf_heap.h"
+
+/* What a build may choose: how many blocks a walk reads at once, at 16 bytes of stack each. */
+#ifndef TLSF_WALK_ROWS
+#define TLSF_WALK_ROWS 64u
+#endif
+
+/* The heap's own readings tell what the control part doesn't keep. */
+int tlsf_stats(tlsf_t tlsf, tlsf_figures *out)
+{
+    ON_HEAP(tlsf);
+    if (control == NULL) {
+        return -1;
+    }
+    size_t largest = tlsf_heap_largest_request(&control->at.heap);
+    *out = (tlsf_figures){.bytes_live = (size_t)control->at.live.bytes,
+                          .blocks_live = (size_t)control->at.live.blocks,
+                          .most_bytes_live = (size_t)control->at.live.most_bytes,
+                          .records = control->records,
+                          .records_used = tlsf_heap_records_used(&control->at.heap)};
+    (void)memcpy(out->refusals, control->refusals, sizeof out->refusals);
+    if (largest != 0u) {
+        out->largest_request = largest - FRONT;
+        out->largest_free = largest - FRONT + (size_t)tlsf_heap_class_step(largest) - UNIT;
+    }
+    for (uint32_t k = 0; k < POOLS; k++) {
+        const struct pool *pool = &control->at.pools[k];
+        out->bytes_free += pool->reach == 0u ? 0u : (size_t)pool->reach + FRONT;
+    }
+    out->bytes_free -= out->bytes_live + FRONT * out->blocks_live;
+    return 0;
+}
+
+/* The control part of a pool's heap, or a null pointer where the pool isn't there. It isn't read
+ * where it doesn't have the entry. */
+static struct control *control_of_pool(struct pool *pool)
+{
+    size_t at = offsetof(struct control, at.pools);
+    bool is = pool != NULL && pool->number < POOLS
+              && (uintptr_t)pool - (uintptr_t)pool->control == at + pool->number * sizeof *pool;
+    return is ? control_of(pool->control) : NULL;
+}
+
+static void print(void *ptr, size_t size, int used, void *user)
+{
+    (void)ptr, (void)size, (void)used, (void)user;
+#if __STDC_HOSTED__
+    (void)printf("\t%p %s size: %zx\n", ptr, used ? "used" : "free", size);
+#endif
+}
+
+/* How many rows were read of a pool; none where it or its heap is gone. */
+static uint64_t read_rows(struct pool *own, uint64_t *from, struct row *rows)
+{
+    struct control *control = control_of_pool(own);
+    LOCKED(control);
+    bool is = control != NULL && control == control_of_pool(own);
+    return is ? tlsf_placed_walk(&control->at, own->number, from, rows, TLSF_WALK_ROWS) : 0u;
+}
+
+/* The walker may free blocks, and so end the pool: each piece is read from where the last ended. It
+ * runs without the lock, unless the caller has it. */
+void tlsf_walk_pool(pool_t pool, tlsf_walker walker, void *user)
+{
+    struct row rows[TLSF_WALK_ROWS];
+    uint64_t from = 0;
+    uint64_t count = TLSF_WALK_ROWS;
+    while (count == TLSF_WALK_ROWS) {
+        count = read_rows((struct pool *)pool, &from, rows);
+        for (uint64_t k = 0; k < count; k++) {
+            void *ptr = (void *)(uintptr_t)rows[k].address;
+            (walker == NULL ? print : walker)(ptr, rows[k].bytes, rows[k].used, user);
+        }
+    }
+}
+
+int lost_fronts(struct control *control, uint32_t entry, uint64_t began, bool moves)
+{
+    struct row rows[TLSF_WALK_ROWS];
+    uint64_t from = 0;
+    uint64_t count = TLSF_WALK_ROWS;
+    int lost = 0;
+    while (count == TLSF_WALK_ROWS) {
+        count = tlsf_placed_walk(&control->at, entry, &from, rows, TLSF_WALK_ROWS);
+        for (uint64_t k = 0; k < count; k++) {
+            uint64_t address = rows[k].address;
+            uint64_t word = 0;
+            bool is = rows[k].used && read_front(control, (void *)(uintptr_t)address, &word);
+            word = tlsf_placed_moved_word(word, began, control->at.pools[entry].first);
+            bool whole = is && tlsf_placed_block_size(&control->at, address, word) == rows[k].bytes;
+            lost += rows[k].used && !whole ? 1 : 0;
+            if (whole && moves) {
+                write_front((uintptr_t)address, word);
+            }
+        }
+    }
+    return lost;
+}
+
+/* Of one pool, or of all. The table is read where the control part is whole, and the fronts where the
+ * table is, and agrees with the control part. */
+static int check(struct control *control, uint32_t entry)
+{
+    int lost = 0;
+    if (control == NULL || control->mark != mark_of(control)
+        || control->most != control->at.live.most_bytes || !tlsf_placed_check(&control->at, entry)) {
+        return -1;
+    }
+    for (uint32_t k = 0; k < POOLS; k++) {
+        uint64_t first = control->at.pools[k].first;
+        lost += entry == POOLS || entry == k ? lost_fronts(control, k, first, false) : 0;
+    }
+    return -lost;
+}
+
+int tlsf_check(tlsf_t tlsf)
+{
+    ON_HEAP(tlsf);
+    return check(control, POOLS);
+}
+int tlsf_check_pool(pool_t pool)
+{
+    struct pool *own = (struct pool *)pool;
+    struct control *control = control_of_pool(own);
+    LOCKED(control);
+    return check(control, control == NULL ? 0u : own->number);
+}
