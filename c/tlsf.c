@@ -163,11 +163,8 @@ size_t tlsf_live_size(tlsf_t tlsf, const void *ptr)
 /* A freed block's front tells none. */
 size_t tlsf_block_size(void *ptr)
 {
-    uint64_t word = (uintptr_t)ptr;
-    if (ptr != NULL && (uintptr_t)ptr % UNIT == 0u) {
-        (void)__builtin_memcpy(&word, (const unsigned char *)ptr - FRONT, FRONT);
-    }
-    return (size_t)tlsf_placed_told_size((uintptr_t)ptr, word);
+    bool may = ptr != NULL && (uintptr_t)ptr % UNIT == 0u;
+    return may ? (size_t)tlsf_placed_told_size((uintptr_t)ptr, front_of(ptr)) : 0u;
 }
 
 /* Counts what is refused, and tells it. */
@@ -182,14 +179,16 @@ static void *refuse(struct control *control, enum tlsf_refusal what, const void 
     return NULL;
 }
 
-/* A pointer: by what stands in front of it, where it lies in a pool. A null pointer is none. */
+/* A pointer into no pool. A null pointer is none. */
 RARE static void *refuse_pointer(struct control *control, const void *ptr, size_t bytes)
 {
-    uint64_t word = 0;
-    if (ptr == NULL) {
-        return NULL;
-    }
-    bool lost = read_front(control, ptr, &word) && tlsf_placed_lost_front((uintptr_t)ptr, word);
+    return ptr == NULL ? NULL : refuse(control, TLSF_REFUSED_POINTER, ptr, bytes);
+}
+
+/* A pointer into a pool, by what stands in front of it. */
+RARE static void *refuse_front(struct control *control, const void *ptr, size_t bytes)
+{
+    bool lost = tlsf_placed_lost_front((uintptr_t)ptr, front_of(ptr));
     return refuse(control, lost ? TLSF_REFUSED_FRONT : TLSF_REFUSED_POINTER, ptr, bytes);
 }
 
@@ -248,11 +247,12 @@ void tlsf_free(tlsf_t tlsf, void *ptr)
     if (control == NULL) {
         return;
     }
-    if (read_front(control, ptr, &word)
-        && tlsf_placed_free(&control->at, (uintptr_t)ptr, word) == TLSF_OK) {
+    if (!read_front(control, ptr, &word)) {
+        (void)refuse_pointer(control, ptr, 0);
+    } else if (tlsf_placed_free(&control->at, (uintptr_t)ptr, word) == TLSF_OK) {
         write_front((uintptr_t)ptr, (uintptr_t)ptr);
     } else {
-        (void)refuse_pointer(control, ptr, 0);
+        (void)refuse_front(control, ptr, 0);
     }
 }
 
@@ -268,7 +268,7 @@ static void *resize(struct control *control, void *ptr, size_t size)
     uint64_t address
         = tlsf_placed_realloc(&control->at, (uintptr_t)ptr, size, &word, &copied);
     if (address == 0u) {
-        return (enum tlsf_status)word == TLSF_BAD_POINTER ? refuse_pointer(control, ptr, size)
+        return (enum tlsf_status)word == TLSF_BAD_POINTER ? refuse_front(control, ptr, size)
                                                          : refuse_bytes(control, word, ptr, size);
     }
     write_front((uintptr_t)ptr, (uintptr_t)ptr);

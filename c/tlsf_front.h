@@ -170,6 +170,13 @@ static inline void write_front(uintptr_t address, uint64_t word)
     (void)__builtin_memcpy((unsigned char *)address - FRONT, &word, FRONT);
 }
 
+static inline uint64_t front_of(const void *ptr)
+{
+    uint64_t word = 0;
+    (void)__builtin_memcpy(&word, (const unsigned char *)ptr - FRONT, FRONT);
+    return word;
+}
+
 static inline bool has_pointer(const struct pool *pool, const void *ptr)
 {
     return (uintptr_t)ptr - pool->first < pool->reach;
@@ -182,7 +189,7 @@ static inline bool read_front(const struct control *control, const void *ptr, ui
     bool has = has_pointer(&control->at.pools[0], ptr)
                || tlsf_placed_has(&control->at, (uintptr_t)ptr);
     if (has) {
-        (void)__builtin_memcpy(word, (const unsigned char *)ptr - FRONT, FRONT);
+        *word = front_of(ptr);
     }
     return has;
 }
