@@ -14,7 +14,7 @@ mod LoadLemmas
 mod PlacedLemmas
 mod PlacedVectors
 mod PlacesLeft
-mod PassingRows
+mod PassedRows
 mod RangesMoved
 mod RoomLemmas
 mod ReallocGives
