@@ -39,6 +39,15 @@ struct live {
     uint64_t blocks;
 };
 
+/* What is free: the bytes of the free blocks with their fronts, the most bytes for which
+ * tlsf_placed_malloc never answers TLSF_NO_FIT, and how many bytes no free block exceeds behind a front. The
+ * last two are 0 where no block is free, and else may differ: they are of one class. */
+struct free_figures {
+    uint64_t bytes;
+    uint64_t largest_request;
+    uint64_t largest_free;
+};
+
 /* A heap whose pools have addresses. It begins with a new heap, and zeros. Then pools come and go, and
  * blocks are asked for and freed, by the calls below alone: what is proved of them rests on that. */
 struct placed {
@@ -89,6 +98,7 @@ struct saved {
  * tlsf_placed_walk puts the rows of an entry's pool from the address *from on, as many as have room, and
  * answers how many. *from gets where the next piece begins. tlsf_placed_check answers whether the table
  * is whole, and has the entry's pool. Of TLSF_HEAP_POOLS it tells all pools, and what is live.
+ * tlsf_placed_free_figures puts what is free into *figures, by at most 2 touches.
  * tlsf_placed_places tells where table and first pool lie in memory with a control part of `part` bytes,
  * and answers whether there is room, and tlsf_placed_is_apart whether memory is none of such a heap's.
  * No address is above `last`. tlsf_placed_lost_front answers whether a word in front of an address is
@@ -113,6 +123,7 @@ enum tlsf_status tlsf_placed_remove_pool(struct placed *heap, uint32_t entry);
 uint64_t tlsf_placed_walk(const struct placed *heap, uint32_t entry, uint64_t *from, struct row *rows,
                           size_t room);
 bool tlsf_placed_check(const struct placed *heap, uint32_t entry);
+void tlsf_placed_free_figures(const struct placed *heap, struct free_figures *figures);
 bool tlsf_placed_places(uint64_t memory, uint64_t bytes, uint32_t part, uint32_t records,
                         uint64_t last, struct places *places);
 bool tlsf_placed_is_apart(uint64_t own, uint32_t part, uint32_t records, uint64_t memory,

@@ -5,6 +5,8 @@ mod EntriesMoved
 mod EntryRows
 mod FewRows
 mod FilledRows
+mod FreeBytes
+mod FreeSizes
 mod GivenBlock
 mod LiveBlock
 mod LiveChanges

@@ -1,6 +1,7 @@
 pub mod Adopting
 pub mod Answers
 pub mod Creation
+pub mod FreeFigures
 pub mod Fronts
 pub mod HeapPlaces
 pub mod Lends

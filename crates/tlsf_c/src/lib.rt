@@ -6,6 +6,7 @@ mod blocks;
 mod check;
 mod creation;
 mod figures;
+mod free_figures;
 mod front;
 mod handle;
 mod heap_places;
