@@ -107,8 +107,9 @@ struct saved {
  * tlsf_placed_adopt is for a loaded heap whose entries may be anything. It answers whether they are
  * those of its pools, and then the figures of live blocks are set: from then on it is a heap as above.
  * Before, tlsf_placed_move gives an entry's pool memory, and answers whether it has room.
- * tlsf_placed_moved_word tells the word in front of a block whose pool began at an address, and begins
- * at another. */
+ * tlsf_placed_moved_front is told a row of a pool that began at the address `from`, and begins at `to`.
+ * *word is what stood in front of the row's address, and gets what stands there now. The call answers
+ * whether that is the word of a live block with the row's bytes. */
 uint64_t tlsf_placed_malloc(struct placed *heap, uint64_t bytes, uint64_t *word);
 uint64_t tlsf_placed_memalign(struct placed *heap, uint64_t align, uint64_t bytes, uint64_t *word);
 enum tlsf_status tlsf_placed_free(struct placed *heap, uint64_t address, uint64_t word);
@@ -132,7 +133,8 @@ bool tlsf_placed_lost_front(uint64_t address, uint64_t word);
 bool tlsf_placed_adopt(struct placed *heap);
 bool tlsf_placed_move(struct placed *heap, uint32_t entry, uint64_t memory, uint64_t bytes,
                       uint64_t last);
-uint64_t tlsf_placed_moved_word(uint64_t word, uint64_t from, uint64_t to);
+bool tlsf_placed_moved_front(const struct placed *heap, const struct row *row, uint64_t from, uint64_t to,
+                             uint64_t *word);
 
 /* What stands at the start of the memory handed in, in front of the table. */
 struct control {

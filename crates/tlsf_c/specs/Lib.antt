@@ -10,6 +10,7 @@ pub mod LiveFigures
 pub mod Lying
 pub mod Moving
 pub mod Owned
+pub mod PlacedFronts
 pub mod PlacedHeaps
 pub mod PlacedPools
 pub mod PlacedRows

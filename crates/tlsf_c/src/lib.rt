@@ -18,6 +18,7 @@ mod made;
 mod placed_aligned;
 mod placed_blocks;
 mod placed_check;
+mod placed_fronts;
 mod placed_heap;
 mod placed_loading;
 mod placed_lookup;
