@@ -61,6 +61,15 @@ struct live {
     uint64_t blocks;
 };
 
+/* What is free: the bytes of the free blocks with their fronts, the most bytes for which
+ * tlsf_placed_malloc never answers TLSF_NO_FIT, and how many bytes no free block exceeds behind a front. The
+ * last two are 0 where no block is free, and else may differ: they are of one class. */
+struct free_figures {
+    uint64_t bytes;
+    uint64_t largest_request;
+    uint64_t largest_free;
+};
+
 /* A heap whose pools have addresses. It begins with a new heap, and zeros. Then pools come and go, and
  * blocks are asked for and freed, by the calls below alone: what is proved of them rests on that. */
 struct placed {
@@ -102,6 +111,7 @@ struct places {
  * tlsf_placed_walk puts the rows of an entry's pool from the address *from on, as many as have room, and
  * answers how many. *from gets where the next piece begins. tlsf_placed_check answers whether the table
  * is whole, and has the entry's pool. Of TLSF_HEAP_POOLS it tells all pools, and what is live.
+ * tlsf_placed_free_figures puts what is free into *figures, by at most 2 touches.
  * tlsf_placed_places tells where table and first pool lie in memory with a control part of `part` bytes,
  * and answers whether there is room, and tlsf_placed_is_apart whether memory is none of such a heap's.
  * No address is above `last`. tlsf_placed_lost_front answers whether a word in front of an address is
@@ -110,8 +120,9 @@ struct places {
  * tlsf_placed_adopt is for a loaded heap whose entries may be anything. It answers whether they are
  * those of its pools, and then the figures of live blocks are set: from then on it is a heap as above.
  * Before, tlsf_placed_move gives an entry's pool memory, and answers whether it has room.
- * tlsf_placed_moved_word tells the word in front of a block whose pool began at an address, and begins
- * at another. */
+ * tlsf_placed_moved_front is told a row of a pool that began at the address `from`, and begins at `to`.
+ * *word is what stood in front of the row's address, and gets what stands there now. The call answers
+ * whether that is the word of a live block with the row's bytes. */
 uint64_t tlsf_placed_malloc(struct placed *heap, uint64_t bytes, uint64_t *word);
 uint64_t tlsf_placed_memalign(struct placed *heap, uint64_t align, uint64_t bytes, uint64_t *word);
 enum tlsf_status tlsf_placed_free(struct placed *heap, uint64_t address, uint64_t word);
@@ -126,6 +137,7 @@ enum tlsf_status tlsf_placed_remove_pool(struct placed *heap, uint32_t entry);
 uint64_t tlsf_placed_walk(const struct placed *heap, uint32_t entry, uint64_t *from, struct row *rows,
                           size_t room);
 bool tlsf_placed_check(const struct placed *heap, uint32_t entry);
+void tlsf_placed_free_figures(const struct placed *heap, struct free_figures *figures);
 bool tlsf_placed_places(uint64_t memory, uint64_t bytes, uint32_t part, uint32_t records,
                         uint64_t last, struct places *places);
 bool tlsf_placed_is_apart(uint64_t own, uint32_t part, uint32_t records, uint64_t memory,
@@ -134,7 +146,8 @@ bool tlsf_placed_lost_front(uint64_t address, uint64_t word);
 bool tlsf_placed_adopt(struct placed *heap);
 bool tlsf_placed_move(struct placed *heap, uint32_t entry, uint64_t memory, uint64_t bytes,
                       uint64_t last);
-uint64_t tlsf_placed_moved_word(uint64_t word, uint64_t from, uint64_t to);
+bool tlsf_placed_moved_front(const struct placed *heap, const struct row *row, uint64_t from, uint64_t to,
+                             uint64_t *word);
 
 /* What stands at the start of the memory handed in, in front of the table. */
 struct control {

@@ -9,6 +9,14 @@ use Rattle.tlsf_c.specs.Fronts.{front}
 use Rattle.tlsf_c.specs.PlacedPools.{AreApart, IsEntered, IsEntryOf, AreEntriesOf, placed_range}
 use Rattle.tlsf_c.specs.RangeMoves.{IsRangeAdded, IsRangeRemoved}
 
+-- an entry that holds no pool
+abbrev pub vacant : PlacedPool
+vacant = record { first = 0; reach = 0; place = 0; number = 0; owner = 0 }
+
+-- what is known of the entry at an index, by whatever default
+pub at_index : (P : PlacedPool → Type 0) (pools : List PlacedPool) (k index : ℕ) (d : PlacedPool) → k ≡ index → index < length pools → P (slice_index_or pools index vacant) → P (slice_index_or pools k d)
+at_index P pools k index d here within is = subst P (get_or_default pools index vacant d within ∙ ap (λ (n : ℕ). slice_index_or pools n d) (sym here)) is
+
 module _ (pools : List PlacedPool) (k : ℕ) (new : PlacedPool) (within : k < length pools) where
   abbrev written : List PlacedPool
   written = slice_set pools k new
@@ -35,6 +43,13 @@ module _ (pools : List PlacedPool) (k : ℕ) (new : PlacedPool) (within : k < le
               subst (λ (p : PlacedPool). AreApart p (slice_index_or written j d)) (sym (elsewhere i d away)) (subst (λ (p : PlacedPool). AreApart (slice_index_or pools i d) p) (sym (elsewhere j d far)) (apart i j d below (still_within j h)))
         ]
       ]
+
+  -- one that holds no pool is apart from all
+  pub apart_without : new.reach ≡ 0 → AllPairs AreApart pools → AllPairs AreApart written
+  apart_without none apart = apart_after apart (λ i d away h. (
+    record { addresses = λ some other. absurd (omega (arith, other, none)); places = λ some other. absurd (omega (arith, other, none)) },
+    record { addresses = λ some. absurd (omega (arith, some, none)); places = λ some. absurd (omega (arith, some, none)) },
+  ))
 
   -- one that stood elsewhere than where another was written stands there
   pub stands_still : (x : PlacedPool) (has : Contains pools x) → has.0 ≢ k → Contains written x

@@ -99,7 +99,7 @@ of_pool : (pool : PlacedPool) (rows : List Row) → AllByRecursion (LiesBetween 
 of_pool pool [] all = tt
 of_pool pool (row ∷ rows) all = (record { begins = all.0.begins; ends = omega (arith, all.0.ends); long = all.0.long }, of_pool pool rows all.1)
 
--- the same of an entry
+-- the rows of the pool that an entry holds: they are found, and lie within it
 pub record EntryRows (pool : PlacedPool) (pools : List (Pool ℕ)) : Type 0 where
   pub given : List Row
   pub are : rows_from pool.place pools ≡ Ok given

@@ -5,6 +5,8 @@ mod EntriesMoved
 mod EntryRows
 mod FewRows
 mod FilledRows
+mod FreeBytes
+mod FreeSizes
 mod GivenBlock
 mod LiveBlock
 mod LiveChanges
@@ -14,7 +16,7 @@ mod LoadLemmas
 mod PlacedLemmas
 mod PlacedVectors
 mod PlacesLeft
-mod PassingRows
+mod PassedRows
 mod RangesMoved
 mod RoomLemmas
 mod ReallocGives

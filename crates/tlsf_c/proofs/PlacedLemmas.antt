@@ -13,12 +13,13 @@ use Rattle.tlsf_heap.specs.OwnClass.{malloc_or_own, malloc_or_own_rounded}
 use Rattle.tlsf_heap.specs.Counted.{range_of}
 use Rattle.tlsf_heap.specs.Good.{IsGood}
 use Rattle.tlsf_heap.specs.Pointer.{Pointer, block_size_ptr}
+use Rattle.tlsf_heap.specs.Served.{IsServed}
 use Rattle.tlsf_c.proofs.LiveBlock.{live_lies, live_ends_before}
 use Rattle.tlsf_c.specs.declared.placed_pool.PlacedPool.{PlacedPool}
 use Rattle.tlsf_c.specs.Fronts.{front, told_size}
 use Rattle.tlsf_c.specs.Lying.{LiesIn}
 use Rattle.tlsf_c.specs.PlacedPools.{HasPlace, HasAddress, IsAt, AreApart, IsEntered, IsEntryOf, AreEntriesOf, placed_range}
-use Rattle.tlsf_c.specs.PlacedHeaps.{IsLiveAt, told_block, malloc_with_front}
+use Rattle.tlsf_c.specs.PlacedHeaps.{IsLiveAt, IsGivenAt, told_block, malloc_with_front}
 
 -- two entries that have an address are one
 pub same_at : (address : ℕ) (pools : List PlacedPool) (one other : PlacedPool) → AllPairs AreApart pools → Contains pools one → Contains pools other → HasAddress one address → HasAddress other address → one ≡ other
@@ -71,6 +72,13 @@ ends_in_entry place bytes ranges pools pool entries lies has at = elim (cases_lt
       let ends = lies.ends (placed_range pool) there at.0 (omega (arith, at.1)) in
       let never : ⊥ = omega (arith, ends, beyond) in never))
 ]
+
+-- a block that the heap gave has an address, and ends within the entry that has it
+pub given_at : (call : ℕ → Content ℕ → Result (ℕ × Content ℕ) Refusal) (bytes address size : ℕ) (ptr : Pointer) (entries : List PlacedPool) (old new : Content ℕ) → ∥ AreEntriesOf (map range_of old.pools) entries ∥₁
+    → IsServed call ptr old new → LiesIn ptr.place size (map range_of old.pools) → bytes + front ≤ size → (pool : PlacedPool) × Contains entries pool × IsAt pool ptr.place address → IsGivenAt call bytes address entries old new
+given_at call bytes address size ptr entries old new are served lies long there =
+    let ends = ends_in_entry ptr.place size (map range_of old.pools) entries there.0 are lies there.1 there.2.has in
+    record { pointer = ptr; pool = there.0; served = served; of_pools = there.1; at = there.2; ends = omega (arith, there.2.address_is, there.2.has.0, ends, long) }
 
 -- no byte is refused, and neither are more than a block can have
 pub refuses_none : (slot : ℕ) (content : Content ℕ) → malloc_with_front slot 0 content ≡ Err ZeroSize

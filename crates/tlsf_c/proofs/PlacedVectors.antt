@@ -1,13 +1,18 @@
--- What fronts tell, and which block they mean, on rows whose words were reckoned outside: the size in units times 65,536
--- and the slot, times the odd number, and the address.
-use Rattle.std.proofs.Common.{◌≡◌, ◌≢◌, ℕ, ◌∷◌, [], refl, arith, Some, None, Ok, Err}
+-- What fronts and figures tell, and which block a front means, on rows whose words were reckoned outside: the size in units
+-- times 65,536 and the slot, times the odd number, and the address.
+use Rattle.std.proofs.Common.{◌≡◌, ◌≢◌, ℕ, ◌+◌, ◌∷◌, [], refl, arith, Some, None, Ok, Err}
+use Rattle.std.specs.Prelude.{option_and_then}
+use Rattle.tlsf_class.specs.Classes.{low, class, need}
+use Rattle.tlsf_class.specs.Rounding.{rounded, round}
 use Rattle.tlsf_heap.specs.declared.refusal.Refusal.TheVariants.{BadPointer, ZeroSize}
-use Rattle.tlsf_heap.specs.Content.{Content}
+use Rattle.tlsf_heap.specs.Content.{Content, blocks_of}
 use Rattle.tlsf_heap.specs.Pointer.{block_size_ptr}
 use Rattle.tlsf_c.specs.declared.placed_pool.PlacedPool.{PlacedPool}
-use Rattle.tlsf_c.specs.Fronts.{told_slot, told_size}
+use Rattle.tlsf_c.specs.FreeFigures.{free_bytes, entry_bytes, IsBelowClass}
+use Rattle.tlsf_c.specs.Fronts.{front, told_slot, told_size}
 use Rattle.tlsf_c.specs.PlacedPools.{IsAt}
 use Rattle.tlsf_c.specs.PlacedHeaps.{told_block, malloc_with_front}
+use Rattle.tlsf_c.proofs.EntriesMoved.{vacant}
 
 -- 112 bytes with slot 3 at address 4,112
 size_112 : told_size 3366696039589512271 4112 ≡ 112
@@ -54,3 +59,22 @@ stale_row = refl
 
 no_byte : malloc_with_front 0 0 rows ≡ Err ZeroSize
 no_byte = refl
+
+-- the free block has the bytes of the pool but those of the live one
+free_912 : free_bytes (blocks_of rows.pools) ≡ 912
+free_912 = refl
+
+entry_1024 : entry_bytes pool ≡ 1024
+entry_1024 = refl
+
+entry_0 : entry_bytes vacant ≡ 0
+entry_0 = refl
+
+-- A class has the sizes from 3,968 to 4,016 bytes: where the lists serve 3,968, no free block has more than 4,016.
+below_4032 : IsBelowClass 4016 (option_and_then need (round (3968 + 1)))
+unfolding low need rounded
+below_4032 = refl
+
+near_4000 : class (3960 + front) ≡ class (4008 + front)
+unfolding low class
+near_4000 = refl

@@ -1,6 +1,7 @@
 pub mod Adopting
 pub mod Answers
 pub mod Creation
+pub mod FreeFigures
 pub mod Fronts
 pub mod HeapPlaces
 pub mod Lends
@@ -9,6 +10,7 @@ pub mod LiveFigures
 pub mod Lying
 pub mod Moving
 pub mod Owned
+pub mod PlacedFronts
 pub mod PlacedHeaps
 pub mod PlacedPools
 pub mod PlacedRows

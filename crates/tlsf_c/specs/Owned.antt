@@ -16,7 +16,7 @@ token ty p = ghosts.dealloc_token (record { memory = record { seal = tt } }) ty 
 abbrev pub owned_heap : Ptr → Counted → Fml
 owned_heap at heap = box_owns (λ ty p. token ty p) the_row at heap
 
--- the same; where there is no heap the pointer is null
+-- the heap at the pointer, or none: then the pointer is null
 abbrev pub owned : Ptr → Option Counted → Fml
 owned at None = feq Ptr at null_ptr
 owned at (Some heap) = owned_heap at heap

@@ -87,7 +87,7 @@ fn place_in(pool: &PlacedPool, ptr: Ptr, size: u64, word: &mut u64) -> u64
     address
 }
 
-/// The same of the pool that has the block's place.
+/// The address of a block of this size in the pool that has its place, and the word in front of it.
 #[inline(always)]
 pub(crate) fn place_block(pools: &[PlacedPool; 8], ptr: Ptr, size: u64, word: &mut u64) -> u64
     requires placed { All IsPlaced pools.now }

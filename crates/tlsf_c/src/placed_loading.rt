@@ -38,7 +38,7 @@ fn is_placed(pool: &PlacedPool) -> bool
         && (pool.reach == 0 || (pool.first >= 16 && pool.first - 1 <= u64::MAX - pool.reach))
 }
 
-/// The same of each entry.
+/// Whether the places and addresses of each entry are in units, and none is above what 32 and 64 bits tell.
 fn are_placed(pools: &[PlacedPool; 8]) -> bool
     ensures yes { result ≡ true → All IsPlaced pools.now }
     ensures no { result ≡ false → All IsPlaced pools.now → ⊥ }

@@ -34,7 +34,7 @@ pub(crate) fn pool_at(pools: &[PlacedPool; 8], address: u64) -> Option<&PlacedPo
     }
 }
 
-/// The same, where it isn't the first.
+/// The pool that has a block's address, if one has. It is for where that isn't the first.
 #[inline(never)]
 #[cold]
 fn later_pool_at(pools: &[PlacedPool; 8], address: u64) -> Option<&PlacedPool>

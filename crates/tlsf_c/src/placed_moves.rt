@@ -1,8 +1,7 @@
-//! Pools of a heap that was loaded get memory, and fronts move with them.
+//! Pools of a heap that was loaded get memory.
 
 ghost use Rattle.std.specs.Prelude.{◌≡◌, ◌≢◌, ℕ, ◌+◌, ◌-◌, ◌^◌, ◌<◌, ◌≤◌, length, slice_index_or, true, false};
 ghost use Rattle.tlsf_heap.specs.Counted.{IsUnchanged};
-ghost use Rattle.tlsf_c.specs.Fronts.{told_slot, told_size};
 ghost use Rattle.tlsf_c.specs.Moving.{FitsMemory, IsMovedTo};
 
 use crate::placed_blocks::FRONT;
@@ -44,13 +43,4 @@ pub extern "C" fn tlsf_placed_move(
         owner: pool.owner,
     };
     true
-}
-
-/// The word in front of a block in a pool whose first address was `from`, once it is `to`.
-#[unsafe(no_mangle)]
-pub extern "C" fn tlsf_placed_moved_word(word: u64, from: u64, to: u64) -> u64
-    ensures slot { (behind : ℕ) → from + behind < 2 ^ 64 → to + behind < 2 ^ 64 → told_slot result (to + behind) ≡ told_slot word (from + behind) }
-    ensures size { (behind : ℕ) → from + behind < 2 ^ 64 → to + behind < 2 ^ 64 → told_size result (to + behind) ≡ told_size word (from + behind) }
-{
-    word.wrapping_sub(from).wrapping_add(to)
 }

@@ -80,8 +80,8 @@ fn reallocate(handle: &mut Handle, ptr: Ptr, bytes: u64) -> Result<Ptr, u32>
     }
 }
 
-/// The same of a block that has a size, and what is known of the block then: it lies in a pool, at a multiple of the unit, and
-/// has these bytes or more, a multiple of the unit.
+/// `tlsf_heap_realloc` of a block whose size is known, and what is known of the block then: it lies in a pool, at a multiple of
+/// the unit, and has these bytes or more, a multiple of the unit.
 #[inline(always)]
 fn resize(handle: &mut Handle, block: Sized, bytes: u64) -> Result<Sized, u32>
     requires some { 0 < bytes }

@@ -1,14 +1,15 @@
 -- A place at the alignment has an address at the alignment where pools lie alike.
-use Rattle.std.proofs.Common.{rules, ◌+◌, ◌*◌, ◌/◌, map, sym, ◌∙◌, subst, arith}
+use Rattle.std.proofs.Common.{rules, ℕ, ◌+◌, ◌*◌, ◌/◌, map, sym, ◌∙◌, subst, arith}
 use Rattle.std.proofs.lemmas.List.Elements.{All-contains}
 use Rattle.tlsf_heap.specs.declared.refusal.Refusal.TheVariants.{ZeroSize, NoFit, BadAlign}
 use Rattle.tlsf_heap.specs.Counted.{Counted, range_of}
 use Rattle.tlsf_heap.specs.Memalign.{memalign}
 use Rattle.tlsf_heap.specs.Served.{IsServed}
 use Rattle.tlsf_c.specs.Lying.{LiesIn}
+use Rattle.tlsf_c.specs.PlacedHeaps.{memalign_with_front}
 use Rattle.tlsf_c.specs.PlacedPools.{IsAlike}
 use Rattle.tlsf_c.proofs.Alike.{aligns_none, aligns_above, aligned_with_front, aligns_bad, address_aligned}
-use Rattle.tlsf_c.proofs.PlacedLemmas.{lies_somewhere, ends_in_entry}
+use Rattle.tlsf_c.proofs.PlacedLemmas.{lies_somewhere, given_at}
 use Rattle.tlsf_c.proofs.placed_aligned.tlsf_placed_memalign.Goals as goal
 use Rattle.tlsf_c.proofs.placed_aligned.tlsf_placed_memalign.Goals.{then-not-is_alignment-via-then-not-is_alignment, then-not-is_alignment-via-else-not-is_alignment+then-not-are_alike}
 
@@ -49,19 +50,11 @@ pub returns-in-Ok-clause-given : goal.returns-in-Ok-clause-given
 returns-in-Ok-clause-given c = λ some.
     let heap = c.args.heap.now in
     let ptr = c.in-Ok.ptr in
-    let there = c.place_block.ensures.at in
-    let lies = subst (λ (h : Counted). LiesIn ptr.place ((c.args.bytes + 8 + 15) / 16 * 16) (map range_of h.content.pools)) c.heap.ensures.value c.in-Ok.ensures.lies in
-    let ends = ends_in_entry ptr.place ((c.args.bytes + 8 + 15) / 16 * 16) (map range_of heap.handle.value.content.pools) heap.pools there.0 heap.entries lies there.1 there.2.has in
-    let same = aligned_with_front c.args.align ptr.slot c.args.bytes heap.handle.value.content c.if-bytes-eq0.false in
+    let size : ℕ = (c.args.bytes + 8 + 15) / 16 * 16 in
+    let lies = subst (λ (h : Counted). LiesIn ptr.place size (map range_of h.content.pools)) c.heap.ensures.value c.in-Ok.ensures.lies in
     let served = subst (λ (h : Counted). IsServed (λ slot. memalign slot c.args.align (c.args.bytes + 8)) ptr h.content c.allocate_aligned.new.heap.content) c.heap.ensures.value c.in-Ok.ensures.ok in
-    record {
-      pointer = ptr;
-      pool = there.0;
-      served = record { ok = same ∙ served.ok; slot_below = served.slot_below; slot_new = served.slot_new };
-      of_pools = there.1;
-      at = there.2;
-      ends = omega (arith, there.2.address_is, there.2.has.0, ends);
-    }
+    let given : IsServed (λ slot. memalign_with_front c.args.align slot c.args.bytes) ptr heap.handle.value.content c.allocate_aligned.new.heap.content = record { ok = aligned_with_front c.args.align ptr.slot c.args.bytes heap.handle.value.content c.if-bytes-eq0.false ∙ served.ok; slot_below = served.slot_below; slot_new = served.slot_new } in
+    given_at (λ slot. memalign_with_front c.args.align slot c.args.bytes) c.args.bytes c.place_block.result size ptr heap.pools heap.handle.value.content c.allocate_aligned.new.heap.content heap.entries given lies (omega arith) c.place_block.ensures.at
 
 pub returns-in-Ok-clause-multiple : goal.returns-in-Ok-clause-multiple
 returns-in-Ok-clause-multiple c =

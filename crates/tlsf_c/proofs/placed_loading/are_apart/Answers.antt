@@ -3,10 +3,8 @@ use Rattle.std.proofs.lemmas.Bool.{cases_eq}
 use Rattle.std.proofs.lemmas.List.{get_or_default}
 use Rattle.tlsf_c.specs.declared.placed_pool.PlacedPool.{PlacedPool}
 use Rattle.tlsf_c.specs.PlacedPools.{AreApart}
+use Rattle.tlsf_c.proofs.EntriesMoved.{vacant}
 use Rattle.tlsf_c.proofs.placed_loading.are_apart.Goals as goal
-
-abbrev none : PlacedPool
-none = record { first = 0; reach = 0; place = 0; number = 0; owner = 0 }
 
 pub returns-then-not-is_apart_from-clause-no : goal.returns-then-not-is_apart_from-clause-no
 returns-then-not-is_apart_from-clause-no c = λ refused apart.
@@ -14,7 +12,7 @@ returns-then-not-is_apart_from-clause-no c = λ refused apart.
     let k = c.loop-k.k in
     c.if-not-is_apart_from.ensures.no refl (λ j d above below.
     let within : j < length pools = omega (arith, below) in
-    subst (λ (p : PlacedPool). AreApart p (slice_index_or pools j d)) (get_or_default pools k d none (omega (arith, above, within))) (apart k j d (omega (arith, above)) within))
+    subst (λ (p : PlacedPool). AreApart p (slice_index_or pools j d)) (get_or_default pools k d vacant (omega (arith, above, within))) (apart k j d (omega (arith, above)) within))
 
 pub loop-k-preserved : goal.loop-k-preserved
 loop-k-preserved c =
@@ -23,7 +21,7 @@ loop-k-preserved c =
       refl,
       λ i j d so_far below within. elim (cases_eq i k) [
         | inl at ↦
-            let is : slice_index_or pools k none ≡ slice_index_or pools i d = get_or_default pools k none d (omega (arith, at, below, within)) ∙ ap (λ (n : ℕ). slice_index_or pools n d) (sym at) in
+            let is : slice_index_or pools k vacant ≡ slice_index_or pools i d = get_or_default pools k vacant d (omega (arith, at, below, within)) ∙ ap (λ (n : ℕ). slice_index_or pools n d) (sym at) in
             subst (λ (p : PlacedPool). AreApart p (slice_index_or pools j d)) is (c.if-not-is_apart_from.ensures.yes refl j d (omega (arith, at, below)) (omega (arith, within)))
         | inr away ↦ c.loop-k.invariant.1 i j d (omega (arith, so_far, away)) below within
       ],

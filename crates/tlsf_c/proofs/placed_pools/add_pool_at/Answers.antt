@@ -8,7 +8,7 @@ use Rattle.tlsf_c.specs.PlacedPools.{IsPlaced, IsClearOf, CanBePlaced, placed_ra
 use Rattle.tlsf_c.specs.RangeMoves.{IsRangeAdded}
 use Rattle.tlsf_c.specs.LiveFigures.{IsLiveChange}
 use Rattle.tlsf_c.proofs.LiveChanges.{same_figures}
-use Rattle.tlsf_c.proofs.EntriesMoved.{apart_after, entries_added}
+use Rattle.tlsf_c.proofs.EntriesMoved.{vacant, apart_after, entries_added}
 use Rattle.tlsf_c.proofs.placed_pools.add_pool_at.Goals as goal
 
 -- the new pool is clear of the others, and begins where none of them does
@@ -20,7 +20,7 @@ invariant_of-heap c =
     let reach : ℕ = c.args.bytes - 8 in
     let place : ℕ = c.args.place in
     let within : k < length heap.pools = c.in-Some.ensures.0 in
-    let old : PlacedPool = slice_index_or heap.pools k (record { first = 0; reach = 0; place = 0; number = 0; owner = 0 }) in
+    let old : PlacedPool = slice_index_or heap.pools k vacant in
     let new : PlacedPool = record { first = first; reach = reach; place = place; number = old.number; owner = old.owner } in
     let can : CanBePlaced first c.args.bytes = search rules in
     let clear : All (IsClearOf first reach) heap.pools = search rules in

@@ -1,29 +1,24 @@
-use Rattle.std.proofs.Common.{◌≡◌, ◌+◌, ◌≤◌, List, ◌++◌, length}
+use Rattle.std.proofs.Common.{◌≡◌, List, length}
+use Rattle.std.specs.Prelude.{nat_le}
 use Rattle.std.specs.List.{AllByRecursion}
 use Rattle.tlsf_heap.specs.declared.row.Row.{Row as HeapRow}
-use Rattle.tlsf_heap.specs.Cursors.{rest_of, stands_at}
-use Rattle.tlsf_c.specs.PlacedRows.{IsRowOf, placed_row, from_address}
-use Rattle.tlsf_c.proofs.FilledRows.{filled}
+use Rattle.tlsf_heap.specs.Cursors.{rows_behind}
+use Rattle.tlsf_c.specs.PlacedRows.{IsRowOf, placed_row}
+use Rattle.tlsf_c.proofs.FilledRows.{HasFilled}
+use Rattle.tlsf_c.proofs.PassedRows.{HasPassed}
 use Rattle.tlsf_c.proofs.placed_walk.fill.Given as goal
 
--- the rows put so far, and those to come, are all
+-- of the rows passed, those from the address on were put; those to come are the pool's
 abbrev pub invariant-loop-next : goal.invariant-loop-next
 invariant-loop-next l =
     record {
       past : List HeapRow;
-      whole : past ++ rest_of l.fn.heap.rows l.here.next ≡ rest_of l.fn.heap.rows l.fn.cursor.next;
-      within : AllByRecursion (IsRowOf l.fn.pool) (rest_of l.fn.heap.rows l.here.next);
+      passed : HasPassed l.fn.cursor l.fn.heap past l.here l.heap;
+      filled : HasFilled (λ row. nat_le l.fn.from (placed_row l.fn.pool row).address) (placed_row l.fn.pool) l.fn.rows past l.count l.rows;
+      within : AllByRecursion (IsRowOf l.fn.pool) (rows_behind l.heap.rows l.here);
       pool : l.pool ≡ l.fn.pool;
       from : l.from ≡ l.fn.from;
-      count : l.count ≡ length (from_address l.fn.pool l.fn.from past);
-      fewer : l.count ≤ length past;
-      rows : l.rows ≡ filled (placed_row l.fn.pool) (from_address l.fn.pool l.fn.from past) l.fn.rows;
-      stands : stands_at l.fn.heap.rows l.here.next;
-      content : l.heap.content ≡ l.fn.heap.content;
-      same : l.heap.rows ≡ l.fn.heap.rows;
-      floor : l.fn.heap.touches ≤ l.heap.touches;
-      bound : l.heap.touches ≤ l.fn.heap.touches + length past;
     }
 
 abbrev pub decreases-loop-next : goal.decreases-loop-next
-decreases-loop-next l = length (rest_of l.fn.heap.rows l.here.next)
+decreases-loop-next l = length (rows_behind l.heap.rows l.here)

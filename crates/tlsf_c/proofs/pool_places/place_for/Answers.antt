@@ -1,25 +1,17 @@
-use Rattle.std.proofs.Common.{◌≡◌, ℕ, ◌+◌, ◌<◌, List, length, refl, sym, ap, ◌∙◌, subst, arith, slice_index_or, inl, inr}
+use Rattle.std.proofs.Common.{ℕ, ◌+◌, ◌<◌, List, refl, subst, arith, slice_index_or, inl, inr}
 use Rattle.std.proofs.lemmas.Bool.{cases_eq}
-use Rattle.std.proofs.lemmas.List.{get_or_default}
 use Rattle.tlsf_c.specs.declared.placed_pool.PlacedPool.{PlacedPool}
 use Rattle.tlsf_c.specs.Fronts.{front}
 use Rattle.tlsf_c.specs.PoolPlaces.{HasRoom, IsNextLike, IsFullBehind}
+use Rattle.tlsf_c.proofs.EntriesMoved.{vacant, at_index}
 use Rattle.tlsf_c.proofs.PlacesLeft.{one_place, none_left, full_behind}
 use Rattle.tlsf_c.proofs.pool_places.place_for.Goals as goal
 use Rattle.tlsf_c.proofs.pool_places.place_for.Goals.{else-pool-ne0-via-then-pool-ne0+else-has_room-2, else-pool-ne0-via-else-pool-ne0}
 
-abbrev zeros : PlacedPool
-zeros = record { first = 0; reach = 0; place = 0; number = 0; owner = 0 }
-
--- what is known of the pool at an index, by whatever default
-at_index : (align address bytes : ℕ) (pools : List PlacedPool) (k index : ℕ) (d : PlacedPool) → k ≡ index → index < length pools → IsFullBehind align address bytes pools (slice_index_or pools index zeros) → IsFullBehind align address bytes pools (slice_index_or pools k d)
-at_index align address bytes pools k index d here within is =
-    subst (IsFullBehind align address bytes pools) (get_or_default pools index zeros d within ∙ ap (λ (n : ℕ). slice_index_or pools n d) (sym here)) is
-
 pub loop-pool-preserved : goal.loop-pool-preserved
 loop-pool-preserved c =
     let pools : List PlacedPool = c.args.pools.now in
-    let pool : PlacedPool = slice_index_or pools c.loop-pool.pool-index zeros in
+    let pool : PlacedPool = slice_index_or pools c.loop-pool.pool-index vacant in
     let next : IsNextLike c.args.align c.args.address (pool.place + pool.reach + front) c.next_like-place.result =
     subst (λ (n : ℕ). IsNextLike c.args.align c.args.address (n + pool.reach + front) c.next_like-place.result) c.from.ensures c.next_like-place.ensures in
     let none : 0 < pool.reach → HasRoom c.next_like-place.result c.args.bytes pools → ⊥ = elim c.else-pool-ne0.branch [
@@ -32,7 +24,7 @@ loop-pool-preserved c =
       refl,
       λ k d from below. elim (cases_eq k c.loop-pool.pool-index) [
         | inr before ↦ c.loop-pool.invariant.4 k d from (omega (arith, below, before))
-        | inl here ↦ at_index c.args.align c.args.address c.args.bytes pools k c.loop-pool.pool-index d here (omega arith)
+        | inl here ↦ at_index (IsFullBehind c.args.align c.args.address c.args.bytes pools) pools k c.loop-pool.pool-index d here (omega arith)
             (full_behind c.args.align c.args.address c.args.bytes c.next_like-place.result pools pool (λ present. next) none)
       ],
     )
