@@ -15,29 +15,23 @@
 #define TLSF_WALK_ROWS 64u
 #endif
 
-/* The heap's own readings tell what the control part doesn't keep. */
 int tlsf_stats(tlsf_t tlsf, tlsf_figures *out)
 {
     ON_HEAP(tlsf);
     if (control == NULL) {
         return -1;
     }
-    size_t largest = tlsf_heap_largest_request(&control->at.heap);
+    struct free_figures free;
+    tlsf_placed_free_figures(&control->at, &free);
     *out = (tlsf_figures){.bytes_live = (size_t)control->at.live.bytes,
                           .blocks_live = (size_t)control->at.live.blocks,
                           .most_bytes_live = (size_t)control->at.live.most_bytes,
+                          .bytes_free = (size_t)free.bytes,
+                          .largest_request = (size_t)free.largest_request,
+                          .largest_free = (size_t)free.largest_free,
                           .records = control->records,
                           .records_used = tlsf_heap_records_used(&control->at.heap)};
     (void)memcpy(out->refusals, control->refusals, sizeof out->refusals);
-    if (largest != 0u) {
-        out->largest_request = largest - FRONT;
-        out->largest_free = largest - FRONT + (size_t)tlsf_heap_class_step(largest) - UNIT;
-    }
-    for (uint32_t k = 0; k < POOLS; k++) {
-        const struct pool *pool = &control->at.pools[k];
-        out->bytes_free += pool->reach == 0u ? 0u : (size_t)pool->reach + FRONT;
-    }
-    out->bytes_free -= out->bytes_live + FRONT * out->blocks_live;
     return 0;
 }
 
@@ -89,18 +83,18 @@ int lost_fronts(struct control *control, uint32_t entry, uint64_t began, bool mo
     struct row rows[TLSF_WALK_ROWS];
     uint64_t from = 0;
     uint64_t count = TLSF_WALK_ROWS;
+    uint64_t first = control->at.pools[entry].first;
     int lost = 0;
     while (count == TLSF_WALK_ROWS) {
         count = tlsf_placed_walk(&control->at, entry, &from, rows, TLSF_WALK_ROWS);
         for (uint64_t k = 0; k < count; k++) {
-            uint64_t address = rows[k].address;
-            uint64_t word = 0;
-            bool is = rows[k].used && read_front(control, (void *)(uintptr_t)address, &word);
-            word = tlsf_placed_moved_word(word, began, control->at.pools[entry].first);
-            bool whole = is && tlsf_placed_block_size(&control->at, address, word) == rows[k].bytes;
+            uintptr_t address = (uintptr_t)rows[k].address;
+            uint64_t word = rows[k].used ? front_of((void *)address) : 0u;
+            bool whole = rows[k].used
+                         && tlsf_placed_moved_front(&control->at, &rows[k], began, first, &word);
             lost += rows[k].used && !whole ? 1 : 0;
             if (whole && moves) {
-                write_front((uintptr_t)address, word);
+                write_front(address, word);
             }
         }
     }

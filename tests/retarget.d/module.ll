@@ -175,9 +175,14 @@ start:
   ret i1 false
 }
 
-define noundef i64 @tlsf_placed_moved_word(i64 noundef %a0, i64 noundef %a1, i64 noundef %a2) #0 {
+define noundef zeroext i1 @tlsf_placed_moved_front(ptr noundef %a0, ptr noundef %a1, i64 noundef %a2, i64 noundef %a3, ptr noundef %a4) #0 {
 start:
-  ret i64 0
+  ret i1 false
+}
+
+define void @tlsf_placed_free_figures(ptr noundef %a0, ptr noundef %a1) #0 {
+start:
+  ret void
 }
 
 define noundef zeroext i1 @tlsf_placed_places(i64 noundef %a0, i64 noundef %a1, i32 noundef %a2, i32 noundef %a3, i64 noundef %a4, ptr noundef %a5) #0 {
