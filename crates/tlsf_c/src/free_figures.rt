@@ -1,6 +1,6 @@
 //! Figures of what is free in a heap with addresses.
 
-ghost use Rattle.std.specs.Prelude.{◌≡◌, ◌+◌, ◌*◌, ◌^◌, ◌≤◌, All, sum_by, option_and_then};
+ghost use Rattle.std.specs.Prelude.{◌≡◌, ◌+◌, ◌^◌, ◌≤◌, All, sum_by, option_and_then};
 ghost use Rattle.tlsf_class.specs.Classes.{class, need};
 ghost use Rattle.tlsf_class.specs.Rounding.{round};
 ghost use Rattle.tlsf_heap.specs.Content.{blocks_of};
@@ -21,9 +21,9 @@ use tlsf_class::{GREATEST_SIZE, UNIT, class_for, low, round};
 pub struct FreeFigures {
     /// The bytes of the free blocks, with the eight in front of each.
     pub bytes: u64,
-    /// The most bytes for which `tlsf_placed_malloc` surely finds a block; 0 where none is free.
+    /// For this many bytes or fewer `tlsf_placed_malloc` never answers `NoFit`; 0 where no block is free.
     pub largest_request: u64,
-    /// No free block has more bytes behind a front; 0 where none is free.
+    /// No free block has more bytes behind a front; 0 where no block is free.
     pub largest_free: u64,
 }
 
@@ -69,15 +69,15 @@ fn most_free(largest: u32) -> u32
 
 /// What is free goes to `out`. At most two touches.
 ///
-/// For more than `largest_request` bytes `tlsf_placed_malloc` looks at one more list, and may find a block there, but no free
-/// block has more than `largest_free`. With a front, both numbers are sizes of one class.
+/// For more than `largest_request` bytes `tlsf_placed_malloc` looks at one more list, and may find a block there. No free block
+/// has more than `largest_free`. With a front, both numbers are sizes of one class.
 #[unsafe(no_mangle)]
 pub extern "C" fn tlsf_placed_free_figures(heap: &mut PlacedHeap, out: &mut FreeFigures)
     ensures bytes { out.new.bytes ≡ free_bytes (blocks_of heap.old.handle.value.content.pools) }
     ensures largest { IsLargestWithFront out.new.largest_request heap.old.handle.value.content }
     ensures most { AreFreeWithin out.new.largest_free (blocks_of heap.old.handle.value.content.pools) }
     ensures near { class (out.new.largest_request + front) ≡ class (out.new.largest_free + front) }
-    ensures none { out.new.bytes ≡ 0 → out.new.largest_free ≡ 0 }
+    ensures none { out.new.bytes ≡ 0 → (out.new.largest_request ≡ 0) × (out.new.largest_free ≡ 0) }
     ensures read { Reads 2 heap.old.handle.value heap.new.handle.value }
     ensures pools { heap.new.pools ≡ heap.old.pools }
     ensures figures { heap.new.figures ≡ heap.old.figures }

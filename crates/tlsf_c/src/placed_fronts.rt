@@ -18,9 +18,8 @@ fn moved_word(word: u64, from: u64, to: u64) -> u64
     word.wrapping_sub(from).wrapping_add(to)
 }
 
-/// `word` stands in front of a row's address as it did where the row's pool began at the address `from`. It gets what stands
-/// there once the pool begins at `to`. The answer is whether that is the word of a live block with the row's bytes. At most one
-/// touch.
+/// The row is of a pool that began at the address `from`, and begins at `to`. `word` is what stood in front of the row's address,
+/// and gets what stands there now. The answer is whether that is the word of a live block with the row's bytes. At most one touch.
 #[unsafe(no_mangle)]
 pub extern "C" fn tlsf_placed_moved_front(
     heap: &mut PlacedHeap,

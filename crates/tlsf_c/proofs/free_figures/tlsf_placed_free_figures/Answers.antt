@@ -68,4 +68,6 @@ returns-clause-none c = λ nothing.
     let good = subst (λ (h : Counted). IsGood h.content) c.heap.ensures.value c.keeps_good.ensures.good in
     let is = subst (λ (h : Counted). IsLargestRequest largest.result h.content) c.heap.ensures.value largest.ensures.largest in
     let none : free_bytes (blocks_of content.pools) ≡ 0 = omega (arith, nothing, c.bytes_of_pools.ensures, free_and_live heap.figures heap.pools content good heap.apart heap.entries heap.figures_are) in
-    omega (arith, none_within largest.result c.most_free-most.result c.most_free-most.ensures (no_request content good largest.result is none), c.saturating_sub-2.ensures, c.from-2.ensures)
+    let zero = no_request content good largest.result is none in
+    let most = none_within largest.result c.most_free-most.result c.most_free-most.ensures zero in
+    (omega (arith, zero, c.saturating_sub.ensures, c.from.ensures), omega (arith, most, c.saturating_sub-2.ensures, c.from-2.ensures))

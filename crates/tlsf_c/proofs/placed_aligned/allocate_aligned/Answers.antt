@@ -1,30 +1,28 @@
 -- What a served memalign leaves of blocks and ranges.
+use Rattle.std.proofs.Common.{rules, IfOk}
 use Rattle.std.proofs.lemmas.Result.{IfOk-weaker}
-use Rattle.tlsf_c.proofs.GivenBlock.{aligned_given, given_size, given_lies, given_in_units}
+use Rattle.tlsf_c.proofs.GivenBlock.{IsGiven, aligned_given, given_size, given_lies, given_in_units}
 use Rattle.tlsf_c.proofs.LiveChanges.{given_change}
 use Rattle.tlsf_c.proofs.placed_aligned.allocate_aligned.Goals as goal
 
-pub returns-clause-in_units : goal.returns-clause-in_units
-returns-clause-in_units c =
-    let old = c.args.heap.now.content in let new = c.memalign-given.new.self.content in
-    IfOk-weaker c.memalign-given.result _ _ (λ ptr served. given_in_units c.args.bytes ptr old new c.keeps_good-2.ensures.good (aligned_given c.args.align c.args.bytes ptr old new c.keeps_good.ensures.good served.ok)) c.memalign-given.ensures.ok
-
-pub returns-clause-lies : goal.returns-clause-lies
-returns-clause-lies c =
-    let old = c.args.heap.now.content in let new = c.memalign-given.new.self.content in
-    IfOk-weaker c.memalign-given.result _ _ (λ ptr served. given_lies c.args.bytes ptr old new c.keeps_good-2.ensures.good (aligned_given c.args.align c.args.bytes ptr old new c.keeps_good.ensures.good served.ok)) c.memalign-given.ensures.ok
-
-pub returns-clause-size : goal.returns-clause-size
-returns-clause-size c =
-    let old = c.args.heap.now.content in let new = c.memalign-given.new.self.content in
-    IfOk-weaker c.memalign-given.result _ _ (λ ptr served. given_size c.args.bytes ptr old new c.keeps_good-2.ensures.good (aligned_given c.args.align c.args.bytes ptr old new c.keeps_good.ensures.good served.ok)) c.memalign-given.ensures.ok
-
-pub returns-clause-live : goal.returns-clause-live
-returns-clause-live c =
-    let old = c.args.heap.now.content in let new = c.memalign-given.new.self.content in
-    IfOk-weaker c.memalign-given.result _ _ (λ ptr served. given_change c.args.bytes ptr old new c.keeps_good.ensures.good c.keeps_good-2.ensures.good (aligned_given c.args.align c.args.bytes ptr old new c.keeps_good.ensures.good served.ok)) c.memalign-given.ensures.ok
-
-pub returns-clause-ranges : goal.returns-clause-ranges
-returns-clause-ranges c =
-    let old = c.args.heap.now.content in let new = c.memalign-given.new.self.content in
-    IfOk-weaker c.memalign-given.result _ _ (λ ptr served. (aligned_given c.args.align c.args.bytes ptr old new c.keeps_good.ensures.good served.ok).same_ranges) c.memalign-given.ensures.ok
+pub returns : goal.returns
+returns c =
+    let bytes = c.args.bytes in
+    let old = c.args.heap.now.content in
+    let new = c.memalign-given.new.self.content in
+    let result = c.memalign-given.result in
+    let good = c.keeps_good.ensures.good in
+    let good_now = c.keeps_good-2.ensures.good in
+    let given : IfOk result (λ ptr. IsGiven bytes ptr old new) = IfOk-weaker result _ _ (λ ptr served. aligned_given c.args.align bytes ptr old new good served.ok) c.memalign-given.ensures.ok in
+    record {
+      ok = search rules;
+      in_units = IfOk-weaker result _ _ (λ ptr is. given_in_units bytes ptr old new good_now is) given;
+      multiple = search rules;
+      lies = IfOk-weaker result _ _ (λ ptr is. given_lies bytes ptr old new good_now is) given;
+      size = IfOk-weaker result _ _ (λ ptr is. given_size bytes ptr old new good_now is) given;
+      live = IfOk-weaker result _ _ (λ ptr is. given_change bytes ptr old new good good_now is) given;
+      ranges = IfOk-weaker result _ _ (λ ptr is. is.same_ranges) given;
+      refused = search rules;
+      unchanged = search rules;
+      bound = search rules;
+    }
