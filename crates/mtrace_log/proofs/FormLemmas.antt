@@ -17,53 +17,53 @@ use Rattle.mtrace_log.proofs.FieldLemmas.{Lacks-address_text, Lacks-pointer_text
 pub spell-form : (event : Event) → spell event ≡ form_text (form event)
 spell-form Start = refl
 spell-form End = refl
-spell-form (Alloc place address size) = refl
-spell-form (Free place address) = refl
-spell-form (Old place address) = refl
-spell-form (New place address size) = refl
-spell-form (Failed place address size) = refl
-spell-form (Aligned place address align size) = refl
+spell-form (Alloc location address size) = refl
+spell-form (Free location address) = refl
+spell-form (Old location address) = refl
+spell-form (New location address size) = refl
+spell-form (Failed location address size) = refl
+spell-form (Aligned location address align size) = refl
 
 -- what the parts of a form can hold
 abbrev pub Fits : Form → Type 0
 Fits (alone line) = Unit {0}
-Fits (marked place mark pointer numbers) = IfSome place IsLocation × IsPointer pointer × IfSome numbers AreNumbers
+Fits (marked location mark pointer numbers) = IfSome location IsLocation × IsPointer pointer × IfSome numbers AreNumbers
 
 pub Fits-form : (event : Event) → IsEvent event → Fits (form event)
 Fits-form Start valid = tt
 Fits-form End valid = tt
-Fits-form (Alloc place address size) valid = valid
-Fits-form (Free place address) valid = (valid.0, valid.1, tt)
-Fits-form (Old place address) valid = (valid.0, valid.1, tt)
-Fits-form (New place address size) valid = valid
-Fits-form (Failed place address size) valid = valid
-Fits-form (Aligned place address align size) valid = (valid.0, valid.1, (valid.2, valid.3))
+Fits-form (Alloc location address size) valid = valid
+Fits-form (Free location address) valid = (valid.0, valid.1, tt)
+Fits-form (Old location address) valid = (valid.0, valid.1, tt)
+Fits-form (New location address size) valid = valid
+Fits-form (Failed location address size) valid = valid
+Fits-form (Aligned location address align size) valid = (valid.0, valid.1, (valid.2, valid.3))
 
 pub IsEvent-form : (event : Event) → Fits (form event) → IsEvent event
 IsEvent-form Start fits = tt
 IsEvent-form End fits = tt
-IsEvent-form (Alloc place address size) fits = fits
-IsEvent-form (Free place address) fits = (fits.0, fits.1)
-IsEvent-form (Old place address) fits = (fits.0, fits.1)
-IsEvent-form (New place address size) fits = fits
-IsEvent-form (Failed place address size) fits = fits
-IsEvent-form (Aligned place address align size) fits = (fits.0, fits.1, fits.2.0, fits.2.1)
+IsEvent-form (Alloc location address size) fits = fits
+IsEvent-form (Free location address) fits = (fits.0, fits.1)
+IsEvent-form (Old location address) fits = (fits.0, fits.1)
+IsEvent-form (New location address size) fits = fits
+IsEvent-form (Failed location address size) fits = fits
+IsEvent-form (Aligned location address align size) fits = (fits.0, fits.1, fits.2.0, fits.2.1)
 
 -- a line alone begins with `=`, and a mark is neither that byte nor `@`
 abbrev pub HasShape : Form → Type 0
 HasShape (alone line) = (get_or line 0 0 ≡ 61) × (length line ≤ 7) × Lacks newline line
-HasShape (marked place mark pointer numbers) = (32 < mark) × (mark < 64) × (mark ≢ 61)
+HasShape (marked location mark pointer numbers) = (32 < mark) × (mark < 64) × (mark ≢ 61)
 
 pub HasShape-form : (event : Event) → HasShape (form event)
 HasShape-form Start =
     (refl, omega arith, (λ e. absurd (omega arith), (λ e. absurd (omega arith), (λ e. absurd (omega arith), (λ e. absurd (omega arith), (λ e. absurd (omega arith), (λ e. absurd (omega arith), (λ e. absurd (omega arith), tt))))))))
 HasShape-form End = (refl, omega arith, (λ e. absurd (omega arith), (λ e. absurd (omega arith), (λ e. absurd (omega arith), (λ e. absurd (omega arith), (λ e. absurd (omega arith), tt))))))
-HasShape-form (Alloc place address size) = (omega arith, omega arith, omega arith)
-HasShape-form (Free place address) = (omega arith, omega arith, omega arith)
-HasShape-form (Old place address) = (omega arith, omega arith, omega arith)
-HasShape-form (New place address size) = (omega arith, omega arith, omega arith)
-HasShape-form (Failed place address size) = (omega arith, omega arith, omega arith)
-HasShape-form (Aligned place address align size) = (omega arith, omega arith, omega arith)
+HasShape-form (Alloc location address size) = (omega arith, omega arith, omega arith)
+HasShape-form (Free location address) = (omega arith, omega arith, omega arith)
+HasShape-form (Old location address) = (omega arith, omega arith, omega arith)
+HasShape-form (New location address size) = (omega arith, omega arith, omega arith)
+HasShape-form (Failed location address size) = (omega arith, omega arith, omega arith)
+HasShape-form (Aligned location address align size) = (omega arith, omega arith, omega arith)
 
 -- ---- the same form is the same event
 
@@ -82,22 +82,22 @@ align_in (Some (align, size)) = or_zero align
 -- the event that has a form
 abbrev event_with : Form → Event
 event_with (alone line) = cond (get_or line 2 0 == 83) Start End
-event_with (marked place mark pointer numbers) =
-    cond (mark == 43) (Alloc place pointer (size_in numbers))
-    (cond (mark == 45) (Free place (or_zero pointer))
-    (cond (mark == 60) (Old place (or_zero pointer))
-    (cond (mark == 62) (New place (or_zero pointer) (size_in numbers))
-    (cond (mark == 33) (Failed place pointer (size_in numbers)) (Aligned place (or_zero pointer) (align_in numbers) (size_in numbers))))))
+event_with (marked location mark pointer numbers) =
+    cond (mark == 43) (Alloc location pointer (size_in numbers))
+    (cond (mark == 45) (Free location (or_zero pointer))
+    (cond (mark == 60) (Old location (or_zero pointer))
+    (cond (mark == 62) (New location (or_zero pointer) (size_in numbers))
+    (cond (mark == 33) (Failed location pointer (size_in numbers)) (Aligned location (or_zero pointer) (align_in numbers) (size_in numbers))))))
 
 event_with-form : (event : Event) → event_with (form event) ≡ event
 event_with-form Start = refl
 event_with-form End = refl
-event_with-form (Alloc place address size) = refl
-event_with-form (Free place address) = refl
-event_with-form (Old place address) = refl
-event_with-form (New place address size) = refl
-event_with-form (Failed place address size) = refl
-event_with-form (Aligned place address align size) = refl
+event_with-form (Alloc location address size) = refl
+event_with-form (Free location address) = refl
+event_with-form (Old location address) = refl
+event_with-form (New location address size) = refl
+event_with-form (Failed location address size) = refl
+event_with-form (Aligned location address align size) = refl
 
 pub form-same : (first second : Event) → form first ≡ form second → first ≡ second
 form-same first second same = sym (event_with-form first) ∙ ap event_with same ∙ event_with-form second
@@ -125,12 +125,12 @@ fields_text-same p q (Some m) (Some n) same =
     (pointer_text-same p q parts.0, ap (λ k. Some k) (numbers_text-same m n parts.1))
 
 -- a mark and the fields behind it
-pub behind-same : (place : Option (List ℕ)) (mark other : ℕ) (p q : Option ℕ) (m n : Option Numbers) → mark ∷ space ∷ fields_text p m ≡ other ∷ space ∷ fields_text q n
-    → marked place mark p m ≡ marked place other q n
-behind-same place mark other p q m n same =
+pub behind-same : (location : Option (List ℕ)) (mark other : ℕ) (p q : Option ℕ) (m n : Option Numbers) → mark ∷ space ∷ fields_text p m ≡ other ∷ space ∷ fields_text q n
+    → marked location mark p m ≡ marked location other q n
+behind-same location mark other p q m n same =
     let marks : mark ≡ other = ap (λ text. get_or text 0 0) same in
     let fields = fields_text-same p q m n (ap (drop 2) same) in
-    ap (λ k. marked place k p m) marks ∙ ap (λ k. marked place other k m) fields.0 ∙ ap (λ k. marked place other q k) fields.1
+    ap (λ k. marked location k p m) marks ∙ ap (λ k. marked location other k m) fields.0 ∙ ap (λ k. marked location other q k) fields.1
 
 pub form_text-same : (f g : Form) → HasShape f → HasShape g → Fits f → Fits g → form_text f ≡ form_text g → f ≡ g
 form_text-same (alone line) (alone other) v w fits_f fits_g same = ap (λ l. alone l) same
@@ -152,7 +152,7 @@ form_text-same (marked (Some k) mark p m) (marked (Some l) other q n) v w fits_f
     let second = append_assoc l (space ∷ []) (other ∷ space ∷ fields_text q n) in
     let cut = split-same space k l (mark ∷ space ∷ fields_text p m) (other ∷ space ∷ fields_text q n) (Lacks-location space k (omega arith) fits_f.0.allowed) (Lacks-location space l (omega arith) fits_g.0.allowed)
     (sym first ∙ ap (drop 2) same ∙ second) in
-    ap (λ place. marked (Some place) mark p m) cut.0 ∙ behind-same (Some l) mark other p q m n cut.1
+    ap (λ location. marked (Some location) mark p m) cut.0 ∙ behind-same (Some l) mark other p q m n cut.1
 
 -- ---- the same line is the same event
 

@@ -9,25 +9,25 @@ use Rattle.mtrace_log.specs.Frequent.{event_at, fields_of, BeginsFields, IsFrequ
 use Rattle.mtrace_log.specs.declared.frequent.Frequent.{Frequent}
 use Rattle.mtrace_log.proofs.SpellingLemmas.{Lacks-spell}
 
-spell-event_at : (place : List ℕ) (address : ℕ) (size : Option ℕ) → spell (event_at place address size) ≡ location_text (Some place) ++ fields_of address size
-spell-event_at place address None = refl
-spell-event_at place address (Some size) = refl
+spell-event_at : (location : List ℕ) (address : ℕ) (size : Option ℕ) → spell (event_at location address size) ≡ location_text (Some location) ++ fields_of address size
+spell-event_at location address None = refl
+spell-event_at location address (Some size) = refl
 
 -- a whole line is read from the front
 pub line-read : (bytes located marked rest : List ℕ) (at : List ℕ) (frequent : Frequent) (count : ℕ) → bytes ≡ codes "@ " ++ located → IsLocation at → located ≡ at ++ space ∷ marked
-    → BeginsFields marked frequent.addr frequent.size rest → frequent.place ≡ length at → count ≡ length bytes - length rest - 1 → BeginsFrequent bytes frequent count
-line-read bytes located marked rest at frequent count begun valid placed fields long counted =
+    → BeginsFields marked frequent.addr frequent.size rest → frequent.location_length ≡ length at → count ≡ length bytes - length rest - 1 → BeginsFrequent bytes frequent count
+line-read bytes located marked rest at frequent count begun valid cut fields long counted =
     let line = location_text (Some at) ++ fields_of frequent.addr frequent.size in
     let same : bytes ≡ line ++ newline ∷ rest =
     begun ∙ ap (λ text. codes "@ " ++ text)
-    (placed ∙ ap (λ text. at ++ space ∷ text) fields.split ∙ sym (append_assoc at (space ∷ []) (fields_of frequent.addr frequent.size ++ newline ∷ rest))
+    (cut ∙ ap (λ text. at ++ space ∷ text) fields.split ∙ sym (append_assoc at (space ∷ []) (fields_of frequent.addr frequent.size ++ newline ∷ rest))
     ∙ sym (append_assoc (at ++ space ∷ []) (fields_of frequent.addr frequent.size) (newline ∷ rest))) in
     record {
       line = line;
       rest = rest;
       split = same;
       long = omega (arith, counted, ap length same, length-append line (newline ∷ rest));
-      says = record { place = at; is_place = valid; long = sym long; valid = fields.valid at valid; spelled = sym (spell-event_at at frequent.addr frequent.size) };
+      says = record { location = at; is_location = valid; long = sym long; valid = fields.valid at valid; spelled = sym (spell-event_at at frequent.addr frequent.size) };
     }
 
 -- ---- the line is taken from the buffer
@@ -63,7 +63,7 @@ frequent-taken bytes start end frequent count found =
     let line = slice_range bytes start (start + count) in
     let P : List ℕ → Type 0 = λ text. IsFrequent text frequent in
     let Q : List ℕ → Type 0 = λ text. Lacks newline text in
-    let lacks : Lacks newline found.line = subst Q (sym found.says.spelled) (Lacks-spell (event_at found.says.place frequent.addr frequent.size) found.says.valid) in (
+    let lacks : Lacks newline found.line = subst Q (sym found.says.spelled) (Lacks-spell (event_at found.says.location frequent.addr frequent.size) found.says.valid) in (
       (subst Q (sym first.0) lacks, found.split ∙ ap (λ text. text ++ newline ∷ found.rest) (sym first.0) ∙ ap (λ text. line ++ newline ∷ text) (sym second.1)),
       subst P (sym first.0) found.says,
     )

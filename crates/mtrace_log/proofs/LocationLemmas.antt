@@ -100,22 +100,22 @@ AllByRecursion-take P [] (suc n) within each = absurd (omega arith)
 AllByRecursion-take P (b ∷ bytes) (suc n) within each = (each 0 (omega arith), AllByRecursion-take P bytes n (omega arith) (λ k below. each (suc k) (omega arith)))
 
 -- a location that a space follows has all bytes that can stand in one
-pub location-end : (bytes place rest : List ℕ) (n : ℕ) → n ≤ length bytes → ((k : ℕ) → k < n → IsLocationByte (get_or bytes k 0)) → (n < length bytes → ¬ IsLocationByte (get_or bytes n 0))
-    → AllByRecursion IsLocationByte place → bytes ≡ place ++ space ∷ rest → n ≡ length place
-location-end bytes place rest n within each ended all same =
-    let lengths : length bytes ≡ length place + suc (length rest) = ap length same ∙ length-append place (space ∷ rest) in
-    elim (cases_order n (length place)) [
+pub location-end : (bytes location rest : List ℕ) (n : ℕ) → n ≤ length bytes → ((k : ℕ) → k < n → IsLocationByte (get_or bytes k 0)) → (n < length bytes → ¬ IsLocationByte (get_or bytes n 0))
+    → AllByRecursion IsLocationByte location → bytes ≡ location ++ space ∷ rest → n ≡ length location
+location-end bytes location rest n within each ended all same =
+    let lengths : length bytes ≡ length location + suc (length rest) = ap length same ∙ length-append location (space ∷ rest) in
+    elim (cases_order n (length location)) [
       | inl equal ↦ equal
       | inr other ↦ elim other [
-        | inl less ↦ absurd (ended (omega arith) (rw (ap (λ text. get_or text n 0) same ∙ get_or_append_left place (space ∷ rest) 0 n less) (AllByRecursion-at IsLocationByte place n less all)))
+        | inl less ↦ absurd (ended (omega arith) (rw (ap (λ text. get_or text n 0) same ∙ get_or_append_left location (space ∷ rest) 0 n less) (AllByRecursion-at IsLocationByte location n less all)))
         | inr more ↦ absurd (
-            let byte : get_or bytes (length place) 0 ≡ space = ap (λ text. get_or text (length place) 0) same ∙ get_or-append_seam place space rest 0 in
-            let allowed = each (length place) more in
+            let byte : get_or bytes (length location) 0 ≡ space = ap (λ text. get_or text (length location) 0) same ∙ get_or-append_seam location space rest 0 in
+            let allowed = each (length location) more in
             omega (arith, allowed.0))
       ]
     ]
 
 -- the bytes are cut there
-pub location-cut : (bytes place rest : List ℕ) (n : ℕ) → n ≡ length place → bytes ≡ place ++ space ∷ rest → take (length bytes - n) (drop n bytes) ≡ space ∷ rest
-location-cut bytes place rest n end same =
-    take_rest bytes n ∙ ap (λ m. drop m bytes) end ∙ ap (drop (length place)) same ∙ drop-append_seam place (space ∷ rest)
+pub location-cut : (bytes location rest : List ℕ) (n : ℕ) → n ≡ length location → bytes ≡ location ++ space ∷ rest → take (length bytes - n) (drop n bytes) ≡ space ∷ rest
+location-cut bytes location rest n end same =
+    take_rest bytes n ∙ ap (λ m. drop m bytes) end ∙ ap (drop (length location)) same ∙ drop-append_seam location (space ∷ rest)

@@ -28,15 +28,15 @@ Lacks-fields_text pointer None = Lacks-pointer_text newline pointer (omega arith
 Lacks-fields_text pointer (Some numbers) =
     AllByRecursion-append (λ b. b ≢ newline) (pointer_text pointer) (space ∷ numbers_text numbers) (Lacks-pointer_text newline pointer (omega arith)) (λ e. absurd (omega arith), Lacks-numbers_text numbers)
 
-Lacks-location_text : (place : Option (List ℕ)) → IfSome place IsLocation → Lacks newline (location_text place)
+Lacks-location_text : (location : Option (List ℕ)) → IfSome location IsLocation → Lacks newline (location_text location)
 Lacks-location_text None valid = tt
 Lacks-location_text (Some location) valid =
     (λ e. absurd (omega arith), (λ e. absurd (omega arith), AllByRecursion-append (λ b. b ≢ newline) location (space ∷ []) (Lacks-location newline location (omega arith) valid.allowed) (λ e. absurd (omega arith), tt)))
 
 Lacks-form_text : (f : Form) → HasShape f → Fits f → Lacks newline (form_text f)
 Lacks-form_text (alone line) shape fits = shape.2
-Lacks-form_text (marked place mark pointer numbers) shape fits =
-    AllByRecursion-append (λ b. b ≢ newline) (location_text place) (mark ∷ space ∷ fields_text pointer numbers) (Lacks-location_text place fits.0)
+Lacks-form_text (marked location mark pointer numbers) shape fits =
+    AllByRecursion-append (λ b. b ≢ newline) (location_text location) (mark ∷ space ∷ fields_text pointer numbers) (Lacks-location_text location fits.0)
     (λ e. absurd (omega (arith, shape.0)), (λ e. absurd (omega arith), Lacks-fields_text pointer numbers))
 
 pub Lacks-spell : (event : Event) → IsEvent event → Lacks newline (spell event)
@@ -55,7 +55,7 @@ length-size_text : (size : ℕ) → IsSize size → length (size_text size) ≤ 
 length-size_text zero fits = omega arith
 length-size_text (suc n) fits = length-address_text (suc n) fits
 
-length-location_text : (place : Option (List ℕ)) → IfSome place IsLocation → length (location_text place) ≤ 258
+length-location_text : (location : Option (List ℕ)) → IfSome location IsLocation → length (location_text location) ≤ 258
 length-location_text None valid = omega arith
 length-location_text (Some location) valid = omega (arith, valid.short, length-append location (space ∷ []))
 
@@ -71,10 +71,10 @@ length-fields_text pointer (Some numbers) address fit =
 
 length-form_text : (f : Form) → HasShape f → Fits f → length (form_text f) ≤ longest_line
 length-form_text (alone line) shape fits = omega (arith, shape.1)
-length-form_text (marked place mark pointer numbers) shape fits =
-    let location = length-location_text place fits.0 in
+length-form_text (marked location mark pointer numbers) shape fits =
+    let front = length-location_text location fits.0 in
     let fields = length-fields_text pointer numbers fits.1 fits.2 in
-    let whole = length-append (location_text place) (mark ∷ space ∷ fields_text pointer numbers) in
+    let whole = length-append (location_text location) (mark ∷ space ∷ fields_text pointer numbers) in
     omega arith
 
 pub length-spell : (event : Event) → IsEvent event → length (spell event) ≤ longest_line

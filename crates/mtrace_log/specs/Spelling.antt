@@ -20,20 +20,20 @@ location_text (Some location) = codes "@ " ++ (location ++ space ∷ [])
 abbrev pub spell : Event → List ℕ
 spell Start = codes "= Start"
 spell End = codes "= End"
-spell (Alloc place address size) = location_text place ++ (codes "+ " ++ (pointer_text address ++ space ∷ size_text size))
-spell (Free place address) = location_text place ++ (codes "- " ++ address_text address)
-spell (Old place address) = location_text place ++ (codes "< " ++ address_text address)
-spell (New place address size) = location_text place ++ (codes "> " ++ (address_text address ++ space ∷ size_text size))
-spell (Failed place address size) = location_text place ++ (codes "! " ++ (pointer_text address ++ space ∷ size_text size))
-spell (Aligned place address align size) = location_text place ++ (codes "* " ++ (address_text address ++ space ∷ (address_text align ++ space ∷ size_text size)))
+spell (Alloc location address size) = location_text location ++ (codes "+ " ++ (pointer_text address ++ space ∷ size_text size))
+spell (Free location address) = location_text location ++ (codes "- " ++ address_text address)
+spell (Old location address) = location_text location ++ (codes "< " ++ address_text address)
+spell (New location address size) = location_text location ++ (codes "> " ++ (address_text address ++ space ∷ size_text size))
+spell (Failed location address size) = location_text location ++ (codes "! " ++ (pointer_text address ++ space ∷ size_text size))
+spell (Aligned location address align size) = location_text location ++ (codes "* " ++ (address_text address ++ space ∷ (address_text align ++ space ∷ size_text size)))
 
 -- what the fields of an event can hold
 abbrev pub IsEvent : Event → Type 0
 IsEvent Start = Unit {0}
 IsEvent End = Unit {0}
-IsEvent (Alloc place address size) = IfSome place IsLocation × IfSome address IsAddress × (size < 2 ^ 64)
-IsEvent (Free place address) = IfSome place IsLocation × IsAddress address
-IsEvent (Old place address) = IfSome place IsLocation × IsAddress address
-IsEvent (New place address size) = IfSome place IsLocation × IsAddress address × (size < 2 ^ 64)
-IsEvent (Failed place address size) = IfSome place IsLocation × IfSome address IsAddress × (size < 2 ^ 64)
-IsEvent (Aligned place address align size) = IfSome place IsLocation × IsAddress address × IsAddress align × (size < 2 ^ 64)
+IsEvent (Alloc location address size) = IfSome location IsLocation × IfSome address IsAddress × (size < 2 ^ 64)
+IsEvent (Free location address) = IfSome location IsLocation × IsAddress address
+IsEvent (Old location address) = IfSome location IsLocation × IsAddress address
+IsEvent (New location address size) = IfSome location IsLocation × IsAddress address × (size < 2 ^ 64)
+IsEvent (Failed location address size) = IfSome location IsLocation × IfSome address IsAddress × (size < 2 ^ 64)
+IsEvent (Aligned location address align size) = IfSome location IsLocation × IsAddress address × IsAddress align × (size < 2 ^ 64)

@@ -11,11 +11,11 @@ use crate::event::Event;
 use crate::line_reader::{behind_at, front_addr, split_mark};
 use crate::location::{LentLocation, behind_space};
 
-/// What a line says that names its place, and frees a block or asks for one and is given it.
+/// What a line says that names its location, and frees a block or asks for one and is given it.
 #[derive(Clone, Copy)]
 pub(crate) struct Frequent {
-    // How many bytes the place has.
-    place: usize,
+    // How many bytes the location has.
+    location_length: usize,
     addr: Addr,
     // How many bytes were asked for, if any were.
     size: Option<u64>,
@@ -31,10 +31,10 @@ fn behind_newline(bytes: &[u8]) -> Option<&[u8]>
     Some(rest)
 }
 
-/// What `- ADDR` or `+ ADDR SIZE` with its newline at the front says behind a place of this many bytes, and what stands behind it.
+/// What `- ADDR` or `+ ADDR SIZE` with its newline at the front says behind a location of this many bytes, and what stands behind it.
 #[inline(always)]
-fn front_fields(place: usize, bytes: &[u8]) -> Option<(Frequent, &[u8])>
-    ensures { IfSome result (λ front. (front.0.place ≡ place) × BeginsFields bytes.now front.0.addr front.0.size front.1.now) }
+fn front_fields(location_length: usize, bytes: &[u8]) -> Option<(Frequent, &[u8])>
+    ensures { IfSome result (λ front. (front.0.location_length ≡ location_length) × BeginsFields bytes.now front.0.addr front.0.size front.1.now) }
 {
     let (mark, fields) = split_mark(bytes)?;
     let Some((addr, behind)) = front_addr(fields) else {
@@ -43,7 +43,14 @@ fn front_fields(place: usize, bytes: &[u8]) -> Option<(Frequent, &[u8])>
     if mark == b'-' {
         let rest = behind_newline(behind)?;
         let size = None;
-        return Some((Frequent { place, addr, size }, rest));
+        return Some((
+            Frequent {
+                location_length,
+                addr,
+                size,
+            },
+            rest,
+        ));
     }
     if mark != b'+' {
         return None;
@@ -54,7 +61,14 @@ fn front_fields(place: usize, bytes: &[u8]) -> Option<(Frequent, &[u8])>
     };
     let rest = behind_newline(end)?;
     let size = Some(size.value());
-    Some((Frequent { place, addr, size }, rest))
+    Some((
+        Frequent {
+            location_length,
+            addr,
+            size,
+        },
+        rest,
+    ))
 }
 
 /// What the line at the front says, where it is one of these with its newline, and how many bytes it has.
@@ -79,7 +93,7 @@ impl Frequent {
         requires { IsFrequent line.now self }
         ensures { ReadsAs line.now (Ok result) }
     {
-        let text = &line[2..2 + self.place];
+        let text = &line[2..2 + self.location_length];
         let at = Some(LentLocation { text });
         match self.size {
             Some(size) => Event::Alloc {

@@ -168,7 +168,7 @@ fn read_marked(bytes: &[u8]) -> Option<(u8, Option<Addr>, Option<Numbers>)>
 /// What a line says, with its location where it lies in the line.
 type Lent<'a> = Result<Event<LentLocation<'a>>, LineFault>;
 
-/// The event with this place, mark and fields.
+/// The event with this location, mark and fields.
 #[inline(always)]
 fn event_of<'a>(
     at: Option<LentLocation<'a>>,

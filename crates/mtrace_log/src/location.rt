@@ -113,7 +113,7 @@ impl<'a> LentLocation<'a> {
 
     /// The location at the front, and what stands behind the space that ends it.
     pub(crate) fn front(bytes: &'a [u8]) -> Option<(LentLocation<'a>, &'a [u8])>
-        ensures { MatchOption result ((place rest : List ℕ) → IsLocation place → bytes.now ≢ place ++ space ∷ rest)
+        ensures { MatchOption result ((location rest : List ℕ) → IsLocation location → bytes.now ≢ location ++ space ∷ rest)
             (λ parts. IsLocation parts.0 × (bytes.now ≡ parts.0 ++ space ∷ parts.1.now)) }
     {
         let end = location_end(bytes);

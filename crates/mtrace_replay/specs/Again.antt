@@ -6,6 +6,7 @@ use Rattle.mtrace_log.specs.HasRead.{HasRead, HasReadAll}
 use Rattle.mtrace_log.specs.Progress.{most_asked}
 use Rattle.mtrace_log.specs.Trace.{HasNotFailed, HasGivenAll}
 use Rattle.mtrace_replay.specs.declared.heap.settings.Settings.{Settings}
+use Rattle.mtrace_replay.specs.Course.{Course, shown_before, shown_after, until, since}
 use Rattle.mtrace_replay.specs.Moment.{ReadLine}
 use Rattle.mtrace_replay.specs.Replay.{Replayed, StandsFor}
 use Rattle.mtrace_replay.specs.declared.runs.report.Report.TheVariants.{Nothing}
@@ -61,35 +62,34 @@ pub record ReplaysFirst {E : Type 0} (many : ℕ) (result : Result (Unit {0}) E)
 
 -- What follows a first reading. The log was read again, and a text was written: a beginning where the writer failed,
 -- nothing where the reader did.
-pub record Follows {R W : Type 0} (Tells : (left_new : Bytes) (text : List ℕ) → Type 0) (HasWorked Fails : (reader_old reader_new : ReaderState) → Type 0) (reads : R → ReaderState) (writes : W → WriterState)
-    (result : Result Status RunFault) (reader_old reader_new : R) (writer_old writer_new : W) : Type 0 where
+pub record Follows {R W : Type 0} (Tells : (left_new : Bytes) (text : List ℕ) → Type 0) (HasWorked Fails : (reader_old reader_new : ReaderState) → Type 0)
+    (result : Result Status RunFault) (reader : Course R ReaderState) (writer : Course W WriterState) : Type 0 where
   pub faults : IfErr result (λ fault. (fault ≡ Read) ⊎ (fault ≡ Write))
-  pub told : result ≢ Err Read → (text : List ℕ) × Tells (reads reader_new).left text × PutsAndFlushes result text (writes writer_old) (writes writer_new)
-  pub reader_not_failed : result ≢ Err Read → HasWorked (reads reader_old) (reads reader_new)
-  pub read_fault : IsErrOf result Read → Fails (reads reader_old) (reads reader_new)
-  pub nothing_put : IsErrOf result Read → writer_new ≡ writer_old
+  pub told : result ≢ Err Read → (text : List ℕ) × Tells (shown_after reader).left text × PutsAndFlushes result text (shown_before writer) (shown_after writer)
+  pub reader_not_failed : result ≢ Err Read → HasWorked (shown_before reader) (shown_after reader)
+  pub read_fault : IsErrOf result Read → Fails (shown_before reader) (shown_after reader)
+  pub nothing_put : IsErrOf result Read → writer.new ≡ writer.old
 
--- the log was read to its end and its diagnostics written, and then what follows for its lines
-pub record EndsAgain {R W : Type 0} (settings : Settings) (Follows : List ReadLine → Result Status RunFault → R → R → W → W → Type 0) (status : Status)
-    (reads : R → ReaderState) (writes : W → WriterState) (result : Result Status RunFault) (reader_old reader_middle reader_new : R) (writer_old writer_middle writer_new : W) : Type 0 where
-  pub reports : Reports Nothing settings status (reads reader_old) (reads reader_middle) (writes writer_old) (writes writer_middle)
+-- the log was read to its end and its diagnostics written, up to the middle, and then what follows for its lines
+pub record EndsAgain {R W : Type 0} (settings : Settings) (Follows : List ReadLine → Result Status RunFault → Course R ReaderState → Course W WriterState → Type 0)
+    (status : Status) (result : Result Status RunFault) (reader : Course R ReaderState) (writer : Course W WriterState) (reader_middle : R) (writer_middle : W) : Type 0 where
+  pub reports : Reports Nothing settings status (shown_before reader) (reader.shown reader_middle) (shown_before writer) (writer.shown writer_middle)
   pub answer : IfOk result (λ answered. answered ≡ status)
-  pub follow : Follows reports.lines result reader_middle reader_new writer_middle writer_new
+  pub follow : Follows reports.lines result (since reader reader_middle) (since writer writer_middle)
 
 -- what follows a run: where that failed nothing more was done, and its fault is the answer
-abbrev pub GoesOnFrom : {R W : Type 0} → (settings : Settings) (Follows : List ReadLine → Result Status RunFault → R → R → W → W → Type 0) (reads : R → ReaderState) (writes : W → WriterState)
-    → (run result : Result Status RunFault) (reader_old reader_middle reader_new : R) (writer_old writer_middle writer_new : W) → Type 0
-GoesOnFrom settings Follows reads writes (Ok status) result reader_old reader_middle reader_new writer_old writer_middle writer_new =
-    EndsAgain settings Follows status reads writes result reader_old reader_middle reader_new writer_old writer_middle writer_new
-GoesOnFrom settings Follows reads writes (Err fault) result reader_old reader_middle reader_new writer_old writer_middle writer_new =
-    (result ≡ Err fault) × NothingDone reader_middle reader_new writer_middle writer_new
+abbrev pub GoesOnFrom : {R W : Type 0} → (settings : Settings) (Follows : List ReadLine → Result Status RunFault → Course R ReaderState → Course W WriterState → Type 0)
+    → (run result : Result Status RunFault) (reader : Course R ReaderState) (writer : Course W WriterState) (reader_middle : R) (writer_middle : W) → Type 0
+GoesOnFrom settings Follows (Ok status) result reader writer reader_middle writer_middle =
+    EndsAgain settings Follows status result reader writer reader_middle writer_middle
+GoesOnFrom settings Follows (Err fault) result reader writer reader_middle writer_middle =
+    (result ≡ Err fault) × NothingDone (since reader reader_middle) (since writer writer_middle)
 
--- What a run leaves that reads its log again: first a run without a report, in the middle.
-pub record RunsAgain {R W : Type 0} (settings : Settings) (Follows : List ReadLine → Result Status RunFault → R → R → W → W → Type 0)
-    (reads : R → ReaderState) (writes : W → WriterState)
-    (result : Result Status RunFault) (reader_old reader_new : R) (writer_old writer_new : W) : Type 0 where
+-- What a run leaves that reads its log again: first a run without a report, up to the middle.
+pub record RunsAgain {R W : Type 0} (settings : Settings) (Follows : List ReadLine → Result Status RunFault → Course R ReaderState → Course W WriterState → Type 0)
+    (result : Result Status RunFault) (reader : Course R ReaderState) (writer : Course W WriterState) : Type 0 where
   pub run : Result Status RunFault
   pub reader_middle : R
   pub writer_middle : W
-  pub runs : Runs Nothing settings reads writes run reader_old reader_middle writer_old writer_middle
-  pub goes_on : GoesOnFrom settings Follows reads writes run result reader_old reader_middle reader_new writer_old writer_middle writer_new
+  pub runs : Runs Nothing settings run (until reader reader_middle) (until writer writer_middle)
+  pub goes_on : GoesOnFrom settings Follows run result reader writer reader_middle writer_middle

@@ -39,8 +39,8 @@ pub record LooksUp (times : ℕ) (old new : Indexed) : Type 0 where
 
 -- the address stands at the key there, held or not, or else it would stand there
 pub record IsFound (keys : List Key) (found : LookUp) : Type 0 where
-  pub held : IfOk found.place (StandsAt keys found.address)
-  pub absent : IfErr found.place (FitsAt keys found.address)
+  pub held : IfOk found.position (StandsAt keys found.address)
+  pub absent : IfErr found.position (FitsAt keys found.address)
 
 -- look-ups found where the address stands, and changed nothing
 pub record FindsAddress (times wanted : ℕ) (answer : LookUp) (old new : Indexed) : Type 0 where

@@ -5,6 +5,7 @@ pub mod Asked
 pub mod Callers
 pub mod Calls
 pub mod Compare
+pub mod Course
 pub mod Enough
 pub mod Entry
 pub mod Fit

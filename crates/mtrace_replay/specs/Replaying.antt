@@ -9,6 +9,7 @@ use Rattle.mtrace_log.specs.declared.event.LineFault.{LineFault}
 use Rattle.mtrace_log.specs.declared.line.ReadFault.{ReadFault}
 use Rattle.mtrace_replay.specs.declared.runs.following.Stop.{Stop}
 use Rattle.mtrace_replay.specs.declared.runs.following.Stop.TheVariants.{Memory}
+use Rattle.mtrace_replay.specs.Course.{Course, shown_before, shown_after}
 use Rattle.mtrace_replay.specs.LineReplay.{LineRules}
 use Rattle.mtrace_replay.specs.Again.{StopsEarly}
 
@@ -36,17 +37,17 @@ HasGivenSo stage start now = CallsFor stage start.calls now.calls × HasNotFaile
 
 -- What a call leaves that reads and follows the lines up to one. With them what was so is so. Or memory was refused, or the reader
 -- failed, or has fewer lines.
-pub record FollowsUpTo {R : Type 0} (rules : LineRules R) (number : ℕ) (result : Result (Unit {0}) Stop) (old new : Progress) (replay_old replay_new : R)
-    (reader_old reader_new : ReaderState) : Type 0 where
+pub record FollowsUpTo {P R : Type 0} (rules : LineRules P) (number : ℕ) (result : Result (Unit {0}) Stop) (old new : Progress) (replay_old replay_new : P)
+    (reader : Course R ReaderState) : Type 0 where
   pub counted : OnOk result (rules.lines replay_new ≡ new.count)
   pub ready : OnOk result (rules.IsReady replay_new)
   pub reached : OnOk result (new.count ≡ number)
-  pub following : OnOk result ((begin : rules.Start) (start : ReaderState) (so_far : IsFollowed (rules.Stands begin replay_old) old start reader_old)
-      → IsFollowedOn (rules.Stands begin replay_new) so_far.lines new start reader_new)
-  pub gave : OnOk result ((start : ReaderState) → HasGivenSo old.stage start reader_old → HasGivenSo new.stage start reader_new)
+  pub following : OnOk result ((begin : rules.Start) (start : ReaderState) (so_far : IsFollowed (rules.Stands begin replay_old) old start (shown_before reader))
+      → IsFollowedOn (rules.Stands begin replay_new) so_far.lines new start (shown_after reader))
+  pub gave : OnOk result ((start : ReaderState) → HasGivenSo old.stage start (shown_before reader) → HasGivenSo new.stage start (shown_after reader))
   pub lacks : IfErr result (λ stop. stop ≡ Memory → rules.Lacks)
-  pub memory : IfErr result (λ stop. stop ≡ Memory → (start : ReaderState) → HasGivenSo old.stage start reader_old → HasNotFailed start.calls reader_new.calls)
-  pub stops : IfErr result (λ stop. stop ≢ Memory → (begin : rules.Start) (start : ReaderState) (many : ℕ) → IsFollowed (rules.Stands begin replay_old) old start reader_old
-      → HasGivenSo old.stage start reader_old → number ≤ many → many ≤ greatest_number → StopsEarly many start reader_new)
-  pub whole : reader_new.whole ≡ reader_old.whole
+  pub memory : IfErr result (λ stop. stop ≡ Memory → (start : ReaderState) → HasGivenSo old.stage start (shown_before reader) → HasNotFailed start.calls (shown_after reader).calls)
+  pub stops : IfErr result (λ stop. stop ≢ Memory → (begin : rules.Start) (start : ReaderState) (many : ℕ) → IsFollowed (rules.Stands begin replay_old) old start (shown_before reader)
+      → HasGivenSo old.stage start (shown_before reader) → number ≤ many → many ≤ greatest_number → StopsEarly many start (shown_after reader))
+  pub whole : (shown_after reader).whole ≡ (shown_before reader).whole
   pub fixed : rules.fixed replay_new ≡ rules.fixed replay_old

@@ -14,6 +14,7 @@ use Rattle.mtrace_replay.specs.declared.runs.status.Status.{Status}
 use Rattle.mtrace_replay.specs.declared.runs.status.Status.TheVariants.{Clean, Found}
 use Rattle.mtrace_replay.specs.declared.runs.status.RunFault.{RunFault}
 use Rattle.mtrace_replay.specs.declared.runs.status.RunFault.TheVariants.{Read, Write, OutOfMemory, BadSettings, Image}
+use Rattle.mtrace_replay.specs.Course.{Course, shown_before, shown_after}
 use Rattle.mtrace_replay.specs.Settings.{are_bad}
 use Rattle.mtrace_replay.specs.Started.{Bare, started}
 use Rattle.mtrace_replay.specs.Totals.{AreTotals}
@@ -123,28 +124,24 @@ pub record RunsToWrite (report : Report) (settings : Settings) (reader_old reade
   pub reader_not_failed : HasNotFailed reader_old.calls reader_new.calls
 
 -- nothing was asked of the reader, nor of the writer
-abbrev pub NothingDone : {R W : Type 0} → (reader_old reader_new : R) (writer_old writer_new : W) → Type 0
-NothingDone reader_old reader_new writer_old writer_new = (reader_new ≡ reader_old) × (writer_new ≡ writer_old)
+abbrev pub NothingDone : {R W : Type 0} → Course R ReaderState → Course W WriterState → Type 0
+NothingDone reader writer = (reader.new ≡ reader.old) × (writer.new ≡ writer.old)
 
 -- how a run ended, by what it answers, which is never `Image`
-abbrev pub RunEnds : {R W : Type 0} → Report → Settings → (reads : R → ReaderState) (writes : W → WriterState) → Result Status RunFault
-    → (reader_old reader_new : R) (writer_old writer_new : W) → Type 0
-RunEnds report settings reads writes (Ok status) reader_old reader_new writer_old writer_new =
-    RunsToEnd report settings status (reads reader_old) (reads reader_new) (writes writer_old) (writes writer_new)
-RunEnds report settings reads writes (Err Read) reader_old reader_new writer_old writer_new =
-    RunsToRead settings (reads reader_old) (reads reader_new) (writes writer_old) (writes writer_new)
-RunEnds report settings reads writes (Err Write) reader_old reader_new writer_old writer_new =
-    RunsToWrite report settings (reads reader_old) (reads reader_new) (writes writer_old) (writes writer_new)
-RunEnds report settings reads writes (Err OutOfMemory) reader_old reader_new writer_old writer_new = NothingDone reader_old reader_new writer_old writer_new
-RunEnds report settings reads writes (Err BadSettings) reader_old reader_new writer_old writer_new = NothingDone reader_old reader_new writer_old writer_new
-RunEnds report settings reads writes (Err Image) reader_old reader_new writer_old writer_new = ⊥
+abbrev pub RunEnds : {R W : Type 0} → Report → Settings → Result Status RunFault → Course R ReaderState → Course W WriterState → Type 0
+RunEnds report settings (Ok status) reader writer = RunsToEnd report settings status (shown_before reader) (shown_after reader) (shown_before writer) (shown_after writer)
+RunEnds report settings (Err Read) reader writer = RunsToRead settings (shown_before reader) (shown_after reader) (shown_before writer) (shown_after writer)
+RunEnds report settings (Err Write) reader writer = RunsToWrite report settings (shown_before reader) (shown_after reader) (shown_before writer) (shown_after writer)
+RunEnds report settings (Err OutOfMemory) reader writer = NothingDone reader writer
+RunEnds report settings (Err BadSettings) reader writer = NothingDone reader writer
+RunEnds report settings (Err Image) reader writer = ⊥
 
 -- What a run leaves. The answer is bad settings exactly where they are bad, and the reader has the same bytes in whole.
-pub record Runs {R W : Type 0} (report : Report) (settings : Settings) (reads : R → ReaderState) (writes : W → WriterState)
-    (result : Result Status RunFault) (reader_old reader_new : R) (writer_old writer_new : W) : Type 0 where
-  pub ends : RunEnds report settings reads writes result reader_old reader_new writer_old writer_new
+pub record Runs {R W : Type 0} (report : Report) (settings : Settings) (result : Result Status RunFault)
+    (reader : Course R ReaderState) (writer : Course W WriterState) : Type 0 where
+  pub ends : RunEnds report settings result reader writer
   pub bad_settings : IsErrOf result BadSettings ↔ IsTrue (are_bad settings)
-  pub whole : (reads reader_new).whole ≡ (reads reader_old).whole
+  pub whole : (shown_after reader).whole ≡ (shown_before reader).whole
 
 -- what a replay writes at the end: the diagnostic of the last line, and the report
 abbrev pub end_text : Report → Replayed → List ℕ

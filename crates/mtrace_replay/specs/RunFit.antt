@@ -10,6 +10,7 @@ use Rattle.mtrace_replay.specs.declared.runs.status.Status.{Status}
 use Rattle.mtrace_replay.specs.declared.runs.status.RunFault.{RunFault}
 use Rattle.mtrace_replay.specs.declared.runs.status.RunFault.TheVariants.{BadSettings}
 use Rattle.mtrace_replay.specs.declared.heap.totals.Totals.{Totals}
+use Rattle.mtrace_replay.specs.Course.{Course, shown_before}
 use Rattle.mtrace_replay.specs.Started.{started}
 use Rattle.mtrace_replay.specs.Totals.{blocks_in, rounded_bytes_in, AreTotals, IsMost, is_refused}
 use Rattle.mtrace_replay.specs.Moment.{ReadLine}
@@ -107,18 +108,14 @@ pub record ReadsAgain {T E : Type 0} (many : ℕ) (Tells : T → (times : ℕ) �
   pub read : OnErr result (FailsLater many old new)
 
 -- the log whose lines these are was read again, once for each size, and what they tell was written
-abbrev pub FitFollows : {R W : Type 0} → (step : Option ℕ) (lines : List ReadLine) (reads : R → ReaderState) (writes : W → WriterState)
-    → Result Status RunFault → (reader_old reader_new : R) (writer_old writer_new : W) → Type 0
-FitFollows step lines reads writes result reader_old reader_new writer_old writer_new =
-    (times : ℕ) × Follows (λ left_new. TellsFit step lines (reads reader_old).whole times) (λ old new. HasBegun times old.calls new.calls) (FailsLater (length lines)) reads writes
-    result reader_old reader_new writer_old writer_new
+abbrev pub FitFollows : {R W : Type 0} → (step : Option ℕ) (lines : List ReadLine) → Result Status RunFault → Course R ReaderState → Course W WriterState → Type 0
+FitFollows step lines result reader writer =
+    (times : ℕ) × Follows (λ left_new. TellsFit step lines (shown_before reader).whole times) (λ old new. HasBegun times old.calls new.calls) (FailsLater (length lines)) result reader writer
 
 -- What a run leaves that tells how large a pool a log needs. `BadSettings` comes exactly where the step is bad, and
 -- then nothing is done. Else there is first a run without a report on the greatest pool, and then the log is read
 -- again.
-pub record RunsFit {R W : Type 0} (step : Option ℕ) (reads : R → ReaderState) (writes : W → WriterState)
-    (result : Result Status RunFault) (reader_old reader_new : R) (writer_old writer_new : W) : Type 0 where
+pub record RunsFit {R W : Type 0} (step : Option ℕ) (result : Result Status RunFault) (reader : Course R ReaderState) (writer : Course W WriterState) : Type 0 where
   pub bad_step : IsErrOf result BadSettings ↔ IsTrue (is_bad_step step)
-  pub nothing_done : IsErrOf result BadSettings → NothingDone reader_old reader_new writer_old writer_new
-  pub runs : is_bad_step step ≡ false
-      → RunsAgain greatest_settings (λ lines. FitFollows step lines reads writes) reads writes result reader_old reader_new writer_old writer_new
+  pub nothing_done : IsErrOf result BadSettings → NothingDone reader writer
+  pub runs : is_bad_step step ≡ false → RunsAgain greatest_settings (FitFollows step) result reader writer

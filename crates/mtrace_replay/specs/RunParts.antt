@@ -8,6 +8,7 @@ use Rattle.mtrace_replay.specs.declared.runs.status.RunFault.{RunFault}
 use Rattle.mtrace_replay.specs.declared.runs.status.RunFault.TheVariants.{Write, BadSettings, OutOfMemory}
 use Rattle.mtrace_replay.specs.declared.no_heap.report.LedgerReport.TheVariants.{Nothing}
 use Rattle.mtrace_replay.specs.declared.parts.replay.CountedReplay.{CountedReplay}
+use Rattle.mtrace_replay.specs.Course.{Course, shown_before, shown_after}
 use Rattle.mtrace_replay.specs.Moment.{ReadLine}
 use Rattle.mtrace_replay.specs.Run.{NothingDone}
 use Rattle.mtrace_replay.specs.Served.{IsServed}
@@ -48,10 +49,10 @@ pub record RunsThenParts (heaps : ℕ) (result : Result Status RunFault) (reader
 
 -- What a run leaves that tells at most `heaps` heaps by size that serve a log. Where there are no heaps, or more than eight,
 -- nothing is done; nor where memory is refused before the first line.
-pub record RunsParts {R W : Type 0} (heaps : ℕ) (reads : R → ReaderState) (writes : W → WriterState) (result : Result Status RunFault) (reader_old reader_new : R) (writer_old writer_new : W) : Type 0 where
-  pub bad_heaps : is_bad_heaps heaps ≡ true → (result ≡ Err BadSettings) × NothingDone reader_old reader_new writer_old writer_new
-  pub runs : is_bad_heaps heaps ≡ false → (IsErrOf result OutOfMemory × NothingDone reader_old reader_new writer_old writer_new)
-      ⊎ RunsThenParts heaps result (reads reader_old) (reads reader_new) (writes writer_old) (writes writer_new)
+pub record RunsParts {R W : Type 0} (heaps : ℕ) (result : Result Status RunFault) (reader : Course R ReaderState) (writer : Course W WriterState) : Type 0 where
+  pub bad_heaps : is_bad_heaps heaps ≡ true → (result ≡ Err BadSettings) × NothingDone reader writer
+  pub runs : is_bad_heaps heaps ≡ false → (IsErrOf result OutOfMemory × NothingDone reader writer)
+      ⊎ RunsThenParts heaps result (shown_before reader) (shown_after reader) (shown_before writer) (shown_after writer)
 
 -- nothing was followed yet
 pub record IsStart (replay : CountedReplay) : Type 0 where

@@ -8,6 +8,7 @@ use Rattle.mtrace_replay.specs.declared.no_heap.report.LedgerReport.TheVariants.
 use Rattle.mtrace_replay.specs.declared.runs.status.Status.{Status}
 use Rattle.mtrace_replay.specs.declared.runs.status.RunFault.{RunFault}
 use Rattle.mtrace_replay.specs.declared.runs.status.RunFault.TheVariants.{BadSettings, OutOfMemory}
+use Rattle.mtrace_replay.specs.Course.{Course, shown_before, shown_after, since}
 use Rattle.mtrace_replay.specs.Moment.{ReadLine}
 use Rattle.mtrace_replay.specs.Totals.{IsPeak}
 use Rattle.mtrace_replay.specs.Texts.{ledger_timeline_text}
@@ -33,39 +34,36 @@ pub record TellsServedTimeline (parts : ℕ) (lines : List ReadLine) (whole left
 
 -- What follows the first reading. The log was read again, and what is held over its lines was written. Or memory was refused: then
 -- nothing more was written, and the reader had not failed.
-pub record ServedTimelineFollows {R W : Type 0} (parts : ℕ) (lines : List ReadLine) (reads : R → ReaderState) (writes : W → WriterState)
-    (result : Result Status RunFault) (reader_old reader_new : R) (writer_old writer_new : W) : Type 0 where
-  pub follows : result ≢ Err OutOfMemory → Follows (TellsServedTimeline parts lines (reads reader_old).whole) (λ old new. HasNotFailed (begun_again old).calls new.calls) (FailsAgain (length lines))
-      reads writes result reader_old reader_new writer_old writer_new
-  pub nothing_put : IsErrOf result OutOfMemory → writer_new ≡ writer_old
-  pub not_failed : IsErrOf result OutOfMemory → IsUntouchedOrBegan (reads reader_old) (reads reader_new)
+pub record ServedTimelineFollows {R W : Type 0} (parts : ℕ) (lines : List ReadLine) (result : Result Status RunFault)
+    (reader : Course R ReaderState) (writer : Course W WriterState) : Type 0 where
+  pub follows : result ≢ Err OutOfMemory → Follows (TellsServedTimeline parts lines (shown_before reader).whole) (λ old new. HasNotFailed (begun_again old).calls new.calls)
+      (FailsAgain (length lines)) result reader writer
+  pub nothing_put : IsErrOf result OutOfMemory → writer.new ≡ writer.old
+  pub not_failed : IsErrOf result OutOfMemory → IsUntouchedOrBegan (shown_before reader) (shown_after reader)
 
--- the log was read to its end and its diagnostics were written, and then what follows for its lines
-pub record EndsServedTimeline {R W : Type 0} (parts : ℕ) (status : Status) (reads : R → ReaderState) (writes : W → WriterState)
-    (result : Result Status RunFault) (reader_old reader_middle reader_new : R) (writer_old writer_middle writer_new : W) : Type 0 where
-  pub reports : ReportsServed Nothing status (reads reader_old) (reads reader_middle) (writes writer_old) (writes writer_middle)
+-- the log was read to its end and its diagnostics were written, up to the middle, and then what follows for its lines
+pub record EndsServedTimeline {R W : Type 0} (parts : ℕ) (status : Status) (result : Result Status RunFault)
+    (reader : Course R ReaderState) (writer : Course W WriterState) (reader_middle : R) (writer_middle : W) : Type 0 where
+  pub reports : ReportsServed Nothing status (shown_before reader) (reader.shown reader_middle) (shown_before writer) (writer.shown writer_middle)
   pub answer : IfOk result (λ answered. answered ≡ status)
-  pub follow : ServedTimelineFollows parts reports.lines reads writes result reader_middle reader_new writer_middle writer_new
+  pub follow : ServedTimelineFollows parts reports.lines result (since reader reader_middle) (since writer writer_middle)
 
 -- what follows a run: where that failed nothing more was done, and its fault is the answer
-abbrev pub ServedTimelineGoesOn : {R W : Type 0} → (parts : ℕ) (reads : R → ReaderState) (writes : W → WriterState)
-    → (run result : Result Status RunFault) (reader_old reader_middle reader_new : R) (writer_old writer_middle writer_new : W) → Type 0
-ServedTimelineGoesOn parts reads writes (Ok status) result reader_old reader_middle reader_new writer_old writer_middle writer_new =
-    EndsServedTimeline parts status reads writes result reader_old reader_middle reader_new writer_old writer_middle writer_new
-ServedTimelineGoesOn parts reads writes (Err fault) result reader_old reader_middle reader_new writer_old writer_middle writer_new =
-    (result ≡ Err fault) × NothingDone reader_middle reader_new writer_middle writer_new
+abbrev pub ServedTimelineGoesOn : {R W : Type 0} → (parts : ℕ) (run result : Result Status RunFault)
+    (reader : Course R ReaderState) (writer : Course W WriterState) (reader_middle : R) (writer_middle : W) → Type 0
+ServedTimelineGoesOn parts (Ok status) result reader writer reader_middle writer_middle = EndsServedTimeline parts status result reader writer reader_middle writer_middle
+ServedTimelineGoesOn parts (Err fault) result reader writer reader_middle writer_middle =
+    (result ≡ Err fault) × NothingDone (since reader reader_middle) (since writer writer_middle)
 
 -- first there is a run without a report, up to the middle, and then the log is read again
-pub record RunsServedTwice {R W : Type 0} (parts : ℕ) (reads : R → ReaderState) (writes : W → WriterState)
-    (result : Result Status RunFault) (reader_old reader_new : R) (writer_old writer_new : W) : Type 0 where
+pub record RunsServedTwice {R W : Type 0} (parts : ℕ) (result : Result Status RunFault) (reader : Course R ReaderState) (writer : Course W WriterState) : Type 0 where
   pub run : Result Status RunFault
   pub reader_middle : R
   pub writer_middle : W
-  pub runs : RunsServed Nothing run (reads reader_old) (reads reader_middle) (writes writer_old) (writes writer_middle)
-  pub goes_on : ServedTimelineGoesOn parts reads writes run result reader_old reader_middle reader_new writer_old writer_middle writer_new
+  pub runs : RunsServed Nothing run (shown_before reader) (reader.shown reader_middle) (shown_before writer) (writer.shown writer_middle)
+  pub goes_on : ServedTimelineGoesOn parts run result reader writer reader_middle writer_middle
 
 -- What a run leaves that tells what is held over the lines of a log, without a heap. Where the number of parts is bad, nothing is done.
-pub record RunsServedTimeline {R W : Type 0} (parts : ℕ) (reads : R → ReaderState) (writes : W → WriterState)
-    (result : Result Status RunFault) (reader_old reader_new : R) (writer_old writer_new : W) : Type 0 where
-  pub bad_parts : is_bad_parts parts ≡ true → (result ≡ Err BadSettings) × NothingDone reader_old reader_new writer_old writer_new
-  pub runs : is_bad_parts parts ≡ false → RunsServedTwice parts reads writes result reader_old reader_new writer_old writer_new
+pub record RunsServedTimeline {R W : Type 0} (parts : ℕ) (result : Result Status RunFault) (reader : Course R ReaderState) (writer : Course W WriterState) : Type 0 where
+  pub bad_parts : is_bad_parts parts ≡ true → (result ≡ Err BadSettings) × NothingDone reader writer
+  pub runs : is_bad_parts parts ≡ false → RunsServedTwice parts result reader writer

@@ -6,6 +6,7 @@ use Rattle.mtrace_replay.specs.declared.heap.settings.Settings.{Settings}
 use Rattle.mtrace_replay.specs.declared.runs.status.Status.{Status}
 use Rattle.mtrace_replay.specs.declared.runs.status.RunFault.{RunFault}
 use Rattle.mtrace_replay.specs.declared.heap.totals.Totals.{Totals}
+use Rattle.mtrace_replay.specs.Course.{Course, shown_before}
 use Rattle.mtrace_replay.specs.Started.{started}
 use Rattle.mtrace_replay.specs.Totals.{AreTotals}
 use Rattle.mtrace_replay.specs.Moment.{ReadLine, Given, Moment}
@@ -61,15 +62,11 @@ FailsAgainAtPeak settings lines reader_old reader_new =
     (totals : Totals) × AreTotals (started settings) (history settings lines) totals × FailsAgain totals.peak_line reader_old reader_new
 
 -- the log whose lines these are was read again, and who holds its memory was written
-abbrev pub SitesFollow : {R W : Type 0} → (settings : Settings) (lines : List ReadLine) (reads : R → ReaderState) (writes : W → WriterState)
-    → Result Status RunFault → (reader_old reader_new : R) (writer_old writer_new : W) → Type 0
-SitesFollow settings lines reads writes result reader_old reader_new writer_old writer_new =
-    Follows (TellsSites settings lines (reads reader_old).whole) (λ old new. HasNotFailed (begun_again old).calls new.calls) (FailsAgainAtPeak settings lines) reads writes
-    result reader_old reader_new writer_old writer_new
+abbrev pub SitesFollow : {R W : Type 0} → (settings : Settings) (lines : List ReadLine) → Result Status RunFault → Course R ReaderState → Course W WriterState → Type 0
+SitesFollow settings lines result reader writer =
+    Follows (TellsSites settings lines (shown_before reader).whole) (λ old new. HasNotFailed (begun_again old).calls new.calls) (FailsAgainAtPeak settings lines) result reader writer
 
 -- What a run leaves that tells who holds the memory of a log. There is first a run without a report, and then the log
 -- is read again.
-abbrev pub RunsSites : {R W : Type 0} → (settings : Settings) (reads : R → ReaderState) (writes : W → WriterState)
-    → Result Status RunFault → (reader_old reader_new : R) (writer_old writer_new : W) → Type 0
-RunsSites settings reads writes result reader_old reader_new writer_old writer_new =
-    RunsAgain settings (λ lines. SitesFollow settings lines reads writes) reads writes result reader_old reader_new writer_old writer_new
+abbrev pub RunsSites : {R W : Type 0} → (settings : Settings) → Result Status RunFault → Course R ReaderState → Course W WriterState → Type 0
+RunsSites settings result reader writer = RunsAgain settings (SitesFollow settings) result reader writer

@@ -10,6 +10,7 @@ use Rattle.mtrace_replay.specs.declared.runs.status.Status.{Status}
 use Rattle.mtrace_replay.specs.declared.runs.status.RunFault.{RunFault}
 use Rattle.mtrace_replay.specs.declared.runs.status.RunFault.TheVariants.{BadSettings}
 use Rattle.mtrace_replay.specs.declared.heap.totals.Totals.{Totals}
+use Rattle.mtrace_replay.specs.Course.{Course, shown_before}
 use Rattle.mtrace_replay.specs.Started.{started}
 use Rattle.mtrace_replay.specs.Totals.{AreTotals}
 use Rattle.mtrace_replay.specs.Moment.{ReadLine}
@@ -38,19 +39,16 @@ FailsAgainBefore settings lines reader_old reader_new =
     (totals : Totals) × AreTotals (started settings) (history settings lines) totals × FailsAgain totals.lines reader_old reader_new
 
 -- the log whose lines these are was read again, and what is held over its lines was written
-abbrev pub TimelineFollows : {R W : Type 0} → (settings : Settings) (parts : ℕ) (lines : List ReadLine) (reads : R → ReaderState) (writes : W → WriterState)
-    → Result Status RunFault → (reader_old reader_new : R) (writer_old writer_new : W) → Type 0
-TimelineFollows settings parts lines reads writes result reader_old reader_new writer_old writer_new =
-    Follows (TellsTimeline settings parts lines (reads reader_old).whole) (λ old new. HasNotFailed (begun_again old).calls new.calls) (FailsAgainBefore settings lines) reads writes
-    result reader_old reader_new writer_old writer_new
+abbrev pub TimelineFollows : {R W : Type 0} → (settings : Settings) (parts : ℕ) (lines : List ReadLine) → Result Status RunFault → Course R ReaderState → Course W WriterState → Type 0
+TimelineFollows settings parts lines result reader writer =
+    Follows (TellsTimeline settings parts lines (shown_before reader).whole) (λ old new. HasNotFailed (begun_again old).calls new.calls) (FailsAgainBefore settings lines) result reader writer
 
 -- What a run leaves that tells what is held over the lines of a log. Where the number of parts is bad, nothing is done.
 -- Else there is first a run without a report, and then the log is read again.
-pub record RunsTimeline {R W : Type 0} (settings : Settings) (parts : ℕ) (reads : R → ReaderState) (writes : W → WriterState)
-    (result : Result Status RunFault) (reader_old reader_new : R) (writer_old writer_new : W) : Type 0 where
-  pub bad_parts : is_bad_parts parts ≡ true → (result ≡ Err BadSettings) × NothingDone reader_old reader_new writer_old writer_new
-  pub runs : is_bad_parts parts ≡ false
-      → RunsAgain settings (λ lines. TimelineFollows settings parts lines reads writes) reads writes result reader_old reader_new writer_old writer_new
+pub record RunsTimeline {R W : Type 0} (settings : Settings) (parts : ℕ) (result : Result Status RunFault)
+    (reader : Course R ReaderState) (writer : Course W WriterState) : Type 0 where
+  pub bad_parts : is_bad_parts parts ≡ true → (result ≡ Err BadSettings) × NothingDone reader writer
+  pub runs : is_bad_parts parts ≡ false → RunsAgain settings (TimelineFollows settings parts) result reader writer
 
 -- empty lists of numbers and of points, each with room for all that are told: 0, the peak's, and one for each part
 pub record HasRoom {N P : Type 0} (parts : ℕ) (numbers : Vec ℕ N) (points : Vec Point P) : Type 0 where

@@ -11,6 +11,7 @@ use Rattle.mtrace_replay.specs.declared.heap.settings.Settings.{Settings}
 use Rattle.mtrace_replay.specs.declared.runs.status.Status.{Status}
 use Rattle.mtrace_replay.specs.declared.runs.status.RunFault.{RunFault}
 use Rattle.mtrace_replay.specs.declared.runs.status.RunFault.TheVariants.{Image}
+use Rattle.mtrace_replay.specs.Course.{Course, shown_before, shown_after}
 use Rattle.mtrace_replay.specs.Started.{Bare}
 use Rattle.mtrace_replay.specs.Run.{Runs, HoldsAtEnd}
 
@@ -34,19 +35,18 @@ pub record SavesLast {T E : Type 0} (result : Result T E) (content : Bare) (old 
   pub put : PutsAndFlushes result image old new
 
 -- the log was replayed to its end, and the last content was saved, or the image's writer failed
-pub record EndsWithImage (settings : Settings) (status : Status) (reader_old reader_new : ReaderState) (writer_old writer_new : WriterState)
-    (result : Result Status RunFault) (image_old image_new : WriterState) : Type 0 where
+pub record EndsWithImage {R W I : Type 0} (settings : Settings) (status : Status) (result : Result Status RunFault)
+    (reader : Course R ReaderState) (writer : Course W WriterState) (image : Course I WriterState) : Type 0 where
   pub content : Bare
-  pub replays : HoldsAtEnd settings status content reader_old reader_new writer_old writer_new
-  pub saves : SavesLast result content image_old image_new
+  pub replays : HoldsAtEnd settings status content (shown_before reader) (shown_after reader) (shown_before writer) (shown_after writer)
+  pub saves : SavesLast result content (shown_before image) (shown_after image)
   pub answer : (result ≡ Ok status) ⊎ (result ≡ Err Image)
 
 -- What a run that saves its heap leaves: first a run without a report. Where that fails, this is the answer, and nothing was asked of the
 -- image's writer; else the last content is saved.
-pub record RunsAndSaves {R W I : Type 0} (settings : Settings) (reads : R → ReaderState) (writes : W → WriterState)
-    (saves : I → WriterState) (result : Result Status RunFault) (reader_old reader_new : R) (writer_old writer_new : W) (image_old image_new : I) : Type 0 where
+pub record RunsAndSaves {R W I : Type 0} (settings : Settings) (result : Result Status RunFault)
+    (reader : Course R ReaderState) (writer : Course W WriterState) (image : Course I WriterState) : Type 0 where
   pub run : Result Status RunFault
-  pub runs : Runs Nothing settings reads writes run reader_old reader_new writer_old writer_new
-  pub run_fault : (fault : RunFault) → run ≡ Err fault → (result ≡ Err fault) × (image_new ≡ image_old)
-  pub finished : (status : Status) → run ≡ Ok status
-      → EndsWithImage settings status (reads reader_old) (reads reader_new) (writes writer_old) (writes writer_new) result (saves image_old) (saves image_new)
+  pub runs : Runs Nothing settings run reader writer
+  pub run_fault : (fault : RunFault) → run ≡ Err fault → (result ≡ Err fault) × (image.new ≡ image.old)
+  pub finished : (status : Status) → run ≡ Ok status → EndsWithImage settings status result reader writer image

@@ -14,6 +14,7 @@ use Rattle.mtrace_replay.specs.declared.held.diagnostic.Diagnostic.{Diagnostic}
 use Rattle.mtrace_replay.specs.Holding.{Holding}
 use Rattle.mtrace_replay.specs.declared.heap.totals.Totals.{Totals}
 use Rattle.mtrace_replay.specs.Started.{Bare}
+use Rattle.mtrace_replay.specs.declared.heap.holder.Holder.{Holder}
 use Rattle.mtrace_replay.specs.declared.heap.step.Block.{Block}
 use Rattle.mtrace_replay.specs.Moment.{Given, Moment, Plan, carried_out, acts, without}
 use Rattle.mtrace_replay.specs.History.{held_after}
@@ -58,50 +59,59 @@ pub record AreLive (holdings : List Holding) (content : Content ℕ) : Type 0 wh
   pub small : (address : ℕ) (holding : Holding) → held_at holdings address ≡ Some holding → holding.entry.size ≤ greatest_size
   pub records : content.records ≤ most_records
 
+-- what heaps of a type show: the content, how often the table was touched, and whether they may lack memory
+pub record View (H : Type 0) : Type 1 where
+  pub content : H → Content ℕ
+  pub touches : H → ℕ
+  pub Lacks : Type 0
+
+abbrev pub view : {H : Type 0} → (H → Content ℕ) → (H → ℕ) → Type 0 → View H
+view content touches lacks = record { content = content; touches = touches; Lacks = lacks }
+
 -- What a line does, or a part of it, which answers where the block ends that it was given, if any. Where no memory is
 -- refused, the heap, what is held and the diagnostics are as the plan says, and what is held is live. Else what is held
 -- is as it was. The heap has as many records as before. The look-ups are counted, and the touches are at most `most`:
 -- none where nothing is asked of the heap.
-pub record Replays {H E : Type 0} (content : H → Content ℕ) (touches : H → ℕ) (lacks : Type 0) (looks most : ℕ) (planned : Plan)
-    (diagnostics : List Diagnostic) (result : Result (Option ℕ) E) (heap_old heap_new : H) (held_old held_new : Indexed) : Type 0 where
-  pub comes : IfOk result (λ end. Comes (bare (content heap_old)) (bare (content heap_new)) (all_given held_old.all) (all_given held_new.all) diagnostics end (carried_out planned (bare (content heap_old))))
-  pub live : OnOk result (AreLive held_new.all (content heap_new))
-  pub memory : OnErr result lacks
-  pub unchanged : OnErr result (held_new.all ≡ held_old.all)
-  pub records : (content heap_new).records ≡ (content heap_old).records
-  pub looked : LooksUp looks held_old held_new
-  pub bound : AtMost most (touches heap_old) (touches heap_new)
-  pub idle : acts planned.act ≡ false → touches heap_new ≡ touches heap_old
+pub record Replays {H E : Type 0} (heaps : View H) (looks most : ℕ) (planned : Plan) (diagnostics : List Diagnostic)
+    (result : Result (Option ℕ) E) (old new : Holder H) : Type 0 where
+  pub comes : IfOk result (λ end. Comes (bare (heaps.content old.heap)) (bare (heaps.content new.heap)) (all_given old.held.all) (all_given new.held.all) diagnostics end
+      (carried_out planned (bare (heaps.content old.heap))))
+  pub live : OnOk result (AreLive new.held.all (heaps.content new.heap))
+  pub memory : OnErr result heaps.Lacks
+  pub unchanged : OnErr result (new.held.all ≡ old.held.all)
+  pub records : (heaps.content new.heap).records ≡ (heaps.content old.heap).records
+  pub looked : LooksUp looks old.held new.held
+  pub bound : AtMost most (heaps.touches old.heap) (heaps.touches new.heap)
+  pub idle : acts planned.act ≡ false → heaps.touches new.heap ≡ heaps.touches old.heap
 
 -- What a call leaves that asks the heap for a block, by the request under each slot. The block that it gives has a slot that no block
--- had, or an old one. Where the heap refuses, it stays as it is. At most this many touches are made.
-pub record AsksBlock {H A T : Type 0} (content : H → Content ℕ) (touches : H → ℕ) (lacks : Type 0) (most : ℕ) (request : ℕ → Result (A × Content ℕ) Refusal)
+-- had, or an old one. Where the heap refuses, it stays as it is.
+pub record AsksBlock {H A T : Type 0} (heaps : View H) (request : ℕ → Result (A × Content ℕ) Refusal)
     (answer : Pointer → A) (IsOld : ℕ → Type 0) (ptr_of : T → Pointer) (result : Result T Refusal) (old new : H) : Type 0 where
-  pub ok : IfOk result (λ given. request (ptr_of given).slot ≡ Ok (answer (ptr_of given), content new))
-  pub slot_below : IfOk result (λ given. (ptr_of given).slot < (content old).records)
-  pub slot_new : IfOk result (λ given. (IsOld (ptr_of given).slot → ⊥) → slot_times (ptr_of given).slot (blocks_of (content old).pools) ≡ 0)
+  pub ok : IfOk result (λ given. request (ptr_of given).slot ≡ Ok (answer (ptr_of given), heaps.content new))
+  pub slot_below : IfOk result (λ given. (ptr_of given).slot < (heaps.content old).records)
+  pub slot_new : IfOk result (λ given. (IsOld (ptr_of given).slot → ⊥) → slot_times (ptr_of given).slot (blocks_of (heaps.content old).pools) ≡ 0)
   pub refused : IfErr result (λ refusal. refusal ≢ OutOfMemory → (slot : ℕ) → request slot ≡ Err refusal)
-  pub memory : IfErr result (λ refusal. refusal ≡ OutOfMemory → lacks)
-  pub unchanged : OnErr result (content new ≡ content old)
-  pub bound : AtMost most (touches old) (touches new)
+  pub memory : IfErr result (λ refusal. refusal ≡ OutOfMemory → heaps.Lacks)
+  pub unchanged : OnErr result (heaps.content new ≡ heaps.content old)
 
--- a call of that kind which also tells where the block ends
-pub record GivesBlock {H A : Type 0} (content : H → Content ℕ) (touches : H → ℕ) (lacks : Type 0) (most : ℕ) (request : ℕ → Result (A × Content ℕ) Refusal)
+-- a call of that kind which also tells where the block ends, with at most this many touches
+pub record GivesBlock {H A : Type 0} (heaps : View H) (most : ℕ) (request : ℕ → Result (A × Content ℕ) Refusal)
     (answer : Pointer → A) (IsOld : ℕ → Type 0) (result : Result Block Refusal) (old new : H) : Type 0 where
-  pub asks : AsksBlock content touches lacks most request answer IsOld (λ given. given.ptr) result old new
-  pub end : IfOk result (λ given. given.end ≡ given.ptr.place + size_at given.ptr.place (blocks_of (content new).pools))
+  pub asks : AsksBlock heaps request answer IsOld (λ given. given.ptr) result old new
+  pub end : IfOk result (λ given. given.end ≡ given.ptr.place + size_at given.ptr.place (blocks_of (heaps.content new).pools))
+  pub bound : AtMost most (heaps.touches old) (heaps.touches new)
 
 -- what a call leaves that frees the block which an address is held under, and holds the address no more
-pub record Takes {H E : Type 0} (content_of : H → Content ℕ) (touches : H → ℕ) (lacks : Type 0) (most address : ℕ) (ptr : Pointer)
-    (result : Result (Unit {0}) E) (heap_old heap_new : H) (held_old held_new : Indexed) : Type 0 where
-  pub content : OnOk result (bare (content_of heap_new) ≡ without ptr.place (bare (content_of heap_old)))
-  pub held : OnOk result ((other : ℕ) → held_at held_new.all other ≡ (if address == other then None else held_at held_old.all other))
-  pub live : OnOk result (AreLive held_new.all (content_of heap_new))
-  pub memory : OnErr result lacks
-  pub unchanged : OnErr result (held_new.all ≡ held_old.all)
-  pub records : (content_of heap_new).records ≡ (content_of heap_old).records
-  pub looked : LooksUp 0 held_old held_new
-  pub bound : AtMost most (touches heap_old) (touches heap_new)
+pub record Takes {H E : Type 0} (heaps : View H) (most address : ℕ) (ptr : Pointer) (result : Result (Unit {0}) E) (old new : Holder H) : Type 0 where
+  pub content : OnOk result (bare (heaps.content new.heap) ≡ without ptr.place (bare (heaps.content old.heap)))
+  pub held : OnOk result ((other : ℕ) → held_at new.held.all other ≡ (if address == other then None else held_at old.held.all other))
+  pub live : OnOk result (AreLive new.held.all (heaps.content new.heap))
+  pub memory : OnErr result heaps.Lacks
+  pub unchanged : OnErr result (new.held.all ≡ old.held.all)
+  pub records : (heaps.content new.heap).records ≡ (heaps.content old.heap).records
+  pub looked : LooksUp 0 old.held new.held
+  pub bound : AtMost most (heaps.touches old.heap) (heaps.touches new.heap)
 
 -- what a replay keeps. Until memory is refused what is held is live. Memory is refused only by a heap that lacks it.
 -- There is at most as much held as there are records, and room for as much. No more lines were served, or refused,

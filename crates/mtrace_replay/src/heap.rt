@@ -3,6 +3,7 @@
 pub mod again;
 pub mod arrange;
 pub mod asked;
+pub mod holder;
 pub mod index;
 pub mod key;
 pub mod keys;

@@ -1,6 +1,7 @@
 -- The statuses that the program ends with.
 use Rattle.std.specs.Prelude.{◌≡◌, ◌≤◌, ◌⊎◌, ℕ, List, Some, None, Result, Ok, Err}
 use Rattle.mtrace_log.specs.Shown.{ReaderState, WriterState}
+use Rattle.mtrace_replay.specs.Course.{Course}
 use Rattle.mtrace_replay.specs.RunSites.{RunsSites}
 use Rattle.mtrace_replay.specs.RunTimeline.{RunsTimeline}
 use Rattle.mtrace_replay.specs.RunServedTimeline.{RunsServedTimeline}
@@ -53,16 +54,11 @@ abbrev pub PutsHelp : List ℕ → Result Status RunFault → (old new : WriterS
 PutsHelp text outcome old new = ((outcome ≡ Ok Clean) ⊎ (outcome ≡ Err Write)) × PutsAndFlushes outcome text old new
 
 -- the run of what reads its log more than once
-abbrev pub Rereads : {R W : Type 0} → Rereading → (reads : R → ReaderState) (writes : W → WriterState)
-    → Result Status RunFault → (reader_old reader_new : R) (writer_old writer_new : W) → Type 0
-Rereads (Sites settings) reads writes outcome reader_old reader_new writer_old writer_new =
-    RunsSites settings reads writes outcome reader_old reader_new writer_old writer_new
-Rereads (Timeline None parts) reads writes outcome reader_old reader_new writer_old writer_new =
-    RunsServedTimeline parts reads writes outcome reader_old reader_new writer_old writer_new
-Rereads (Timeline (Some settings) parts) reads writes outcome reader_old reader_new writer_old writer_new =
-    RunsTimeline settings parts reads writes outcome reader_old reader_new writer_old writer_new
-Rereads (Fit step) reads writes outcome reader_old reader_new writer_old writer_new =
-    RunsFit step reads writes outcome reader_old reader_new writer_old writer_new
+abbrev pub Rereads : {R W : Type 0} → Rereading → Result Status RunFault → Course R ReaderState → Course W WriterState → Type 0
+Rereads (Sites settings) outcome reader writer = RunsSites settings outcome reader writer
+Rereads (Timeline None parts) outcome reader writer = RunsServedTimeline parts outcome reader writer
+Rereads (Timeline (Some settings) parts) outcome reader writer = RunsTimeline settings parts outcome reader writer
+Rereads (Fit step) outcome reader writer = RunsFit step outcome reader writer
 
 abbrev pub status_of_fault : ToolFault → ℕ
 status_of_fault (Help text) = 0

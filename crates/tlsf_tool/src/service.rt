@@ -1,6 +1,7 @@
 //! One run, with its status.
 
 ghost use Rattle.std.specs.Prelude.{◌≡◌};
+ghost use Rattle.mtrace_replay.specs.Course.{course};
 ghost use Rattle.mtrace_replay.specs.Run.{Runs};
 ghost use Rattle.mtrace_replay.specs.RunServed.{RunsServed};
 ghost use Rattle.mtrace_replay.specs.RunParts.{RunsParts};
@@ -74,7 +75,7 @@ fn run_named<R: Source, W: Sink>(
     reader: &mut R,
     writer: &mut W,
 ) -> Result<Status, RunFault>
-    ensures { Runs (report_of name) settings R.shown W.shown result reader.old reader.new writer.old writer.new }
+    ensures { Runs (report_of name) settings result (course R.shown reader.old reader.new) (course W.shown writer.old writer.new) }
 {
     match name {
         Name::Leaks => run_leaks(alloc, reader, writer, settings),
@@ -94,7 +95,7 @@ pub fn serve<R: Source, W: Sink, E: Sink>(
     writer: &mut W,
     errors: &mut E,
 ) -> u8
-    ensures { EndsAs (λ outcome. Runs (report_of name) settings R.shown W.shown outcome reader.old reader.new writer.old writer.new)
+    ensures { EndsAs (λ outcome. Runs (report_of name) settings outcome (course R.shown reader.old reader.new) (course W.shown writer.old writer.new))
         result errors.old errors.new }
 {
     end_run(errors, run_named(alloc, name, settings, reader, writer))
@@ -124,7 +125,7 @@ pub(crate) fn run_again<R: Again, W: Sink, T: Watch>(
     writer: &mut W,
     watch: &T,
 ) -> Result<Status, RunFault>
-    ensures { Rereads what R.shown W.shown result reader.old reader.new writer.old writer.new }
+    ensures { Rereads what result (course R.shown reader.old reader.new) (course W.shown writer.old writer.new) }
 {
     match what {
         Rereading::Sites(settings) => run_sites(alloc, reader, writer, settings),
@@ -150,7 +151,8 @@ pub fn serve_parts<R: Source, W: Sink, E: Sink>(
     writer: &mut W,
     errors: &mut E,
 ) -> u8
-    ensures { EndsAs (λ outcome. RunsParts heaps R.shown W.shown outcome reader.old reader.new writer.old writer.new) result errors.old errors.new }
+    ensures { EndsAs (λ outcome. RunsParts heaps outcome (course R.shown reader.old reader.new) (course W.shown writer.old writer.new))
+        result errors.old errors.new }
 {
     end_run(errors, run_fit_heaps(alloc, reader, writer, heaps))
 }
@@ -167,7 +169,7 @@ pub fn serve_again<R: Again, W: Sink, E: Sink, T: Watch>(
     errors: &mut E,
     watch: &T,
 ) -> u8
-    ensures { EndsAs (λ outcome. Rereads what R.shown W.shown outcome reader.old reader.new writer.old writer.new)
+    ensures { EndsAs (λ outcome. Rereads what outcome (course R.shown reader.old reader.new) (course W.shown writer.old writer.new))
         result errors.old errors.new }
 {
     end_run(errors, run_again(alloc, what, reader, writer, watch))
@@ -207,8 +209,8 @@ pub fn serve_save<R: Source, W: Sink, I: Sink, E: Sink>(
     image: &mut I,
     errors: &mut E,
 ) -> u8
-    ensures { EndsAs (λ outcome. RunsAndSaves settings R.shown W.shown I.shown outcome
-        reader.old reader.new writer.old writer.new image.old image.new) result errors.old errors.new }
+    ensures { EndsAs (λ outcome. RunsAndSaves settings outcome (course R.shown reader.old reader.new) (course W.shown writer.old writer.new)
+        (course I.shown image.old image.new)) result errors.old errors.new }
 {
     end_run(errors, run_save(alloc, reader, writer, image, settings))
 }

@@ -291,7 +291,7 @@ pub empty_none : (part : ℕ → ℕ → Part) (spans : List Span) (first : ℕ)
 empty_none part spans first in_spans k within used [] is few = is_used part spans first in_spans k within used is
 empty_none part spans first in_spans k within used (last ∷ ends) is few = absurd (omega (arith, few))
 
--- what holds of each place holds with one more
+-- what holds at each position holds with one more
 pub pushed : {X : Type 0} (P : ℕ → X → Type 0) (xs : List X) (x : X) → ((k : ℕ) (d : X) → k < length xs → P k (slice_index_or xs k d)) → P (length xs) x
     → (k : ℕ) (d : X) → k < length (xs ++ x ∷ []) → P k (slice_index_or (xs ++ x ∷ []) k d)
 pushed P [] x all its zero d within = its

@@ -58,7 +58,7 @@ alone_alone (key ∷ keys) = one (is_some key.block) refl (alone_alone keys)
     one true is rest = one_held key (held_keys keys) is ∙ ap (λ all. key ∷ all) rest
     one false is rest = rest
 
--- what was held before a place stands first, and with what is held from there on it is all
+-- what was held before a position stands first, and with what is held from there on it is all
 pub record HeldStandFirst (old now : List Key) (at held : ℕ) : Type 0 where
   pub fewer : held ≤ at
   pub len : length now ≡ length old
@@ -72,7 +72,7 @@ pub is_so : (b : Bool) → not b ≡ false → b ≡ true
 is_so true is = refl
 is_so false is = cc
 
--- one place on
+-- one position on
 module _ (old now : List Key) (at held : ℕ) (within : at < length old) (has : HeldStandFirst old now at held) (key : Key) (there : key ≡ slice_index_or now at key) where
   next : suc at ≡ at + 1
   next = omega arith

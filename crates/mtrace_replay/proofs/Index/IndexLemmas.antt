@@ -59,7 +59,7 @@ put_entry old now entry ptr sets key its under = (
   subst (λ block. IsRow now key.address block) (sym under) (sets.there, ap (λ (row : Entry). row.addr) (sets.is no_row) ∙ sym its),
 )
 
--- a key of the address stands at the place
+-- a key of the address stands at the position
 pub record IsKeyAt (kept : Kept) (address at : ℕ) (key : Key) : Type 0 where
   pub rise : RiseFrom 0 kept.keys
   pub have : HaveRows kept.rows kept.keys
@@ -242,15 +242,15 @@ index_in_order rows keys rise = IsStrictlyIncreasing-from_sorted (addresses (all
 
 -- where an address was found in an index that has these keys
 module _ (keys : List Key) (index : Indexed) (seen : keys ≡ index.keys) (found : LookUp) (is_found : IsFound index.keys found) (at : ℕ) where
-  found_stands : found.place ≡ Ok at → StandsAt keys found.address at
-  found_stands is = subst (λ all. StandsAt all found.address at) (sym seen) (subst (λ (place : Result ℕ ℕ). IfOk place (StandsAt index.keys found.address)) is is_found.held)
+  found_stands : found.position ≡ Ok at → StandsAt keys found.address at
+  found_stands is = subst (λ all. StandsAt all found.address at) (sym seen) (subst (λ (position : Result ℕ ℕ). IfOk position (StandsAt index.keys found.address)) is is_found.held)
 
-  pub found_fits : found.place ≡ Err at → FitsAt keys found.address at
-  found_fits is = subst (λ all. FitsAt all found.address at) (sym seen) (subst (λ (place : Result ℕ ℕ). IfErr place (FitsAt index.keys found.address)) is is_found.absent)
+  pub found_fits : found.position ≡ Err at → FitsAt keys found.address at
+  found_fits is = subst (λ all. FitsAt all found.address at) (sym seen) (subst (λ (position : Result ℕ ℕ). IfErr position (FitsAt index.keys found.address)) is is_found.absent)
 
 -- the key that was read where an address was found
 pub found_key : (kept : Kept) (index : Indexed) → kept.keys ≡ index.keys → (blocks bytes : ℕ) → IsIndex kept blocks bytes → (found : LookUp) → IsFound index.keys found
-    → (at : ℕ) → found.place ≡ Ok at → (key : Key) → key ≡ slice_index_or kept.keys at key → IsKeyAt kept found.address at key
+    → (at : ℕ) → found.position ≡ Ok at → (key : Key) → key ≡ slice_index_or kept.keys at key → IsKeyAt kept found.address at key
 found_key kept index seen blocks bytes has found is_found at is key there = record {
   rise = has.rise;
   have = has.rows;

@@ -3,19 +3,20 @@ use Rattle.std.proofs.Common.{◌<◌, ◌≤◌, arith, ◌≡◌, ℕ, Bool, t
 use Rattle.std.specs.Prelude.{◌==◌, ◌&&◌, Result}
 use Rattle.std.proofs.lemmas.Bool.{cases_Bool, eqb-true, eqb-false}
 use Rattle.tlsf_heap.specs.declared.refusal.Refusal.{Refusal}
-use Rattle.tlsf_heap.specs.Content.{Content, blocks_of, size_at}
+use Rattle.tlsf_heap.specs.Content.{blocks_of, size_at}
 use Rattle.tlsf_heap.specs.Pointer.{Pointer}
 use Rattle.tlsf_heap.specs.Realloc.{realloc}
 use Rattle.tlsf_heap.proofs.Content.BareSteps.{ap-cond}
 use Rattle.mtrace_replay.specs.Entry.{Entry}
+use Rattle.mtrace_replay.specs.declared.heap.holder.Holder.{Holder}
 use Rattle.mtrace_replay.specs.declared.held.diagnostic.Diagnostic.{Diagnostic}
 use Rattle.mtrace_replay.specs.declared.held.diagnostic.Kind.{Kind}
 use Rattle.mtrace_replay.specs.declared.held.diagnostic.Kind.TheVariants.{NotHeld, AlreadyHeld, Refused}
 use Rattle.mtrace_replay.specs.Holding.{Holding}
 use Rattle.mtrace_replay.specs.Started.{Bare}
 use Rattle.mtrace_replay.specs.Moment.{Given, give, take, move, Plan, none_for, doing, allocation, release, preceded, reallocation, renewal, one_diagnostic, asked_size, asked_block, without, answered, moved, carried_out}
-use Rattle.mtrace_replay.specs.Index.{Indexed, held_at}
-use Rattle.mtrace_replay.specs.Step.{given_of, all_given, found, Comes, IsUnder, Replays}
+use Rattle.mtrace_replay.specs.Index.{held_at}
+use Rattle.mtrace_replay.specs.Step.{View, given_of, all_given, found, Comes, IsUnder, Replays}
 
 -- at least as many bytes are asked for as the line says, and some
 pub asked_least : (size : ℕ) → (size ≤ asked_size size) × (0 < asked_size size)
@@ -87,10 +88,10 @@ found_changed old new address now before changed other =
     found_given new other ∙ ap (option_map given_of) (changed other) ∙ ap-cond (option_map given_of) (address == other) now (before other)
 
 -- what does one plan does another that is the same
-pub replays_as : {H E : Type 0} {content : H → Content ℕ} {touches : H → ℕ} {lacks : Type 0} {looks most : ℕ} {one other : Plan} {diagnostics : List Diagnostic} {result : Result (Option ℕ) E} {heap_old heap_new : H} {held_old held_new : Indexed}
-    → one ≡ other → Replays content touches lacks looks most other diagnostics result heap_old heap_new held_old held_new → Replays content touches lacks looks most one diagnostics result heap_old heap_new held_old held_new
-replays_as {content = content} {touches = touches} {lacks = lacks} {looks = looks} {most = most} {diagnostics = diagnostics} {result = result} {heap_old = heap_old} {heap_new = heap_new} {held_old = held_old} {held_new = held_new} same replays =
-    subst (λ planned. Replays content touches lacks looks most planned diagnostics result heap_old heap_new held_old held_new) (sym same) replays
+pub replays_as : {H E : Type 0} {heaps : View H} {looks most : ℕ} {one other : Plan} {diagnostics : List Diagnostic} {result : Result (Option ℕ) E} {old new : Holder H}
+    → one ≡ other → Replays heaps looks most other diagnostics result old new → Replays heaps looks most one diagnostics result old new
+replays_as {heaps = heaps} {looks = looks} {most = most} {diagnostics = diagnostics} {result = result} {old = old} {new = new} same replays =
+    subst (λ planned. Replays heaps looks most planned diagnostics result old new) (sym same) replays
 
 -- the plans, told of what is held by its look-ups
 module _ (held : List Holding) where

@@ -1,5 +1,5 @@
 -- The first lines of a log, read and replayed.
-use Rattle.std.proofs.Common.{◌≡◌, ◌<◌, ◌≤◌, ◌∷◌, ℕ, List, length, refl, sym, ap, subst, arith, ◌⊎◌, inl, inr}
+use Rattle.std.proofs.Common.{◌≡◌, ◌<◌, ◌≤◌, [], ◌∷◌, ℕ, List, length, refl, sym, ap, ◌∙◌, subst, arith, ◌⊎◌, inl, inr}
 use Rattle.std.specs.Prelude.{Result, Ok, Err, IsErrOf}
 use Rattle.mtrace_log.specs.Progress.{Progress, Stage, Reading, Ended, Faulted, to_come, greatest_number, most_asked}
 use Rattle.mtrace_log.specs.Shown.{ReaderState}
@@ -11,10 +11,11 @@ use Rattle.mtrace_log.specs.Event.{Event}
 use Rattle.mtrace_log.specs.declared.event.LineFault.{LineFault}
 use Rattle.mtrace_replay.specs.declared.heap.settings.Settings.{Settings}
 use Rattle.mtrace_replay.specs.declared.runs.following.Stop.{Stop}
+use Rattle.mtrace_replay.specs.Course.{Course, shown_before, shown_after}
 use Rattle.mtrace_replay.specs.Replay.{Replayed, StandsFor, heap_rules}
 use Rattle.mtrace_replay.specs.Run.{with_unused, FailedInPiece, IsPastLastNumber}
 use Rattle.mtrace_replay.specs.Again.{HasReadFirst, HasReplayedFirst, StopsEarly, ReplaysFirst, begun_again}
-use Rattle.mtrace_replay.specs.Replaying.{no_line, IsFollowed, FollowsUpTo}
+use Rattle.mtrace_replay.specs.Replaying.{no_line, IsFollowed, HasGivenSo, FollowsUpTo}
 use Rattle.mtrace_replay.proofs.Running.ReplayingLemmas.{used_to_end, followed_start}
 
 -- what was read so far
@@ -57,36 +58,40 @@ pub has_begun : (reader_old reader_middle : ReaderState) → reader_middle.left 
     → reader_middle ≡ begun_again reader_old
 has_begun reader_old reader_middle left_is whole_is calls_are = λ i. record { left = left_is i; whole = whole_is i; calls = calls_are i }
 
--- the lines up to one, from the first on, are the first lines
-pub first_done : {E : Type 0} (many : ℕ) (done : Unit {0}) (new : Progress) (replay_old replay_new : Replayed) (reader_old reader_new : ReaderState)
-    → length new.held ≤ most_asked → FollowsUpTo heap_rules many (Ok done) no_line new replay_old replay_new (begun_again reader_old) reader_new
-    → ReplaysFirst {E = E} many (Ok done) replay_old replay_new reader_old reader_new
-first_done many done new replay_old replay_new reader_old reader_new few up =
-    let start = begun_again reader_old in
-    let none = moved_none Gave start.calls in
-    record {
-      done = λ settings stands.
-          first_at_most many settings new replay_new start reader_new (up.following settings start (followed_start (StandsFor replay_old settings) start stands)).now up.reached few;
-      not_failed = (up.gave start (none, inl none)).1;
-      read = tt;
-      whole = up.whole;
-      records = up.fixed;
-    }
+-- what was so far followed and given of a text that was begun again
+module _ {R : Type 0} (replay_old : Replayed) (reader_old : ReaderState) (reader : Course R ReaderState) (began : shown_before reader ≡ begun_again reader_old) where
+  followed_again : (settings : Settings) → StandsFor replay_old settings [] → IsFollowed (StandsFor replay_old settings) no_line (begun_again reader_old) (shown_before reader)
+  followed_again settings stands =
+      subst (IsFollowed (StandsFor replay_old settings) no_line (begun_again reader_old)) (sym began) (followed_start (StandsFor replay_old settings) (begun_again reader_old) stands)
 
--- the reader stopped before, since a heap lacks no memory
-pub first_failed : {E : Type 0} (many : ℕ) (fault : E) (stop : Stop) (new : Progress) (replay_old replay_new : Replayed) (reader_old reader_new : ReaderState)
-    → many ≤ greatest_number → FollowsUpTo heap_rules many (Err stop) no_line new replay_old replay_new (begun_again reader_old) reader_new
-    → ReplaysFirst many (Err fault) replay_old replay_new reader_old reader_new
-first_failed many fault stop new replay_old replay_new reader_old reader_new within up = record {
-  done = tt;
-  not_failed = tt;
-  read = λ settings stands.
-      let start = begun_again reader_old in
-      let none = moved_none Gave start.calls in
-      inr (up.stops up.lacks settings start many (followed_start (StandsFor replay_old settings) start stands) (none, inl none) (omega (arith)) within);
-  whole = up.whole;
-  records = up.fixed;
-}
+  given_again : HasGivenSo Reading (begun_again reader_old) (shown_before reader)
+  given_again = let none = moved_none Gave (begun_again reader_old).calls in subst (HasGivenSo Reading (begun_again reader_old)) (sym began) (none, inl none)
+
+  -- the lines up to one, from the first on, are the first lines
+  pub first_done : {E : Type 0} (many : ℕ) (done : Unit {0}) (new : Progress) (replay_new : Replayed)
+      → length new.held ≤ most_asked → FollowsUpTo heap_rules many (Ok done) no_line new replay_old replay_new reader
+      → ReplaysFirst {E = E} many (Ok done) replay_old replay_new reader_old (shown_after reader)
+  first_done many done new replay_new few up = record {
+    done = λ settings stands.
+        first_at_most many settings new replay_new (begun_again reader_old) (shown_after reader)
+        (up.following settings (begun_again reader_old) (followed_again settings stands)).now up.reached few;
+    not_failed = (up.gave (begun_again reader_old) given_again).1;
+    read = tt;
+    whole = up.whole ∙ ap (λ (state : ReaderState). state.whole) began;
+    records = up.fixed;
+  }
+
+  -- the reader stopped before, since a heap lacks no memory
+  pub first_failed : {E : Type 0} (many : ℕ) (fault : E) (stop : Stop) (new : Progress) (replay_new : Replayed)
+      → many ≤ greatest_number → FollowsUpTo heap_rules many (Err stop) no_line new replay_old replay_new reader
+      → ReplaysFirst many (Err fault) replay_old replay_new reader_old (shown_after reader)
+  first_failed many fault stop new replay_new within up = record {
+    done = tt;
+    not_failed = tt;
+    read = λ settings stands. inr (up.stops up.lacks settings (begun_again reader_old) many (followed_again settings stands) given_again (omega (arith)) within);
+    whole = up.whole ∙ ap (λ (state : ReaderState). state.whole) began;
+    records = up.fixed;
+  }
 
 -- an error is the same, whatever would have been answered else
 pub other_result : {T U E : Type 0} (fault other : E) → IsErrOf {T = T} (Err fault) other → IsErrOf {T = U} (Err fault) other

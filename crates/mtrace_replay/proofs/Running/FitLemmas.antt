@@ -100,11 +100,11 @@ pub one_tried : (records many : ℕ) (whole : Bytes) (step first number count : 
     → AreVerdicts records many whole (map (λ i. i * step) (range_with_len first count)) verdicts
     → verdict.size ≡ number * step → (left : Bytes) × IsTried (one_pool verdict.size records) many verdict.serves whole left
     → AreVerdicts records many whole (map (λ i. i * step) (range_with_len first (count + 1))) (verdicts ++ verdict ∷ [])
-one_tried records many whole step first number count verdicts verdict place are size tried = record {
+one_tried records many whole step first number count verdicts verdict sum are size tried = record {
   sizes_are = map-append (λ (v : Verdict). v.size) verdicts (verdict ∷ [])
       ∙ ap (λ sizes. sizes ++ verdict.size ∷ []) are.sizes_are
       ∙ ap (λ n. map (λ i. i * step) (range_with_len first count) ++ n ∷ []) size
-      ∙ sym (map-range_with_len_more (λ i. i * step) first count number place);
+      ∙ sym (map-range_with_len_more (λ i. i * step) first count number sum);
   each = AllByRecursion-append (λ (v : Verdict). (left : Bytes) × IsTried (one_pool v.size records) many v.serves whole left) verdicts (verdict ∷ []) are.each (tried, tt);
 }
 

@@ -8,6 +8,7 @@ use Rattle.mtrace_replay.specs.declared.heap.settings.Settings.{Settings}
 use Rattle.mtrace_replay.specs.declared.runs.status.Status.{Status}
 use Rattle.mtrace_replay.specs.declared.runs.status.RunFault.{RunFault}
 use Rattle.mtrace_replay.specs.declared.runs.status.RunFault.TheVariants.{Read, Write, BadSettings}
+use Rattle.mtrace_replay.specs.Course.{Course, course, shown_before, shown_after}
 use Rattle.mtrace_replay.specs.Settings.{are_bad}
 use Rattle.mtrace_replay.specs.Moment.{ReadLine}
 use Rattle.mtrace_replay.specs.Run.{RunEnds}
@@ -16,9 +17,9 @@ use Rattle.mtrace_replay.specs.Saving.{PutsAndFlushes}
 use Rattle.mtrace_replay.specs.Again.{Follows, RunsAgain}
 
 -- nothing was done
-pub again_undone : {R W : Type 0} (settings : Settings) (After : List ReadLine → Result Status RunFault → R → R → W → W → Type 0) (reads : R → ReaderState) (writes : W → WriterState)
-    (fault : RunFault) (reader : R) (writer : W) → RunEnds Nothing settings reads writes (Err fault) reader reader writer writer
-    → IsErrOf {T = Status} (Err fault) BadSettings ↔ IsTrue (are_bad settings) → RunsAgain settings After reads writes (Err fault) reader reader writer writer
+pub again_undone : {R W : Type 0} (settings : Settings) (After : List ReadLine → Result Status RunFault → Course R ReaderState → Course W WriterState → Type 0)
+    (reads : R → ReaderState) (writes : W → WriterState) (fault : RunFault) (reader : R) (writer : W) → RunEnds Nothing settings (Err fault) (course reads reader reader) (course writes writer writer)
+    → IsErrOf {T = Status} (Err fault) BadSettings ↔ IsTrue (are_bad settings) → RunsAgain settings After (Err fault) (course reads reader reader) (course writes writer writer)
 again_undone settings After reads writes fault reader writer ends bad = record {
   run = Err fault;
   reader_middle = reader;
@@ -33,11 +34,10 @@ never_read (Ok status) only is = cc
 never_read (Err fault) only is = cc
 
 module _ {R W : Type 0} (Tells : Bytes → List ℕ → Type 0) (HasWorked Fails : ReaderState → ReaderState → Type 0)
-    (reads : R → ReaderState) (writes : W → WriterState) (reader_old reader_new : R) (writer_old writer_new : W) where
+    (reader : Course R ReaderState) (writer : Course W WriterState) where
   -- what follows where a text was told
-  pub follows_told : (result : Result Status RunFault) (text : List ℕ) → IfErr result (λ fault. fault ≡ Write) → Tells (reads reader_new).left text
-      → PutsAndFlushes result text (writes writer_old) (writes writer_new) → HasWorked (reads reader_old) (reads reader_new)
-      → Follows Tells HasWorked Fails reads writes result reader_old reader_new writer_old writer_new
+  pub follows_told : (result : Result Status RunFault) (text : List ℕ) → IfErr result (λ fault. fault ≡ Write) → Tells (shown_after reader).left text
+      → PutsAndFlushes result text (shown_before writer) (shown_after writer) → HasWorked (shown_before reader) (shown_after reader) → Follows Tells HasWorked Fails result reader writer
   follows_told result text only tells put worked = record {
     faults = IfErr-weaker result _ _ (λ fault is. inr is) only;
     told = λ _. (text, tells, put);

@@ -10,6 +10,7 @@ use Rattle.mtrace_replay.specs.declared.no_heap.replay.LedgerTotals.{LedgerTotal
 use Rattle.mtrace_replay.specs.declared.runs.status.Status.{Status}
 use Rattle.mtrace_replay.specs.declared.runs.status.RunFault.{RunFault}
 use Rattle.mtrace_replay.specs.declared.runs.status.RunFault.TheVariants.{Read, Write, OutOfMemory}
+use Rattle.mtrace_replay.specs.Course.{Course, course, shown_before, shown_after}
 use Rattle.mtrace_replay.specs.Moment.{ReadLine}
 use Rattle.mtrace_replay.specs.Totals.{IsPeak}
 use Rattle.mtrace_replay.specs.Texts.{ledger_timeline_text}
@@ -32,10 +33,10 @@ no_other fault (inl is) not_read not_memory = not_read (ap Err is)
 no_other fault (inr is) not_read not_memory = not_memory (ap Err is)
 
 module _ {R W : Type 0} (Tells : Bytes → List ℕ → Type 0) (HasWorked Fails : ReaderState → ReaderState → Type 0)
-    (reads : R → ReaderState) (writes : W → WriterState) (reader_old reader_new : R) (writer : W) where
+    (reader : Course R ReaderState) (writes : W → WriterState) (writer : W) where
   -- what follows where the second reading stopped, but not for memory
-  pub follows_stopped : (fault : RunFault) → (fault ≡ Read) ⊎ (fault ≡ OutOfMemory) → (IsErrOf {T = Status} (Err fault) Read → Fails (reads reader_old) (reads reader_new))
-      → (IsErrOf {T = Status} (Err fault) OutOfMemory → ⊥) → Follows Tells HasWorked Fails reads writes (Err fault) reader_old reader_new writer writer
+  pub follows_stopped : (fault : RunFault) → (fault ≡ Read) ⊎ (fault ≡ OutOfMemory) → (IsErrOf {T = Status} (Err fault) Read → Fails (shown_before reader) (shown_after reader))
+      → (IsErrOf {T = Status} (Err fault) OutOfMemory → ⊥) → Follows Tells HasWorked Fails (Err fault) reader (course writes writer writer)
   follows_stopped fault one fails not_memory = record {
     faults = elim one [
       | inl is ↦ inl is

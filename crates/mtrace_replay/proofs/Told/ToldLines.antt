@@ -29,7 +29,7 @@ has_one number = (0, omega arith, refl)
 
 -- a number behind those below it
 rising_more : (told : List ℕ) (last number : ℕ) → IsStrictlyIncreasing told → All (λ line. line ≤ last) told → last < number → IsStrictlyIncreasing (told ++ number ∷ [])
-rising_more told last number rising within above k below = by_place (cases_lt (k + 1) (length told))
+rising_more told last number rising within above k below = by_position (cases_lt (k + 1) (length told))
   where
     all : List ℕ
     all = told ++ number ∷ []
@@ -40,11 +40,11 @@ rising_more told last number rising within above k below = by_place (cases_lt (k
     first : get_or all k 0 ≡ get_or told k 0
     first = get_or-append told (number ∷ []) 0 k here
 
-    by_place : (k + 1 < length told) ⊎ (length told ≤ k + 1) → get_or all k 0 < get_or all (k + 1) 0
-    by_place (inl inside) = omega (arith, first, get_or-append told (number ∷ []) 0 (k + 1) inside, rising k inside)
-    by_place (inr end) =
-        let place : length told ≡ k + 1 = omega (arith, end, here) in
-        let next : get_or all (k + 1) 0 ≡ number = ap (λ n. get_or all n 0) (sym place) ∙ get_or-append_seam told number [] 0 in
+    by_position : (k + 1 < length told) ⊎ (length told ≤ k + 1) → get_or all k 0 < get_or all (k + 1) 0
+    by_position (inl inside) = omega (arith, first, get_or-append told (number ∷ []) 0 (k + 1) inside, rising k inside)
+    by_position (inr end) =
+        let position : length told ≡ k + 1 = omega (arith, end, here) in
+        let next : get_or all (k + 1) 0 ≡ number = ap (λ n. get_or all n 0) (sym position) ∙ get_or-append_seam told number [] 0 in
         omega (arith, first, next, within k 0 here, above)
 
 -- the next number that is told
@@ -209,9 +209,9 @@ told_all lines peak parts last told some is are within = record {
     from : (line : ℕ) → Contains told line → IsTold lines peak parts line
     from line (k, inside, at) = subst (IsTold lines peak parts) at (are.within k line inside).0
 
--- the number at a place stands in the list
-stands_at : (numbers : List ℕ) (place other : ℕ) → place < length numbers → Contains numbers (get_or numbers place other)
-stands_at numbers place other inside = (place, inside, get_or_default numbers place (get_or numbers place other) other inside)
+-- the number at a position stands in the list
+stands_at : (numbers : List ℕ) (position other : ℕ) → position < length numbers → Contains numbers (get_or numbers position other)
+stands_at numbers position other inside = (position, inside, get_or_default numbers position (get_or numbers position other) other inside)
 
 -- what is told is no line behind the last one
 pub told_within : (lines peak parts : ℕ) (told : List ℕ) → 0 < parts → peak ≤ lines → AreTold lines peak parts told → All (λ number. number ≤ lines) told
@@ -225,11 +225,11 @@ greatest_within (number ∷ numbers) most within =
     let others = greatest_within numbers most (λ k other inside. within (suc k) other (omega (arith, inside))) in
     omega (arith, first, others)
 
-greatest_reached : (numbers : List ℕ) (number place other : ℕ) → place < length numbers → get_or numbers place other ≡ number → number ≤ greatest numbers
-greatest_reached [] number place other inside is = absurd (omega (arith, inside))
+greatest_reached : (numbers : List ℕ) (number position other : ℕ) → position < length numbers → get_or numbers position other ≡ number → number ≤ greatest numbers
+greatest_reached [] number position other inside is = absurd (omega (arith, inside))
 greatest_reached (first ∷ numbers) number zero other inside is = omega (arith, is)
-greatest_reached (first ∷ numbers) number (suc place) other inside is =
-    let later = greatest_reached numbers number place other (omega (arith, inside)) is in
+greatest_reached (first ∷ numbers) number (suc position) other inside is =
+    let later = greatest_reached numbers number position other (omega (arith, inside)) is in
     omega (arith, later)
 
 -- the last number that is told is the last line's

@@ -58,13 +58,13 @@ fn leave_held(keys: &mut Keys)
     keys.resize(held);
 }
 
-/// Whether the last held key that is left goes to the last place that is left; else that place stays vacant. The key
-/// goes there where all places are left, or as many places as keys. It also goes there where the places in front are
-/// fewer than these keys' share of all places.
-fn is_its_place(left: usize, held: usize, end: usize, all: usize) -> bool
+/// Whether the last held key that is left goes to the last position that is left; else that position stays vacant. The key
+/// goes there where all positions are left, or as many positions as keys. It also goes there where the positions in front are
+/// fewer than these keys' share of all positions.
+fn is_its_position(left: usize, held: usize, end: usize, all: usize) -> bool
     requires some { 0 < end }
     requires all { end ≡ all → 0 < left }
-    ensures place { result ≡ true → 0 < left }
+    ensures some_left { result ≡ true → 0 < left }
     ensures vacant { result ≡ false → left ≢ end }
     ensures before { result ≡ false → end ≢ all }
 {
@@ -74,7 +74,7 @@ fn is_its_place(left: usize, held: usize, end: usize, all: usize) -> bool
     left > 0 && left.saturating_mul(all) > (end - 1).saturating_mul(held)
 }
 
-/// Spreads the first this many keys over all places, with vacant ones before each.
+/// Spreads the first this many keys over all positions, with vacant ones before each.
 fn space_out(keys: &mut Keys, held: usize)
     requires some { 0 < held }
     requires within { held ≤ length keys.old.keys }
@@ -88,7 +88,7 @@ fn space_out(keys: &mut Keys, held: usize)
     let mut end = all;
     let mut left = held;
     while end > 0 {
-        if is_its_place(left, held, end, all) {
+        if is_its_position(left, held, end, all) {
             let key = keys.key(left - 1);
             keys.set_key(end - 1, &key);
             left -= 1;

@@ -20,7 +20,7 @@ use tlsf_store::GhostCount;
 #[derive(Clone, Copy)]
 pub(crate) struct LookUp {
     address: Addr,
-    place: Result<usize, usize>,
+    position: Result<usize, usize>,
 }
 
 /// What is held, in order of address. The key of an address that is held no more stays vacant, for the same address
@@ -96,7 +96,7 @@ impl Index {
         if is_last_of(&self.keys, &mut self.comparisons, at, address) {
             return LookUp {
                 address,
-                place: Ok(at),
+                position: Ok(at),
             };
         }
         self.find(address)
@@ -106,11 +106,11 @@ impl Index {
     pub fn find(&mut self, address: Addr) -> LookUp
         ensures { FindsAddress 1 address result self.old self.new }
     {
-        let place = search(&self.keys, &mut self.comparisons, address);
-        if let Ok(at) = place {
+        let position = search(&self.keys, &mut self.comparisons, address);
+        if let Ok(at) = position {
             self.keys.set_hint(address, at);
         }
-        LookUp { address, place }
+        LookUp { address, position }
     }
 
     /// The block that the address which was found is held under.
@@ -118,7 +118,7 @@ impl Index {
         requires found { IsFound self.now.keys found.now }
         ensures value { result ≡ option_map (λ holding. holding.ptr) (held_at self.now.all found.now.address) }
     {
-        match found.place {
+        match found.position {
             Ok(at) => self.keys.key(at).block(),
             Err(_) => None,
         }
@@ -148,7 +148,7 @@ impl Index {
         ensures unchanged { self.new.all ≡ self.old.all }
         ensures looked { LooksUp 0 self.old self.new }
     {
-        let Err(at) = found.place else {
+        let Err(at) = found.position else {
             return;
         };
         self.keys.set_hint(found.address, gap.to);
@@ -178,7 +178,7 @@ impl Index {
         ensures looked { LooksUp 0 self.old self.new }
     {
         let end = self.keys.len();
-        let gap = make_gap(&mut self.keys, found.place);
+        let gap = make_gap(&mut self.keys, found.position);
         self.blocks += 1;
         self.bytes += entry.size;
         self.keys.put(gap.from, gap.to, entry, ptr);
@@ -213,7 +213,7 @@ impl Index {
         ensures bytes { held_bytes self.new.all ≤ held_bytes self.old.all }
         ensures looked { LooksUp 0 self.old self.new }
     {
-        if let Ok(at) = found.place {
+        if let Ok(at) = found.position {
             let key = self.keys.key(at);
             self.blocks -= u64::from(!key.is_vacant());
             self.bytes -= size_of(&self.keys, &key);

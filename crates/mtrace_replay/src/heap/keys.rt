@@ -53,8 +53,8 @@ impl Model for Keys {
     ghost invariant = { λ k. AreChunks k.chunks.items (vec_capacity k.chunks) k.len k.room k.most };
 }
 
-/// The place next to the hole, on the way to another.
-fn next_place(hole: usize, at: usize) -> usize
+/// The position next to the hole, on the way to another.
+fn next_position(hole: usize, at: usize) -> usize
     requires { hole ≢ at }
     ensures up { hole < at → result ≡ hole + 1 }
     ensures down { at < hole → result + 1 ≡ hole }
@@ -225,7 +225,7 @@ impl Keys {
     {
         let mut hole = gap;
         while hole != at {
-            let next = next_place(hole, at);
+            let next = next_position(hole, at);
             let key = self.key(next);
             self.set_key(hole, &key);
             hole = next;

@@ -2,6 +2,7 @@ ghost use Rattle.std.specs.Prelude.{◌≡◌, ◌+◌, ◌≤◌, ◌++◌, len
 ghost use Rattle.mtrace_replay.specs.Moment.{half, is_new};
 ghost use Rattle.mtrace_replay.specs.History.{old_address};
 
+use crate::heap::holder::Holder;
 use crate::heap::index::{Entries, Index};
 use crate::heap::settings::Settings;
 use crate::heap::start::{restart_heap, started_heap};
@@ -78,8 +79,7 @@ pub(crate) fn put_half(half: Option<Diagnostic>, findings: &mut Findings)
 /// The replay of a log's lines on a heap: what is held, by address, and what is wrong with each line.
 #[derive(Drop)]
 pub struct Replay<H: Heaped> {
-    heap: H,
-    held: Index,
+    holder: Holder<H>,
     totals: Totals,
     pending: Option<Addr>,
     out_of_memory: bool,
@@ -93,10 +93,10 @@ impl<H: Heaped> Model for Replay<H> {
     ghost Value = { Replayed };
 
     ghost view = { λ r. record {
-      content = bare (H.content r.heap);
-      touches = H.touches r.heap;
-      comparisons = r.held.comparisons;
-      given = all_given r.held.all;
+      content = bare (H.content r.holder.heap);
+      touches = H.touches r.holder.heap;
+      comparisons = r.holder.held.comparisons;
+      given = all_given r.holder.held.all;
       totals = r.totals;
       pending = r.pending;
       out_of_memory = r.out_of_memory;
@@ -104,7 +104,7 @@ impl<H: Heaped> Model for Replay<H> {
 
     // The blocks that are held are live, and no two are one, until memory is refused. There are at most as many as
     // records, and the index has room for as many.
-    ghost invariant = { λ r. Keeps r.held (H.content r.heap) r.totals H.lacks r.out_of_memory };
+    ghost invariant = { λ r. Keeps r.holder.held (H.content r.holder.heap) r.totals H.lacks r.out_of_memory };
 }
 
 impl<H: Heaped> Replay<H> {
@@ -137,8 +137,7 @@ impl<H: Heaped> Replay<H> {
             return Err(ReplayFault::OutOfMemory);
         };
         Ok(Replay {
-            heap,
-            held,
+            holder: Holder { heap, held },
             totals: Totals::default(),
             pending: None,
             out_of_memory: false,
@@ -178,20 +177,13 @@ impl<H: Heaped> Replay<H> {
         }
         let half = half_before(self.totals.lines, self.pending, &event);
         let next = old_address(&event);
-        match outcome(
-            &mut self.heap,
-            &mut self.held,
-            number,
-            self.pending,
-            event,
-            findings,
-        ) {
+        match outcome(&mut self.holder, number, self.pending, event, findings) {
             Ok(end) => {
-                self.heap.keeps_good();
-                self.held.keeps_order();
+                self.holder.heap.keeps_good();
+                self.holder.held.keeps_order();
                 put_half(half, findings);
                 let is_refused = findings.has_refusal();
-                let (bytes, blocks) = (self.held.bytes(), self.held.len());
+                let (bytes, blocks) = (self.holder.held.bytes(), self.holder.held.len());
                 self.totals = self.totals.after(end, is_refused, bytes, blocks);
                 self.pending = next;
                 Ok(())
@@ -227,14 +219,14 @@ impl<H: Heaped> Replay<H> {
     pub(crate) fn blocks(&self) -> u64
         ensures { Counts (length (entries self.now)) result }
     {
-        self.held.len()
+        self.holder.held.len()
     }
 
     /// How many bytes were asked for what is held, in sum.
     pub(crate) fn bytes(&self) -> u64
         ensures { result ≡ total_size (entries self.now) }
     {
-        self.held.bytes()
+        self.holder.held.bytes()
     }
 
     /// What is held, in order of address: at most as many entries as the heap has records.
@@ -242,7 +234,7 @@ impl<H: Heaped> Replay<H> {
         ensures entries { result ≡ entries self.now }
         ensures few { length result ≤ self.now.content.records }
     {
-        self.held.entries()
+        self.holder.held.entries()
     }
 
     /// The sums over the lines fed.
@@ -258,8 +250,8 @@ impl<H: Heaped> Replay<H> {
         ensures survey { IsSurvey result (free_sizes self.old.content) (live_ends self.old.content) }
         ensures kept { self.new ≡ touched self.new.touches self.old }
     {
-        self.heap.keeps_good();
-        survey_heap(&mut self.heap)
+        self.holder.heap.keeps_good();
+        survey_heap(&mut self.holder.heap)
     }
 
     /// Puts the report of the walk.
@@ -270,7 +262,7 @@ impl<H: Heaped> Replay<H> {
     pub(crate) fn put_walk<W: Sink>(&mut self, writer: &mut W) -> Result<(), Failed>
         ensures { Puts result (walk_report self.old.content) (W.shown writer.old) (W.shown writer.new) }
     {
-        put_walk(writer, &mut self.heap)
+        put_walk(writer, &mut self.holder.heap)
     }
 }
 
@@ -313,8 +305,8 @@ impl Replay<Heap> {
         ensures made { StandsFor self.new settings [] }
         ensures records { self.new.content.records ≡ settings.records }
     {
-        restart_heap(&mut self.heap, settings);
-        self.held.restart(settings.records);
+        restart_heap(&mut self.holder.heap, settings);
+        self.holder.held.restart(settings.records);
         self.totals = Totals::default();
         self.pending = None;
         self.out_of_memory = false;
@@ -325,7 +317,7 @@ impl Replay<Heap> {
         ensures works { self.now.out_of_memory ≡ false }
         ensures few { length self.now.given ≤ most_records }
     {
-        let _ = &self.heap;
+        let _ = &self.holder.heap;
     }
 
     /// Puts an image of the heap.
@@ -336,6 +328,6 @@ impl Replay<Heap> {
     pub(crate) fn put_image<W: Sink>(&mut self, writer: &mut W) -> Result<(), ImageFault>
         ensures { PutsImage result self.old.content (W.shown writer.old) (W.shown writer.new) }
     {
-        self.heap.save_image(writer)
+        self.holder.heap.save_image(writer)
     }
 }

@@ -73,7 +73,7 @@ pub(crate) fn is_last_of(
     behind == keys.len() || keys.key(behind).compare(address, comparisons).reaches == 0
 }
 
-/// The vacant key that is nearest to a place between two keys, or the end where that is nearer.
+/// The vacant key that is nearest to a position between two keys, or the end where that is nearer.
 #[inline(never)]
 fn nearest_gap(keys: &Keys, at: usize) -> usize
     requires at_most { at ≤ length keys.now.keys }
@@ -101,23 +101,23 @@ pub(crate) struct Gap {
     pub to: usize,
 }
 
-/// A gap for an address of this place. It is the address's own vacant key, or the nearest vacant one, so that only
+/// A gap for an address of this position. It is the address's own vacant key, or the nearest vacant one, so that only
 /// what lies between moves. Where the end is nearer, and has room, it is one more key there.
 #[inline(always)]
-pub(crate) fn make_gap(keys: &mut Keys, place: Result<usize, usize>) -> Gap
-    requires vacant { IfOk place (IsVacantAt keys.old.keys) }
-    requires at_most { IfErr place (λ at. at ≤ length keys.old.keys) }
+pub(crate) fn make_gap(keys: &mut Keys, position: Result<usize, usize>) -> Gap
+    requires vacant { IfOk position (IsVacantAt keys.old.keys) }
+    requires at_most { IfErr position (λ at. at ≤ length keys.old.keys) }
     requires free { length (all_held keys.old.rows keys.old.keys) < keys.old.rows.room }
     ensures from { result.from < length keys.new.keys }
     ensures to { result.to < length keys.new.keys }
     ensures within { length keys.new.keys ≤ keys.new.rows.room }
     ensures others { AreOthers keys.old.keys (remove keys.new.keys result.from) }
-    ensures fits { (address : ℕ) → RiseFrom 0 keys.old.keys → IfOk place (StandsAt keys.old.keys address) → IfErr place (FitsAt keys.old.keys address)
+    ensures fits { (address : ℕ) → RiseFrom 0 keys.old.keys → IfOk position (StandsAt keys.old.keys address) → IfErr position (FitsAt keys.old.keys address)
         → FitsAt (remove keys.new.keys result.from) address result.to }
     ensures rows { KeepsRows keys.old.rows keys.new.rows }
 {
     let end = keys.len();
-    match place {
+    match position {
         Ok(at) => Gap { from: at, to: at },
         Err(at) => {
             let from = nearest_gap(keys, at);

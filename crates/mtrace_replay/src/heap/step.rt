@@ -7,9 +7,10 @@ ghost use Rattle.tlsf_heap.specs.Touches.{AtMost};
 ghost use Rattle.tlsf_heap.specs.Realloc.{realloc};
 ghost use Rattle.mtrace_replay.specs.Index.{held_at, IsFound, TellsWhether};
 ghost use Rattle.mtrace_replay.specs.Moment.{asked_size, asked_block, allocation, release, doing, move, renewal, plan};
-ghost use Rattle.mtrace_replay.specs.Step.{found, all_given, Replays, AsksBlock, GivesBlock, Takes, IsUnder, AreLive};
+ghost use Rattle.mtrace_replay.specs.Step.{view, found, all_given, Replays, AsksBlock, GivesBlock, Takes, IsUnder, AreLive};
 
 use crate::heap::asked::asked_size;
+use crate::heap::holder::Holder;
 use crate::heap::index::{Index, LookUp};
 use crate::held::diagnostic::{Diagnostic, Kind};
 use crate::held::entry::Entry;
@@ -42,8 +43,9 @@ struct Block {
 /// Asks for a block of at least `n` bytes, at a multiple of an alignment where there is one.
 #[inline(always)]
 fn ask_block<H: Heaped>(heap: &mut H, align: Option<Addr>, n: u64) -> Result<Ptr, Refusal>
-    ensures { AsksBlock H.content H.touches H.lacks 160 (λ slot. asked_block slot align n (H.content heap.old))
+    ensures asks { AsksBlock (view H.content H.touches H.lacks) (λ slot. asked_block slot align n (H.content heap.old))
         (λ ptr. ptr.place) (λ slot. ⊥) (λ ptr. ptr) result heap.old heap.new }
+    ensures bound { AtMost 160 (H.touches heap.old) (H.touches heap.new) }
 {
     match align {
         None => heap.malloc(n),
@@ -54,7 +56,7 @@ fn ask_block<H: Heaped>(heap: &mut H, align: Option<Addr>, n: u64) -> Result<Ptr
 /// The block that was asked for, and where it ends.
 #[inline(always)]
 fn new_block<H: Heaped>(heap: &mut H, align: Option<Addr>, n: u64) -> Result<Block, Refusal>
-    ensures { GivesBlock H.content H.touches H.lacks 164 (λ slot. asked_block slot align n (H.content heap.old))
+    ensures { GivesBlock (view H.content H.touches H.lacks) 164 (λ slot. asked_block slot align n (H.content heap.old))
         (λ ptr. ptr.place) (λ slot. ⊥) result heap.old heap.new }
 {
     heap.keeps_good();
@@ -66,7 +68,7 @@ fn new_block<H: Heaped>(heap: &mut H, align: Option<Addr>, n: u64) -> Result<Blo
 /// The live block with room for `n` bytes, in its place or moved, and where it ends.
 fn realloc_block<H: Heaped>(heap: &mut H, ptr: Ptr, n: u64) -> Result<Block, Refusal>
     requires some { 0 < n }
-    ensures { GivesBlock H.content H.touches H.lacks 260 (λ slot. realloc (λ a b. a == b) slot (Some (ptr.place, ptr.slot)) n (H.content heap.old))
+    ensures { GivesBlock (view H.content H.touches H.lacks) 260 (λ slot. realloc (λ a b. a == b) slot (Some (ptr.place, ptr.slot)) n (H.content heap.old))
         (λ given. Some (given.place, given.slot)) (λ slot. slot ≡ ptr.slot) result heap.old heap.new }
 {
     heap.keeps_good();
@@ -80,30 +82,29 @@ fn realloc_block<H: Heaped>(heap: &mut H, ptr: Ptr, n: u64) -> Result<Block, Ref
 /// `+ address size`, or `* address align size`: asks the heap for a block for the entry, unless its address is held.
 #[inline(always)]
 fn allocate<H: Heaped>(
-    heap: &mut H,
-    held: &mut Index,
+    holder: &mut Holder<H>,
     align: Option<Addr>,
     entry: &Entry<LentLocation<'_>>,
     findings: &mut Findings,
 ) -> Result<Option<u64>, AllocError>
-    requires live { AreLive held.old.all (H.content heap.old) }
-    requires room { held.old.room ≡ (H.content heap.old).records }
+    requires live { AreLive holder.old.held.all (H.content holder.old.heap) }
+    requires room { holder.old.held.room ≡ (H.content holder.old.heap).records }
     requires none { findings.old ≡ [] }
-    ensures { Replays H.content H.touches H.lacks 2 164 (allocation entry.now align (found (all_given held.old.all) entry.now.addr))
-        findings.new result heap.old heap.new held.old held.new }
+    ensures { Replays (view H.content H.touches H.lacks) 2 164 (allocation entry.now align (found (all_given holder.old.held.all) entry.now.addr))
+        findings.new result holder.old holder.new }
 {
-    let found = held.find_again(entry.addr);
-    if held.is_held(&found) {
+    let found = holder.held.find_again(entry.addr);
+    if holder.held.is_held(&found) {
         findings.set_one(entry.line, Kind::AlreadyHeld(entry.addr));
         return Ok(None);
     }
-    heap.keeps_good();
-    held.keeps_order();
-    match new_block(heap, align, asked_size(entry.size)) {
+    holder.heap.keeps_good();
+    holder.held.keeps_order();
+    match new_block(&mut holder.heap, align, asked_size(entry.size)) {
         Ok(block) => {
             let ptr = block.ptr;
-            heap.keeps_good();
-            held.insert(&found, entry, ptr);
+            holder.heap.keeps_good();
+            holder.held.insert(&found, entry, ptr);
             Ok(Some(block.end))
         }
         Err(Refusal::OutOfMemory) => Err(AllocError),
@@ -116,21 +117,16 @@ fn allocate<H: Heaped>(
 
 /// Frees the block that the address which was found is held under, and holds the address no more.
 #[inline(always)]
-fn take<H: Heaped>(
-    heap: &mut H,
-    held: &mut Index,
-    found: &LookUp,
-    ptr: Ptr,
-) -> Result<(), AllocError>
-    requires live { AreLive held.old.all (H.content heap.old) }
-    requires found { IsFound held.old.keys found.now }
-    requires held { IsUnder ptr (held_at held.old.all found.now.address) }
-    ensures { Takes H.content H.touches H.lacks 96 found.now.address ptr result heap.old heap.new held.old held.new }
+fn take<H: Heaped>(holder: &mut Holder<H>, found: &LookUp, ptr: Ptr) -> Result<(), AllocError>
+    requires live { AreLive holder.old.held.all (H.content holder.old.heap) }
+    requires found { IsFound holder.old.held.keys found.now }
+    requires held { IsUnder ptr (held_at holder.old.held.all found.now.address) }
+    ensures { Takes (view H.content H.touches H.lacks) 96 found.now.address ptr result holder.old holder.new }
 {
-    heap.keeps_good();
-    match heap.free(ptr) {
+    holder.heap.keeps_good();
+    match holder.heap.free(ptr) {
         Ok(()) => {
-            held.remove(found);
+            holder.held.remove(found);
             Ok(())
         }
         Err(Refusal::OutOfMemory) => Err(AllocError),
@@ -141,55 +137,53 @@ fn take<H: Heaped>(
 /// `- address`: frees the block that the address is held under.
 #[inline(always)]
 fn release<H: Heaped>(
-    heap: &mut H,
-    held: &mut Index,
+    holder: &mut Holder<H>,
     number: u64,
     address: Addr,
     findings: &mut Findings,
 ) -> Result<Option<u64>, AllocError>
-    requires live { AreLive held.old.all (H.content heap.old) }
+    requires live { AreLive holder.old.held.all (H.content holder.old.heap) }
     requires none { findings.old ≡ [] }
-    ensures { Replays H.content H.touches H.lacks 2 96 (release number address (found (all_given held.old.all) address))
-        findings.new result heap.old heap.new held.old held.new }
+    ensures { Replays (view H.content H.touches H.lacks) 2 96 (release number address (found (all_given holder.old.held.all) address))
+        findings.new result holder.old holder.new }
 {
-    let found = held.find_again(address);
-    let Some(ptr) = held.block(&found) else {
+    let found = holder.held.find_again(address);
+    let Some(ptr) = holder.held.block(&found) else {
         findings.set_one(number, Kind::NotHeld(address));
         return Ok(None);
     };
-    take(heap, held, &found, ptr)?;
+    take(holder, &found, ptr)?;
     Ok(None)
 }
 
 /// Asks the heap to reallocate the block of the old address that was found for the entry; where it refuses, the block is freed.
 fn reallocate<H: Heaped>(
-    heap: &mut H,
-    held: &mut Index,
+    holder: &mut Holder<H>,
     old: &LookUp,
     ptr: Ptr,
     entry: &Entry<LentLocation<'_>>,
     findings: &mut Findings,
 ) -> Result<Option<u64>, AllocError>
-    requires live { AreLive held.old.all (H.content heap.old) }
-    requires room { held.old.room ≡ (H.content heap.old).records }
-    requires found { IsFound held.old.keys old.now }
-    requires held { IsUnder ptr (held_at held.old.all old.now.address) }
-    requires free { old.now.address ≢ entry.now.addr → held_at held.old.all entry.now.addr ≡ None }
+    requires live { AreLive holder.old.held.all (H.content holder.old.heap) }
+    requires room { holder.old.held.room ≡ (H.content holder.old.heap).records }
+    requires found { IsFound holder.old.held.keys old.now }
+    requires held { IsUnder ptr (held_at holder.old.held.all old.now.address) }
+    requires free { old.now.address ≢ entry.now.addr → held_at holder.old.held.all entry.now.addr ≡ None }
     requires none { findings.old ≡ [] }
-    ensures { Replays H.content H.touches H.lacks 1 356 (doing (move old.now.address ptr.place entry.now))
-        findings.new result heap.old heap.new held.old held.new }
+    ensures { Replays (view H.content H.touches H.lacks) 1 356 (doing (move old.now.address ptr.place entry.now))
+        findings.new result holder.old holder.new }
 {
-    heap.keeps_good();
-    held.keeps_order();
-    match realloc_block(heap, ptr, asked_size(entry.size)) {
+    holder.heap.keeps_good();
+    holder.held.keeps_order();
+    match realloc_block(&mut holder.heap, ptr, asked_size(entry.size)) {
         Ok(block) => {
             let ptr = block.ptr;
-            held.replace(old, entry, ptr);
+            holder.held.replace(old, entry, ptr);
             Ok(Some(block.end))
         }
         Err(Refusal::OutOfMemory) => Err(AllocError),
         Err(refusal) => {
-            take(heap, held, old, ptr)?;
+            take(holder, old, ptr)?;
             findings.set_one(entry.line, Kind::Refused(entry.addr, refusal));
             Ok(None)
         }
@@ -206,37 +200,36 @@ fn is_held_too(held: &mut Index, address: Addr, old: Addr) -> bool
 /// `> address size`: reallocates the block of the address of the line before, where that is `<`.
 #[inline(never)]
 fn renew<H: Heaped>(
-    heap: &mut H,
-    held: &mut Index,
+    holder: &mut Holder<H>,
     pending: Option<Addr>,
     entry: &Entry<LentLocation<'_>>,
     findings: &mut Findings,
 ) -> Result<Option<u64>, AllocError>
-    requires live { AreLive held.old.all (H.content heap.old) }
-    requires room { held.old.room ≡ (H.content heap.old).records }
+    requires live { AreLive holder.old.held.all (H.content holder.old.heap) }
+    requires room { holder.old.held.room ≡ (H.content holder.old.heap).records }
     requires none { findings.old ≡ [] }
-    ensures { Replays H.content H.touches H.lacks 3 356 (renewal entry.now pending (found (all_given held.old.all)))
-        findings.new result heap.old heap.new held.old held.new }
+    ensures { Replays (view H.content H.touches H.lacks) 3 356 (renewal entry.now pending (found (all_given holder.old.held.all)))
+        findings.new result holder.old holder.new }
 {
     let number = entry.line;
     let Some(old) = pending else {
         findings.set_one(number, Kind::Stray);
         return Ok(None);
     };
-    let found = held.find(old);
-    let Some(ptr) = held.block(&found) else {
-        let end = allocate(heap, held, None, entry, findings)?;
+    let found = holder.held.find(old);
+    let Some(ptr) = holder.held.block(&found) else {
+        let end = allocate(holder, None, entry, findings)?;
         findings.put_first(Diagnostic {
             line: number,
             kind: Kind::NotHeld(old),
         });
         return Ok(end);
     };
-    if is_held_too(held, entry.addr, old) {
+    if is_held_too(&mut holder.held, entry.addr, old) {
         findings.set_one(number, Kind::AlreadyHeld(entry.addr));
         return Ok(None);
     }
-    reallocate(heap, held, &found, ptr, entry, findings)
+    reallocate(holder, &found, ptr, entry, findings)
 }
 
 /// The entry of a line that asks for a block.
@@ -260,18 +253,17 @@ pub(crate) fn entry_of<'a>(
 /// touches.
 #[inline(always)]
 pub(crate) fn outcome<H: Heaped>(
-    heap: &mut H,
-    held: &mut Index,
+    holder: &mut Holder<H>,
     number: u64,
     pending: Option<Addr>,
     event: Result<Event<LentLocation<'_>>, LineFault>,
     findings: &mut Findings,
 ) -> Result<Option<u64>, AllocError>
-    requires live { AreLive held.old.all (H.content heap.old) }
-    requires room { held.old.room ≡ (H.content heap.old).records }
+    requires live { AreLive holder.old.held.all (H.content holder.old.heap) }
+    requires room { holder.old.held.room ≡ (H.content holder.old.heap).records }
     requires none { findings.old ≡ [] }
-    ensures { Replays H.content H.touches H.lacks 3 356 (plan number event.entry pending (found (all_given held.old.all)))
-        findings.new result heap.old heap.new held.old held.new }
+    ensures { Replays (view H.content H.touches H.lacks) 3 356 (plan number event.entry pending (found (all_given holder.old.held.all)))
+        findings.new result holder.old holder.new }
 {
     match event {
         Err(LineFault::TooLong) => {
@@ -288,7 +280,7 @@ pub(crate) fn outcome<H: Heaped>(
                 return Ok(None);
             };
             let entry = entry_of(number, at, addr, size);
-            allocate(heap, held, None, &entry, findings)
+            allocate(holder, None, &entry, findings)
         }
         Ok(
             Event::Aligned {
@@ -299,12 +291,12 @@ pub(crate) fn outcome<H: Heaped>(
             },
         ) => {
             let entry = entry_of(number, at, addr, size);
-            allocate(heap, held, Some(align), &entry, findings)
+            allocate(holder, Some(align), &entry, findings)
         }
-        Ok(Event::Free { at: _at, addr }) => release(heap, held, number, addr, findings),
+        Ok(Event::Free { at: _at, addr }) => release(holder, number, addr, findings),
         Ok(Event::New { at, addr, size }) => {
             let entry = entry_of(number, at, addr, size);
-            renew(heap, held, pending, &entry, findings)
+            renew(holder, pending, &entry, findings)
         }
     }
 }

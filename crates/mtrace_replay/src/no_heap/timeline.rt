@@ -3,6 +3,7 @@
 ghost use Rattle.std.specs.Prelude.{◌≡◌, ◌<◌, ◌≤◌, List, flat_map, length, IfOk};
 ghost use Rattle.std.specs.List.Sorted.{IsStrictlyIncreasing};
 ghost use Rattle.mtrace_log.specs.Output.{Puts};
+ghost use Rattle.mtrace_replay.specs.Course.{course};
 ghost use Rattle.mtrace_replay.specs.Moment.{ReadLine};
 ghost use Rattle.mtrace_replay.specs.Totals.{IsPeak};
 ghost use Rattle.mtrace_replay.specs.Timeline.{AreTold};
@@ -116,7 +117,7 @@ fn tell_timeline<R: Again, W: Sink>(
     requires some { 0 < parts }
     ensures answer { IfOk result (λ answered. answered ≡ status) }
     ensures told { (lines : List ReadLine) → totals.lines ≡ length lines → IsPeak (served_history lines) totals.peak_bytes totals.peak_line
-        → ServedTimelineFollows parts lines R.shown W.shown result reader.old reader.new writer.old writer.new }
+        → ServedTimelineFollows parts lines result (course R.shown reader.old reader.new) (course W.shown writer.old writer.new) }
 {
     let Ok(numbers) = told_lines(alloc, totals, parts) else {
         return Err(RunFault::OutOfMemory);
@@ -150,7 +151,7 @@ pub fn run_ledger_timeline<R: Again, W: Sink>(
     writer: &mut W,
     parts: u32,
 ) -> Result<Status, RunFault>
-    ensures { RunsServedTimeline parts R.shown W.shown result reader.old reader.new writer.old writer.new }
+    ensures { RunsServedTimeline parts result (course R.shown reader.old reader.new) (course W.shown writer.old writer.new) }
 {
     if parts == 0 || parts > MOST_PARTS {
         return Err(RunFault::BadSettings);

@@ -1,6 +1,7 @@
 //! The run that tells which heaps by size serve a log.
 
 ghost use Rattle.std.specs.Prelude.{◌≡◌, ◌≤◌, ◌<◌, ℕ, reverse, length, map, List};
+ghost use Rattle.mtrace_replay.specs.Course.{course};
 ghost use Rattle.mtrace_replay.specs.declared.parts.span.Span.{Span};
 ghost use Rattle.mtrace_replay.specs.Served.{IsServed};
 ghost use Rattle.mtrace_replay.specs.Spans.{AreCountedOf};
@@ -101,7 +102,7 @@ pub fn run_fit_heaps<R: Source, W: Sink>(
     writer: &mut W,
     heaps: u32,
 ) -> Result<Status, RunFault>
-    ensures { RunsParts heaps R.shown W.shown result reader.old reader.new writer.old writer.new }
+    ensures { RunsParts heaps result (course R.shown reader.old reader.new) (course W.shown writer.old writer.new) }
 {
     if heaps == 0 || heaps > 8 {
         return Err(RunFault::BadSettings);

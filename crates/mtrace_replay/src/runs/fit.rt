@@ -2,6 +2,7 @@
 
 ghost use Rattle.std.specs.Prelude.{◌≡◌, ◌+◌, ◌-◌, ◌*◌, ◌/◌, ◌%◌, ◌^◌, ◌<◌, ◌≤◌, ◌++◌, nat_lt, false, List, reverse, IfOk, OnOk};
 ghost use Rattle.tlsf_class.specs.Classes.{greatest_size};
+ghost use Rattle.mtrace_replay.specs.Course.{course};
 ghost use Rattle.mtrace_replay.specs.Again.{FailsAgain};
 ghost use Rattle.tlsf_heap.specs.Pools.{most_records};
 ghost use Rattle.mtrace_replay.specs.Moment.{ReadLine};
@@ -228,7 +229,8 @@ fn tell_fit<R: Again, W: Sink, T: Watch>(
     requires records { ended.old.replay.replay.content.records ≡ most_records }
     ensures answer { IfOk result (λ answered. answered ≡ ended.old.status) }
     ensures told { (lines : List ReadLine) → StandsFor ended.old.replay.replay greatest_settings (reverse lines)
-        → AreNeeds (started greatest_settings) (reverse lines) ended.old.replay.needs → FitFollows step lines R.shown W.shown result reader.old reader.new writer.old writer.new }
+        → AreNeeds (started greatest_settings) (reverse lines) ended.old.replay.needs
+        → FitFollows step lines result (course R.shown reader.old reader.new) (course W.shown writer.old writer.new) }
 {
     let followed = &mut ended.replay;
     let Ok(text) = fit_text(reader, &mut followed.replay, followed.needs, step, watch) else {
@@ -262,7 +264,7 @@ pub fn run_fit<R: Again, W: Sink, T: Watch>(
     step: Option<u64>,
     watch: &T,
 ) -> Result<Status, RunFault>
-    ensures { RunsFit step R.shown W.shown result reader.old reader.new writer.old writer.new }
+    ensures { RunsFit step result (course R.shown reader.old reader.new) (course W.shown writer.old writer.new) }
 {
     if is_bad_step(step) {
         return Err(RunFault::BadSettings);

@@ -2,6 +2,7 @@
 
 ghost use Rattle.std.specs.Prelude.{◌≡◌, ℕ, ◌+◌, max, nat_lt, IfOk, Option, [], if◌then◌else◌};
 ghost use Rattle.tlsf_heap.specs.Sizing.{class_size};
+ghost use Rattle.mtrace_replay.specs.Course.{course};
 ghost use Rattle.mtrace_replay.specs.Moment.{Given, asked_size};
 ghost use Rattle.mtrace_replay.specs.Asked.{greater_class};
 ghost use Rattle.mtrace_replay.specs.Run.{Runs};
@@ -139,7 +140,7 @@ pub(crate) fn replay_needs<R: Source, W: Sink>(
     writer: &mut W,
     settings: Settings,
 ) -> Result<NeedsRun, RunFault>
-    ensures ran { Runs Report.Nothing settings R.shown W.shown (status_with result) reader.old reader.new writer.old writer.new }
+    ensures ran { Runs Report.Nothing settings (status_with result) (course R.shown reader.old reader.new) (course W.shown writer.old writer.new) }
     ensures last { IfOk result (λ ended. EndsWithNeeds settings ended.status ended.replay
         (R.shown reader.old) (R.shown reader.new) (W.shown writer.old) (W.shown writer.new)) }
 {

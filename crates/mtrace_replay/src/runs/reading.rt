@@ -2,6 +2,7 @@
 
 ghost use Rattle.std.specs.Prelude.{◌≡◌, ◌+◌, ◌≤◌, length};
 ghost use Rattle.mtrace_log.specs.Progress.{most_asked};
+ghost use Rattle.mtrace_replay.specs.Course.{course};
 ghost use Rattle.mtrace_replay.specs.Replaying.{no_line, FollowsUpTo};
 
 use crate::held::findings::Findings;
@@ -60,7 +61,7 @@ impl Reading {
     ) -> Result<(), Stop>
         requires counted { P.rules.lines replay.old ≡ self.old.count }
         requires ready { P.rules.IsReady replay.old }
-        ensures { FollowsUpTo P.rules (self.old.count + 1) result self.old self.new replay.old replay.new (R.shown reader.old) (R.shown reader.new) }
+        ensures { FollowsUpTo P.rules (self.old.count + 1) result self.old self.new replay.old replay.new (course R.shown reader.old reader.new) }
     {
         let number = match self.lines.advance(reader) {
             Ok(Some(number)) => number,
@@ -89,7 +90,7 @@ impl Reading {
         requires counted { P.rules.lines replay.old ≡ self.old.count }
         requires ready { P.rules.IsReady replay.old }
         requires ahead { self.old.count ≤ number }
-        ensures { FollowsUpTo P.rules number result self.old self.new replay.old replay.new (R.shown reader.old) (R.shown reader.new) }
+        ensures { FollowsUpTo P.rules number result self.old self.new replay.old replay.new (course R.shown reader.old reader.new) }
     {
         for _ in replay.lines()..number {
             self.follow_next(reader, replay)?;

@@ -2,6 +2,7 @@
 
 ghost use Rattle.std.specs.Prelude.{◌≡◌, ◌++◌, false, [], IfOk};
 ghost use Rattle.mtrace_log.specs.Output.{Puts};
+ghost use Rattle.mtrace_replay.specs.Course.{course};
 ghost use Rattle.mtrace_replay.specs.Texts.{diagnostics_text, report_text};
 ghost use Rattle.mtrace_replay.specs.Replay.{entries};
 ghost use Rattle.mtrace_replay.specs.Run.{Runs, EndsAt, status_in, PutsReport, Finishes};
@@ -92,7 +93,7 @@ pub(crate) fn replay_log<R: Source, W: Sink>(
     settings: Settings,
     report: Report,
 ) -> Result<FinishedRun, RunFault>
-    ensures ran { Runs report settings R.shown W.shown (status_in result) reader.old reader.new writer.old writer.new }
+    ensures ran { Runs report settings (status_in result) (course R.shown reader.old reader.new) (course W.shown writer.old writer.new) }
     ensures last { report ≡ Report.Nothing → IfOk result (λ ended. EndsAt settings ended.status ended.replay
         (R.shown reader.old) (R.shown reader.new) (W.shown writer.old) (W.shown writer.new)) }
 {
@@ -134,7 +135,7 @@ pub fn run_report<R: Source, W: Sink>(
     settings: Settings,
     report: Report,
 ) -> Result<Status, RunFault>
-    ensures { Runs report settings R.shown W.shown result reader.old reader.new writer.old writer.new }
+    ensures { Runs report settings result (course R.shown reader.old reader.new) (course W.shown writer.old writer.new) }
 {
     let ended = replay_log(alloc, reader, writer, settings, report)?;
     Ok(ended.status)
@@ -147,7 +148,7 @@ pub fn run_leaks<R: Source, W: Sink>(
     writer: &mut W,
     settings: Settings,
 ) -> Result<Status, RunFault>
-    ensures { Runs Report.Leaks settings R.shown W.shown result reader.old reader.new writer.old writer.new }
+    ensures { Runs Report.Leaks settings result (course R.shown reader.old reader.new) (course W.shown writer.old writer.new) }
 {
     run_report(alloc, reader, writer, settings, Report::Leaks)
 }
@@ -159,7 +160,7 @@ pub fn run_peak<R: Source, W: Sink>(
     writer: &mut W,
     settings: Settings,
 ) -> Result<Status, RunFault>
-    ensures { Runs Report.Peak settings R.shown W.shown result reader.old reader.new writer.old writer.new }
+    ensures { Runs Report.Peak settings result (course R.shown reader.old reader.new) (course W.shown writer.old writer.new) }
 {
     run_report(alloc, reader, writer, settings, Report::Peak)
 }
@@ -171,7 +172,7 @@ pub fn run_walk<R: Source, W: Sink>(
     writer: &mut W,
     settings: Settings,
 ) -> Result<Status, RunFault>
-    ensures { Runs Report.Walk settings R.shown W.shown result reader.old reader.new writer.old writer.new }
+    ensures { Runs Report.Walk settings result (course R.shown reader.old reader.new) (course W.shown writer.old writer.new) }
 {
     run_report(alloc, reader, writer, settings, Report::Walk)
 }

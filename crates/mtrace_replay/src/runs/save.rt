@@ -1,5 +1,6 @@
 //! The run that saves the heap of a log.
 
+ghost use Rattle.mtrace_replay.specs.Course.{course};
 ghost use Rattle.mtrace_replay.specs.Saving.{SavesLast, RunsAndSaves};
 
 use crate::heap::replay::Replay;
@@ -38,7 +39,8 @@ pub fn run_save<R: Source, W: Sink, I: Sink>(
     image: &mut I,
     settings: Settings,
 ) -> Result<Status, RunFault>
-    ensures { RunsAndSaves settings R.shown W.shown I.shown result reader.old reader.new writer.old writer.new image.old image.new }
+    ensures { RunsAndSaves settings result (course R.shown reader.old reader.new) (course W.shown writer.old writer.new)
+        (course I.shown image.old image.new) }
 {
     let mut ended = replay_log(alloc, reader, writer, settings, Report::Nothing)?;
     match save(&mut ended.replay, image) {

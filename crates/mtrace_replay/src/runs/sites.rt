@@ -2,6 +2,7 @@
 
 ghost use Rattle.std.specs.Prelude.{◌≡◌, ◌++◌, ◌≤◌, ◌↔◌, List, [], reverse, IfOk, IsErrOf, IsTrue};
 ghost use Rattle.mtrace_log.specs.Output.{Puts};
+ghost use Rattle.mtrace_replay.specs.Course.{course};
 ghost use Rattle.mtrace_replay.specs.declared.heap.settings.Settings.{Settings};
 ghost use Rattle.mtrace_replay.specs.Settings.{are_bad};
 ghost use Rattle.mtrace_replay.specs.Moment.{ReadLine};
@@ -78,7 +79,7 @@ fn tell_sites<'a, R: Again, W: Sink>(
     requires peak_room { at_end.now.content.records ≤ peak.room }
     ensures answer { IfOk result (λ answered. answered ≡ status) }
     ensures told { (settings : Settings) (lines : List ReadLine) → StandsFor at_end.now settings (reverse lines) → StandsFor at_peak.old settings []
-        → SitesFollow settings lines R.shown W.shown result reader.old reader.new writer.old writer.new }
+        → SitesFollow settings lines result (course R.shown reader.old reader.new) (course W.shown writer.old writer.new) }
 {
     let totals = at_end.totals();
     let end_sum = group_held(at_end, &mut end);
@@ -128,7 +129,7 @@ pub fn run_sites<R: Again, W: Sink>(
     writer: &mut W,
     settings: Settings,
 ) -> Result<Status, RunFault>
-    ensures { RunsSites settings R.shown W.shown result reader.old reader.new writer.old writer.new }
+    ensures { RunsSites settings result (course R.shown reader.old reader.new) (course W.shown writer.old writer.new) }
 {
     let (mut at_peak, peak, end) = match take_memory(alloc, settings) {
         Ok(taken) => taken,

@@ -3,6 +3,7 @@
 ghost use Rattle.std.specs.Prelude.{◌≡◌, ◌+◌, ◌<◌, ◌≤◌, ◌↔◌, false, List, [], reverse, flat_map, length, vec_capacity, IfOk, IsErrOf, IsTrue};
 ghost use Rattle.std.specs.List.Sorted.{IsStrictlyIncreasing};
 ghost use Rattle.mtrace_log.specs.Output.{Puts};
+ghost use Rattle.mtrace_replay.specs.Course.{course};
 ghost use Rattle.mtrace_replay.specs.Settings.{are_bad};
 ghost use Rattle.mtrace_replay.specs.Moment.{ReadLine};
 ghost use Rattle.mtrace_replay.specs.Replay.{StandsFor};
@@ -110,7 +111,7 @@ fn tell_timeline<R: Again, W: Sink>(
     requires room { HasRoom parts room.numbers room.points }
     ensures answer { IfOk result (λ answered. answered ≡ status) }
     ensures told { (lines : List ReadLine) → StandsFor replay.old settings (reverse lines)
-        → TimelineFollows settings parts lines R.shown W.shown result reader.old reader.new writer.old writer.new }
+        → TimelineFollows settings parts lines result (course R.shown reader.old reader.new) (course W.shown writer.old writer.new) }
 {
     let totals = replay.totals();
     tell_lines(totals.lines, totals.peak_line, parts, &mut room.numbers);
@@ -158,7 +159,7 @@ pub fn run_timeline<R: Again, W: Sink>(
     settings: Settings,
     parts: u32,
 ) -> Result<Status, RunFault>
-    ensures { RunsTimeline settings parts R.shown W.shown result reader.old reader.new writer.old writer.new }
+    ensures { RunsTimeline settings parts result (course R.shown reader.old reader.new) (course W.shown writer.old writer.new) }
 {
     if parts == 0 || parts > MOST_PARTS {
         return Err(RunFault::BadSettings);

@@ -18,7 +18,7 @@ holds_at test (suc n) k all below =
     let parts = and_parts (test n) (holds_below test n) all in
     elim (cases_eq k n) [ inl same ↦ rw same parts.0 | inr other ↦ holds_at test n k parts.1 (omega arith) ]
 
--- a byte below 16 in the table is the digit that writes its place
+-- where the table has a number below 16, the byte is that digit
 is_written : List ℕ → ℕ → Bool
 is_written table byte = not (nat_lt (get_or table byte 0) 16) || (digit_char (get_or table byte 0) == byte)
 

@@ -34,11 +34,11 @@ not_both x y e f = not_less x (site_total.trans x y x e f)
 
 -- strictly sorted lists with the same members are one
 within : (x : Site) (xs ys : List Site) → AllByRecursion (λ t. site_cmp x t ≡ Less) xs → ((z : Site) → In z (x ∷ xs) → In z (x ∷ ys)) → (z : Site) → In z xs → In z ys
-within x xs ys below sub z i = by_place (sub z (inr i))
+within x xs ys below sub z i = by_position (sub z (inr i))
   where
-    by_place : In z (x ∷ ys) → In z ys
-    by_place (inl e) = let l : site_cmp x z ≡ Less = in_all (λ t. site_cmp x t ≡ Less) z xs below i in absurd (not_less x (subst (λ t. site_cmp x t ≡ Less) (sym e) l))
-    by_place (inr j) = j
+    by_position : In z (x ∷ ys) → In z ys
+    by_position (inl e) = let l : site_cmp x z ≡ Less = in_all (λ t. site_cmp x t ≡ Less) z xs below i in absurd (not_less x (subst (λ t. site_cmp x t ≡ Less) (sym e) l))
+    by_position (inr j) = j
 
 heads : (x y : Site) (xs ys : List Site) → AllByRecursion (λ t. site_cmp x t ≡ Less) xs → AllByRecursion (λ t. site_cmp y t ≡ Less) ys → In x (y ∷ ys) → In y (x ∷ xs) → y ≡ x
 heads x y xs ys a b (inl e) j = e
@@ -74,10 +74,10 @@ member entries xs ys a b x i =
     let none : Entry = record { addr = 0; size = 0; line = 0; at = x.at } in
     let (y, j, same) = in_any (λ t. t.at ≡ (get_or entries k none).at) ys (b.covers k none lt) in
     let t : IsSiteOf entries y = in_all (IsSiteOf entries) y ys (recursion_from_All (IsSiteOf entries) ys b.exact) j in
-    let place : y.at ≡ x.at = same ∙ at none in
-    let blocks : y.blocks ≡ x.blocks = t.blocks ∙ ap (λ p. blocks_at p entries) place ∙ sym s.blocks in
-    let bytes : y.bytes ≡ x.bytes = t.bytes ∙ ap (λ p. bytes_at p entries) place ∙ sym s.bytes in
-    let whole : y ≡ x = (λ i. record { blocks = blocks i; bytes = bytes i; at = place i }) in
+    let location : y.at ≡ x.at = same ∙ at none in
+    let blocks : y.blocks ≡ x.blocks = t.blocks ∙ ap (λ p. blocks_at p entries) location ∙ sym s.blocks in
+    let bytes : y.bytes ≡ x.bytes = t.bytes ∙ ap (λ p. bytes_at p entries) location ∙ sym s.bytes in
+    let whole : y ≡ x = (λ i. record { blocks = blocks i; bytes = bytes i; at = location i }) in
     subst (λ z. In z ys) whole j
 
 pub one_list : (entries : List Entry) (xs ys : List Site) → AreSites entries xs → AreSites entries ys → xs ≡ ys

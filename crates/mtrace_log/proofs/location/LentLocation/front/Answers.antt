@@ -6,16 +6,16 @@ use Rattle.mtrace_log.proofs.LocationLemmas.{AllByRecursion-take, location-end, 
 use Rattle.mtrace_log.proofs.location.LentLocation.front.Goals as goal
 
 pub returns-then-end-eq0 : goal.returns-then-end-eq0
-returns-then-end-eq0 c = λ place rest is same.
-    let end = location-end c.args.bytes.now place rest c.location_end-end.result c.location_end-end.ensures.within c.location_end-end.ensures.allowed c.location_end-end.ensures.ended is.allowed same in
+returns-then-end-eq0 c = λ location rest is same.
+    let end = location-end c.args.bytes.now location rest c.location_end-end.result c.location_end-end.ensures.within c.location_end-end.ensures.allowed c.location_end-end.ensures.ended is.allowed same in
     let some = is.some in
     let short = is.short in
     elim c.then-end-eq0.either [ inl h ↦ omega arith | inr h ↦ omega arith ]
 
 pub returns-in_err-rest : goal.returns-in_err-rest
-returns-in_err-rest c = rw c.from_residual.ensures (λ place rest is same.
-    let end = location-end c.args.bytes.now place rest c.location_end-end.result c.location_end-end.ensures.within c.location_end-end.ensures.allowed c.location_end-end.ensures.ended is.allowed same in
-    c.in_err-rest.ensures rest (location-cut c.args.bytes.now place rest c.location_end-end.result end same))
+returns-in_err-rest c = rw c.from_residual.ensures (λ location rest is same.
+    let end = location-end c.args.bytes.now location rest c.location_end-end.result c.location_end-end.ensures.within c.location_end-end.ensures.allowed c.location_end-end.ensures.ended is.allowed same in
+    c.in_err-rest.ensures rest (location-cut c.args.bytes.now location rest c.location_end-end.result end same))
 
 is_location : (bytes : List ℕ) (end : ℕ) → end ≤ length bytes → ((k : ℕ) → k < end → IsLocationByte (get_or bytes k 0)) → end ≢ 0 → end ≤ 255 → IsLocation (take end bytes)
 is_location bytes end within allowed some short =

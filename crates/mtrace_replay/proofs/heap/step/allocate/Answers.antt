@@ -21,9 +21,9 @@ use Rattle.mtrace_replay.proofs.heap.step.allocate.Goals as goal
 
 pub insert-requires : goal.insert-requires
 insert-requires g c =
-    let old = g.H.Heaped.content c.args.heap.now in
+    let old = g.H.Heaped.content c.args.holder.now.heap in
     let new = g.H.Heaped.content c.new_block.new.heap in
-    let held = c.args.held.now.all in
+    let held = c.args.holder.now.held.all in
     let same = c.find_again-found.ensures.unchanged in
     let ordered = subst AreInOrder same c.keeps_order.ensures in
     let most = asked_small c.in-Ok.block.ptr.slot c.args.align c.asked_size.result old (c.in-Ok.block.ptr.place, new) c.in-Ok.ensures.asks.ok in
@@ -33,7 +33,7 @@ insert-requires g c =
     let more : Holding = record { entry = c.args.entry.now; ptr = c.in-Ok.block.ptr } in
     let live = live_after_asked held (more ∷ held) old new c.keeps_good.ensures.good c.requires.live more c.args.align c.asked_size.result c.in-Ok.ensures.asks.ok (omega (arith, asked, is)) (λ other. refl) in
     let records = asked_records c.in-Ok.block.ptr.slot c.args.align c.asked_size.result old (c.in-Ok.block.ptr.place, new) c.in-Ok.ensures.asks.ok in
-    let absent = none_is (held_at held c.args.entry.now.addr) (sym (seen_held c.find_again-found.new.self.all c.args.held.now.all c.find_again-found.result.address c.args.entry.now.addr c.is_held.result c.is_held.ensures.value c.find_again-found.ensures.unchanged c.find_again-found.ensures.address) ∙ c.if-is_held.false) in
+    let absent = none_is (held_at held c.args.entry.now.addr) (sym (seen_held c.find_again-found.new.self.all c.args.holder.now.held.all c.find_again-found.result.address c.args.entry.now.addr c.is_held.result c.is_held.ensures.value c.find_again-found.ensures.unchanged c.find_again-found.ensures.address) ∙ c.if-is_held.false) in
     let room = held_room held new ordered c.keeps_good-in-Ok.ensures.good more absent live in
     record {
       found = search rules;
@@ -47,15 +47,15 @@ insert-requires g c =
 
 pub returns-then-is_held : goal.returns-then-is_held
 returns-then-is_held g c =
-    let heap = g.H.Heaped.content c.args.heap.now in
+    let heap = g.H.Heaped.content c.args.holder.now.heap in
     let content = bare heap in
-    let held = c.args.held.now.all in
+    let held = c.args.holder.now.held.all in
     let entry = c.args.entry.now in
     let planned = none_for entry.line (AlreadyHeld entry.addr) in
     let moment = carried_out planned content in
     let P : List Diagnostic → Type 0 = λ diagnostics. Comes content content (all_given held) (all_given held) diagnostics None moment in
     let Q : List Diagnostic → List Holding → Type 0 = λ diagnostics all. Comes content content (all_given held) (all_given all) diagnostics None moment in
-    replays_as (allocation_held held entry c.args.align (sym (seen_held c.find_again-found.new.self.all c.args.held.now.all c.find_again-found.result.address c.args.entry.now.addr c.is_held.result c.is_held.ensures.value c.find_again-found.ensures.unchanged c.find_again-found.ensures.address) ∙ c.if-is_held.true)) (record {
+    replays_as (allocation_held held entry c.args.align (sym (seen_held c.find_again-found.new.self.all c.args.holder.now.held.all c.find_again-found.result.address c.args.entry.now.addr c.is_held.result c.is_held.ensures.value c.find_again-found.ensures.unchanged c.find_again-found.ensures.address) ∙ c.if-is_held.true)) (record {
       comes = subst (Q c.set_one.new.self) (sym c.find_again-found.ensures.unchanged)
           (subst P (sym c.set_one.ensures) (comes_unserved content (all_given held) entry.line (AlreadyHeld entry.addr)));
       live = subst (λ all. AreLive all heap) (sym c.find_again-found.ensures.unchanged) c.requires.live;
@@ -69,16 +69,16 @@ returns-then-is_held g c =
 
 pub returns-in-Ok : goal.returns-in-Ok
 returns-in-Ok g c =
-    let old = g.H.Heaped.content c.args.heap.now in
+    let old = g.H.Heaped.content c.args.holder.now.heap in
     let new = g.H.Heaped.content c.new_block.new.heap in
-    let held = c.args.held.now.all in
+    let held = c.args.holder.now.held.all in
     let after = c.insert.new.self.all in
     let entry = c.args.entry.now in
     let ptr = c.in-Ok.block.ptr in
     let more : Holding = record { entry = entry; ptr = ptr } in
     let moment = carried_out (doing (give entry c.args.align)) (bare old) in
     let P : List Diagnostic → Option ℕ → Type 0 = λ diagnostics end. Comes (bare old) (bare new) (all_given held) (all_given after) diagnostics end moment in
-    let absent = sym (seen_held c.find_again-found.new.self.all c.args.held.now.all c.find_again-found.result.address c.args.entry.now.addr c.is_held.result c.is_held.ensures.value c.find_again-found.ensures.unchanged c.find_again-found.ensures.address) ∙ c.if-is_held.false in
+    let absent = sym (seen_held c.find_again-found.new.self.all c.args.holder.now.held.all c.find_again-found.result.address c.args.entry.now.addr c.is_held.result c.is_held.ensures.value c.find_again-found.ensures.unchanged c.find_again-found.ensures.address) ∙ c.if-is_held.false in
     let served = bare_served old new ptr.slot c.args.align c.asked_size.result ptr.place c.in-Ok.ensures.asks.ok in
     let end = ap (λ (n : ℕ). Some n) (c.in-Ok.ensures.end ∙ ap (λ (n : ℕ). ptr.place + n) (sym (size_at-renamed (λ owner. tt) ptr.place new.pools))) in
     let changed = (λ (other : ℕ). c.insert.ensures.held other ∙ ap (λ all. cond (entry.addr == other) (Some more) (held_at all other)) c.find_again-found.ensures.unchanged) in
@@ -90,28 +90,28 @@ returns-in-Ok g c =
       memory = tt;
       unchanged = tt;
       records = asked_records ptr.slot c.args.align c.asked_size.result old (ptr.place, new) c.in-Ok.ensures.asks.ok;
-      looked = look_on 2 0 c.args.held.now c.find_again-found.new.self c.insert.new.self c.find_again-found.ensures.looked c.insert.ensures.looked;
-      bound = record { floor = omega (arith, c.new_block.ensures.asks.bound.floor); bound = omega (arith, c.new_block.ensures.asks.bound.bound) };
+      looked = look_on 2 0 c.args.holder.now.held c.find_again-found.new.self c.insert.new.self c.find_again-found.ensures.looked c.insert.ensures.looked;
+      bound = record { floor = omega (arith, c.new_block.ensures.bound.floor); bound = omega (arith, c.new_block.ensures.bound.bound) };
       idle = λ idle. absurd (cc);
     })
 
 pub returns-in-Err-OutOfMemory : goal.returns-in-Err-OutOfMemory
-returns-in-Err-OutOfMemory g c = replays_as (allocation_free c.args.held.now.all c.args.entry.now c.args.align (sym (seen_held c.find_again-found.new.self.all c.args.held.now.all c.find_again-found.result.address c.args.entry.now.addr c.is_held.result c.is_held.ensures.value c.find_again-found.ensures.unchanged c.find_again-found.ensures.address) ∙ c.if-is_held.false)) (record {
+returns-in-Err-OutOfMemory g c = replays_as (allocation_free c.args.holder.now.held.all c.args.entry.now c.args.align (sym (seen_held c.find_again-found.new.self.all c.args.holder.now.held.all c.find_again-found.result.address c.args.entry.now.addr c.is_held.result c.is_held.ensures.value c.find_again-found.ensures.unchanged c.find_again-found.ensures.address) ∙ c.if-is_held.false)) (record {
   comes = tt;
   live = tt;
   memory = search rules;
   unchanged = c.find_again-found.ensures.unchanged;
   records = search rules;
   looked = c.find_again-found.ensures.looked;
-  bound = record { floor = omega (arith, c.new_block.ensures.asks.bound.floor); bound = omega (arith, c.new_block.ensures.asks.bound.bound) };
+  bound = record { floor = omega (arith, c.new_block.ensures.bound.floor); bound = omega (arith, c.new_block.ensures.bound.bound) };
   idle = λ idle. absurd (cc);
 })
 
 pub returns-in-Err : goal.returns-in-Err
 returns-in-Err g c =
-    let old = g.H.Heaped.content c.args.heap.now in
+    let old = g.H.Heaped.content c.args.holder.now.heap in
     let new = g.H.Heaped.content c.new_block.new.heap in
-    let held = c.args.held.now.all in
+    let held = c.args.holder.now.held.all in
     let entry = c.args.entry.now in
     let moment = carried_out (doing (give entry c.args.align)) (bare old) in
     let P : List Diagnostic → Type 0 = λ diagnostics. Comes (bare old) (bare old) (all_given held) (all_given held) diagnostics None moment in
@@ -120,7 +120,7 @@ returns-in-Err g c =
     let same = c.in-Err.ensures.asks.unchanged in
     let told : P (one_diagnostic entry.line (Refused entry.addr c.in-Err.refusal)) =
     comes_refused held held (bare old) (bare new) entry c.args.align c.in-Err.refusal (ap (λ n. asked_block tt c.args.align n (bare old)) (sym c.asked_size.ensures) ∙ refused) in
-    replays_as (allocation_free held entry c.args.align (sym (seen_held c.find_again-found.new.self.all c.args.held.now.all c.find_again-found.result.address c.args.entry.now.addr c.is_held.result c.is_held.ensures.value c.find_again-found.ensures.unchanged c.find_again-found.ensures.address) ∙ c.if-is_held.false)) (record {
+    replays_as (allocation_free held entry c.args.align (sym (seen_held c.find_again-found.new.self.all c.args.holder.now.held.all c.find_again-found.result.address c.args.entry.now.addr c.is_held.result c.is_held.ensures.value c.find_again-found.ensures.unchanged c.find_again-found.ensures.address) ∙ c.if-is_held.false)) (record {
       comes = subst (Q c.set_one-in-Err.new.self new) (sym c.find_again-found.ensures.unchanged)
           (subst (λ content. Q c.set_one-in-Err.new.self content held) (sym same) (subst P (sym c.set_one-in-Err.ensures) told));
       live = subst (λ all. AreLive all new) (sym c.find_again-found.ensures.unchanged) (subst (AreLive held) (sym same) c.requires.live);
@@ -128,6 +128,6 @@ returns-in-Err g c =
       unchanged = tt;
       records = ap (λ (content : Content ℕ). content.records) same;
       looked = c.find_again-found.ensures.looked;
-      bound = record { floor = omega (arith, c.in-Err.ensures.asks.bound.floor); bound = omega (arith, c.in-Err.ensures.asks.bound.bound) };
+      bound = record { floor = omega (arith, c.in-Err.ensures.bound.floor); bound = omega (arith, c.in-Err.ensures.bound.bound) };
       idle = λ idle. absurd (cc);
     })

@@ -21,11 +21,11 @@ use Rattle.mtrace_replay.proofs.heap.step.reallocate.Goals as goal
 
 pub replace-requires : goal.replace-requires
 replace-requires g c =
-    let old = g.H.Heaped.content c.args.heap.now in
+    let old = g.H.Heaped.content c.args.holder.now.heap in
     let asked = asked_least c.args.entry.now.size in
     let most = moved_small (λ a b. a == b) c.in-Ok.block.ptr.slot c.args.ptr.slot c.args.ptr.place c.asked_size.result old (Some (c.in-Ok.block.ptr.place, c.in-Ok.block.ptr.slot), g.H.Heaped.content c.realloc_block.new.heap) (λ none. omega (arith, asked, c.asked_size.ensures, none)) c.in-Ok.ensures.asks.ok in
-    let fits = held_fits c.args.held.now.all old c.keeps_order.ensures c.keeps_good.ensures.good c.requires.live in
-    let few = held_few c.args.held.now.all old c.keeps_order.ensures c.keeps_good.ensures.good c.requires.live in
+    let fits = held_fits c.args.holder.now.held.all old c.keeps_order.ensures c.keeps_good.ensures.good c.requires.live in
+    let few = held_few c.args.holder.now.held.all old c.keeps_order.ensures c.keeps_good.ensures.good c.requires.live in
     let under = c.requires.held in
     record {
       found = search rules;
@@ -34,14 +34,14 @@ replace-requires g c =
       free = c.requires.free;
       room = omega (arith, few, c.requires.room);
       slot = omega (arith, c.in-Ok.ensures.asks.slot_below, c.requires.room);
-      new = moved_slot c.args.held.now.all old c.requires.live c.args.ptr c.in-Ok.block.ptr.slot c.args.old.now.address c.keeps_good.ensures.slots under c.in-Ok.ensures.asks.slot_new;
+      new = moved_slot c.args.holder.now.held.all old c.requires.live c.args.ptr c.in-Ok.block.ptr.slot c.args.old.now.address c.keeps_good.ensures.slots under c.in-Ok.ensures.asks.slot_new;
     }
 
 pub returns-in-Ok : goal.returns-in-Ok
 returns-in-Ok g c =
-    let old = g.H.Heaped.content c.args.heap.now in
+    let old = g.H.Heaped.content c.args.holder.now.heap in
     let new = g.H.Heaped.content c.realloc_block.new.heap in
-    let held = c.args.held.now.all in
+    let held = c.args.holder.now.held.all in
     let after = c.replace.new.self.all in
     let entry = c.args.entry.now in
     let ptr = c.args.ptr in
@@ -65,18 +65,18 @@ returns-in-Ok g c =
       unchanged = tt;
       records = moved_records (λ a b. a == b) given.slot ptr.slot ptr.place c.asked_size.result old (Some (given.place, given.slot), new) c.in-Ok.ensures.asks.ok;
       looked = c.replace.ensures.looked;
-      bound = record { floor = omega (arith, c.realloc_block.ensures.asks.bound.floor); bound = omega (arith, c.realloc_block.ensures.asks.bound.bound) };
+      bound = record { floor = omega (arith, c.realloc_block.ensures.bound.floor); bound = omega (arith, c.realloc_block.ensures.bound.bound) };
       idle = λ idle. absurd (cc);
     }
 
 pub returns-in_ok-take-in-Err : goal.returns-in_ok-take-in-Err
 returns-in_ok-take-in-Err g c =
-    let old = g.H.Heaped.content c.args.heap.now in
+    let old = g.H.Heaped.content c.args.holder.now.heap in
     let middle = g.H.Heaped.content c.realloc_block.new.heap in
-    let last = g.H.Heaped.content c.take.new.heap in
+    let last = g.H.Heaped.content c.take.new.holder.heap in
     let new = bare last in
-    let held = c.args.held.now.all in
-    let after = c.take.new.held.all in
+    let held = c.args.holder.now.held.all in
+    let after = c.take.new.holder.held.all in
     let entry = c.args.entry.now in
     let ptr = c.args.ptr in
     let under = c.requires.held in
@@ -92,8 +92,8 @@ returns-in_ok-take-in-Err g c =
       live = c.in_ok-take-in-Err.ensures.live;
       memory = tt;
       unchanged = tt;
-      looked = looks_up_fewer 0 1 c.args.held.now c.take.new.held c.take.ensures.looked;
+      looked = looks_up_fewer 0 1 c.args.holder.now.held c.take.new.holder.held c.take.ensures.looked;
       records = c.take.ensures.records ∙ ap (λ (content : Content ℕ). content.records) c.in-Err.ensures.asks.unchanged;
-      bound = record { floor = omega (arith, c.take.ensures.bound.floor, c.realloc_block.ensures.asks.bound.floor); bound = omega (arith, c.take.ensures.bound.bound, c.realloc_block.ensures.asks.bound.bound) };
+      bound = record { floor = omega (arith, c.take.ensures.bound.floor, c.realloc_block.ensures.bound.floor); bound = omega (arith, c.take.ensures.bound.bound, c.realloc_block.ensures.bound.bound) };
       idle = λ idle. absurd (cc);
     }

@@ -14,10 +14,10 @@ use Rattle.mtrace_replay.proofs.heap.step.release.Goals as goal
 
 pub returns-in_default : goal.returns-in_default
 returns-in_default g c =
-    let heap = g.H.Heaped.content c.args.heap.now in
+    let heap = g.H.Heaped.content c.args.holder.now.heap in
     let content = bare heap in
-    let held = c.args.held.now.all in
-    let none = under_none (held_at held c.args.address) (sym (seen_block c.find_again-found.new.self.all c.args.held.now.all c.find_again-found.result.address c.args.address c.block.result c.block.ensures.value c.find_again-found.ensures.unchanged c.find_again-found.ensures.address) ∙ c.in_default.is) in
+    let held = c.args.holder.now.held.all in
+    let none = under_none (held_at held c.args.address) (sym (seen_block c.find_again-found.new.self.all c.args.holder.now.held.all c.find_again-found.result.address c.args.address c.block.result c.block.ensures.value c.find_again-found.ensures.unchanged c.find_again-found.ensures.address) ∙ c.in_default.is) in
     let P : List Diagnostic → List Holding → Type 0 = λ diagnostics all. Comes content content (all_given held) (all_given all) diagnostics None (carried_out (none_for c.args.number (NotHeld c.args.address)) content) in
     replays_as (release_none held c.args.number c.args.address none) (record {
       comes = subst (P c.set_one.new.self) (sym c.find_again-found.ensures.unchanged)
@@ -33,26 +33,26 @@ returns-in_default g c =
 
 pub returns-in_err-take : goal.returns-in_err-take
 returns-in_err-take g c =
-    let held = c.args.held.now.all in
-    let under = under_some (held_at held c.args.address) c.in-Some.ptr (sym (seen_block c.find_again-found.new.self.all c.args.held.now.all c.find_again-found.result.address c.args.address c.block.result c.block.ensures.value c.find_again-found.ensures.unchanged c.find_again-found.ensures.address) ∙ c.in-Some.is) in
+    let held = c.args.holder.now.held.all in
+    let under = under_some (held_at held c.args.address) c.in-Some.ptr (sym (seen_block c.find_again-found.new.self.all c.args.holder.now.held.all c.find_again-found.result.address c.args.address c.block.result c.block.ensures.value c.find_again-found.ensures.unchanged c.find_again-found.ensures.address) ∙ c.in-Some.is) in
     replays_as (release_under held c.args.number c.args.address c.in-Some.ptr under) (record {
       comes = search rules;
       live = search rules;
       memory = search rules;
       unchanged = search rules;
       records = c.take.ensures.records;
-      looked = look_on 2 0 c.args.held.now c.find_again-found.new.self c.take.new.held c.find_again-found.ensures.looked c.take.ensures.looked;
+      looked = look_on 2 0 c.args.holder.now.held c.find_again-found.new.self c.take.new.holder.held c.find_again-found.ensures.looked c.take.ensures.looked;
       bound = c.take.ensures.bound;
       idle = λ idle. absurd (cc);
     })
 
 pub returns : goal.returns
 returns g c =
-    let content = bare (g.H.Heaped.content c.args.heap.now) in
-    let after = bare (g.H.Heaped.content c.take.new.heap) in
-    let held = c.args.held.now.all in
-    let new = c.take.new.held.all in
-    let under = under_some (held_at held c.args.address) c.in-Some.ptr (sym (seen_block c.find_again-found.new.self.all c.args.held.now.all c.find_again-found.result.address c.args.address c.block.result c.block.ensures.value c.find_again-found.ensures.unchanged c.find_again-found.ensures.address) ∙ c.in-Some.is) in
+    let content = bare (g.H.Heaped.content c.args.holder.now.heap) in
+    let after = bare (g.H.Heaped.content c.take.new.holder.heap) in
+    let held = c.args.holder.now.held.all in
+    let new = c.take.new.holder.held.all in
+    let under = under_some (held_at held c.args.address) c.in-Some.ptr (sym (seen_block c.find_again-found.new.self.all c.args.holder.now.held.all c.find_again-found.result.address c.args.address c.block.result c.block.ensures.value c.find_again-found.ensures.unchanged c.find_again-found.ensures.address) ∙ c.in-Some.is) in
     let P : List Diagnostic → Type 0 = λ diagnostics. Comes content after (all_given held) (all_given new) diagnostics None (carried_out (doing (take c.args.address c.in-Some.ptr.place)) content) in
     replays_as (release_under held c.args.number c.args.address c.in-Some.ptr under) (record {
       comes = subst P (sym c.requires.none) (comes_released held new content after c.args.address c.in-Some.ptr.place c.in_ok-take.ensures.content
@@ -62,7 +62,7 @@ returns g c =
       memory = tt;
       unchanged = tt;
       records = c.take.ensures.records;
-      looked = look_on 2 0 c.args.held.now c.find_again-found.new.self c.take.new.held c.find_again-found.ensures.looked c.take.ensures.looked;
+      looked = look_on 2 0 c.args.holder.now.held c.find_again-found.new.self c.take.new.holder.held c.find_again-found.ensures.looked c.take.ensures.looked;
       bound = c.take.ensures.bound;
       idle = λ idle. absurd (cc);
     })

@@ -11,7 +11,7 @@ use Rattle.mtrace_replay.proofs.heap.step.take.Goals as goal
 
 pub unreachable-requires : goal.unreachable-requires
 unreachable-requires g c =
-    let content = g.H.Heaped.content c.args.heap.now in
+    let content = g.H.Heaped.content c.args.holder.now.heap in
     let under = c.requires.held in
     let P : Pointer → Type 0 = λ ptr. is_live (λ slot. slot == ptr.slot) ptr.place (blocks_of content.pools) ≡ true in
     let live = subst P under.2 (c.requires.live.live c.args.found.now.address under.0 under.1) in
@@ -21,7 +21,7 @@ unreachable-requires g c =
 
 pub returns-in-Ok : goal.returns-in-Ok
 returns-in-Ok g c =
-    let content = g.H.Heaped.content c.args.heap.now in
+    let content = g.H.Heaped.content c.args.holder.now.heap in
     let after = g.H.Heaped.content c.free.new.self in
     let under = c.requires.held in
     let P : Pointer → Type 0 = λ ptr. is_live (λ slot. slot == ptr.slot) ptr.place (blocks_of content.pools) ≡ true in
@@ -30,7 +30,7 @@ returns-in-Ok g c =
     record {
       content = bare_freed content after c.args.ptr.place c.args.ptr.slot live c.in-Ok.ensures.ok;
       held = search rules;
-      live = live_after_free c.args.held.now.all _ content after c.keeps_good.ensures.good c.requires.live c.args.found.now.address under.0 under.1
+      live = live_after_free c.args.holder.now.held.all _ content after c.keeps_good.ensures.good c.requires.live c.args.found.now.address under.0 under.1
           (subst Q (sym under.2) c.in-Ok.ensures.ok) (search rules);
       memory = tt;
       unchanged = tt;

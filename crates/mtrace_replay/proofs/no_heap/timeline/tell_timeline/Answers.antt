@@ -27,7 +27,7 @@ returns-in-Err-clause-told g c = λ lines count peak.
     let told : totals.peak_line ≤ totals.lines → T numbers = λ within. subst T (sym c.as_slice.ensures.value) (c.in-Ok.ensures.told within) in
     let few : totals.lines ≤ greatest_number = omega (arith, c.well_formed) in
     record {
-      follows = follows_stopped _ _ _ reads g.W.Sink.shown c.args.reader.now c.read_points.new.reader c.args.writer.now c.in-Err.fault read.faults
+      follows = follows_stopped _ _ _ _ _ _ c.in-Err.fault read.faults
           (λ is. fails_before_last c.args.parts lines totals numbers c.requires.some count peak told (reads c.args.reader.now) (reads c.read_points.new.reader) few (read.fails (other_result _ _ is)));
       nothing_put = λ is. refl;
       not_failed = λ is. read.memory (other_result _ _ is);
@@ -48,7 +48,7 @@ returns-clause-told g c = λ lines count peak.
     let tells = tells_points c.args.parts lines totals numbers c.requires.some count peak told points (reads c.args.reader.now).whole (reads c.read_points.new.reader).left has in
     let never = never_memory c.flush_behind.result c.flush_behind.ensures.fault in
     record {
-      follows = λ other. follows_told _ _ _ reads writes c.args.reader.now c.read_points.new.reader c.args.writer.now c.flush_behind.new.writer c.flush_behind.result
+      follows = λ other. follows_told _ _ _ _ _ c.flush_behind.result
           (ledger_timeline_text points) c.flush_behind.ensures.fault tells (c.flush_behind.ensures.flushed (writes c.args.writer.now) (ledger_timeline_text points) c.put_timeline-put.ensures) read.not_failed;
       nothing_put = λ is. absurd (never is);
       not_failed = λ is. absurd (never is);

@@ -6,6 +6,7 @@ use Rattle.mtrace_replay.specs.declared.heap.settings.Settings.{Settings}
 use Rattle.mtrace_replay.specs.declared.runs.status.Status.{Status}
 use Rattle.mtrace_replay.specs.declared.runs.status.RunFault.{RunFault}
 use Rattle.mtrace_replay.specs.declared.runs.status.RunFault.TheVariants.{Read, Write, BadSettings}
+use Rattle.mtrace_replay.specs.Course.{course}
 use Rattle.mtrace_replay.specs.Run.{Runs}
 use Rattle.mtrace_replay.specs.Needs.{EndsWithNeeds}
 use Rattle.mtrace_replay.proofs.runs.fit.run_fit.Goals as goal
@@ -25,7 +26,7 @@ returns g c =
     let writes = g.W.Sink.shown in
     let ended = c.in_ok-ended.ended in
     let E : Settings → Type 0 = λ settings. EndsWithNeeds settings ended.status ended.replay (reads c.args.reader.now) (reads c.replay_needs.new.reader) (writes c.args.writer.now) (writes c.replay_needs.new.writer) in
-    let R : Settings → Type 0 = λ settings. Runs Nothing settings reads writes (Ok ended.status) c.args.reader.now c.replay_needs.new.reader c.args.writer.now c.replay_needs.new.writer in
+    let R : Settings → Type 0 = λ settings. Runs Nothing settings (Ok ended.status) (course reads c.args.reader.now c.replay_needs.new.reader) (course writes c.args.writer.now c.replay_needs.new.writer) in
     let last = subst E c.greatest.ensures c.in_ok-ended.ensures.last in
     let ran = subst R c.greatest.ensures c.in_ok-ended.ensures.ran in
     let follow = c.tell_fit.ensures.told last.ends.reports.lines last.ends.stands last.needs in

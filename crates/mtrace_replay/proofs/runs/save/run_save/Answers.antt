@@ -5,6 +5,7 @@ use Rattle.mtrace_log.specs.declared.failed.Failed.{Failed}
 use Rattle.mtrace_replay.specs.declared.runs.status.Status.{Status}
 use Rattle.mtrace_replay.specs.declared.runs.status.RunFault.{RunFault}
 use Rattle.mtrace_replay.specs.declared.runs.status.RunFault.TheVariants.{Image}
+use Rattle.mtrace_replay.specs.Course.{course}
 use Rattle.mtrace_replay.specs.Saving.{PutsAndFlushes, EndsWithImage}
 use Rattle.mtrace_replay.proofs.Running.RunLemmas.{replays_by}
 use Rattle.mtrace_replay.proofs.runs.save.run_save.Goals as goal
@@ -20,8 +21,8 @@ returns-in-Ok g c =
     let ended = c.in_ok-ended.ended in
     let answer : Result Status RunFault = Ok ended.status in
     let P : Result (Unit {0}) Failed → Type 0 = λ result. PutsAndFlushes result c.save.ensures.image (saves c.args.image.now) (saves c.save.new.image) in
-    let E : Status → Type 0 = λ status. EndsWithImage c.args.settings status (reads c.args.reader.now) (reads c.replay_log.new.reader) (writes c.args.writer.now)
-    (writes c.replay_log.new.writer) answer (saves c.args.image.now) (saves c.save.new.image) in
+    let E : Status → Type 0 = λ status. EndsWithImage c.args.settings status answer (course reads c.args.reader.now c.replay_log.new.reader) (course writes c.args.writer.now c.replay_log.new.writer)
+    (course saves c.args.image.now c.save.new.image) in
     let ends : E ended.status = record {
       content = ended.replay.content;
       replays = replays_by c.args.settings ended.status ended.replay _ _ _ _ (c.in_ok-ended.ensures.last refl);
@@ -39,8 +40,8 @@ returns g c =
     let run : Result Status RunFault = Ok ended.status in
     let answer : Result Status RunFault = Err Image in
     let P : Result (Unit {0}) Failed → Type 0 = λ result. PutsAndFlushes result c.save.ensures.image (saves c.args.image.now) (saves c.save.new.image) in
-    let E : Status → Type 0 = λ status. EndsWithImage c.args.settings status (reads c.args.reader.now) (reads c.replay_log.new.reader) (writes c.args.writer.now)
-    (writes c.replay_log.new.writer) answer (saves c.args.image.now) (saves c.save.new.image) in
+    let E : Status → Type 0 = λ status. EndsWithImage c.args.settings status answer (course reads c.args.reader.now c.replay_log.new.reader) (course writes c.args.writer.now c.replay_log.new.writer)
+    (course saves c.args.image.now c.save.new.image) in
     let ends : E ended.status = record {
       content = ended.replay.content;
       replays = replays_by c.args.settings ended.status ended.replay _ _ _ _ (c.in_ok-ended.ensures.last refl);

@@ -7,11 +7,11 @@ use Rattle.mtrace_replay.proofs.runs.sites.run_sites.Goals as goal
 
 pub returns-in-Err-BadSettings : goal.returns-in-Err-BadSettings
 returns-in-Err-BadSettings g c =
-    again_undone c.args.settings (λ lines. SitesFollow c.args.settings lines g.R.Source.shown g.W.Sink.shown) g.R.Source.shown g.W.Sink.shown _ c.args.reader.now c.args.writer.now (refl, refl) (search rules)
+    again_undone c.args.settings (SitesFollow c.args.settings) g.R.Source.shown g.W.Sink.shown _ c.args.reader.now c.args.writer.now (refl, refl) (search rules)
 
 pub returns-in-Err-OutOfMemory : goal.returns-in-Err-OutOfMemory
 returns-in-Err-OutOfMemory g c =
-    again_undone c.args.settings (λ lines. SitesFollow c.args.settings lines g.R.Source.shown g.W.Sink.shown) g.R.Source.shown g.W.Sink.shown _ c.args.reader.now c.args.writer.now (refl, refl) (search rules)
+    again_undone c.args.settings (SitesFollow c.args.settings) g.R.Source.shown g.W.Sink.shown _ c.args.reader.now c.args.writer.now (refl, refl) (search rules)
 
 pub returns : goal.returns
 returns g c =

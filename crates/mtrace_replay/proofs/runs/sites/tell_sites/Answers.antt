@@ -24,5 +24,5 @@ returns-clause-told g c = λ settings lines stands fresh.
     let tells = tells_sites settings lines peak end peak_sites end_sites (g.R.Source.shown c.args.reader.now).whole (g.R.Source.shown c.replay_again.new.reader).left stands
     (subst M line (c.in-Ok.ensures.done settings fresh)) (subst (A peak) (sym c.sites.ensures) c.group_held-peak_sum.ensures.sites) (subst (A end) (sym c.sites-2.ensures) c.group_held-end_sum.ensures.sites) in
     let P : List ℕ → Type 0 = λ words. PutsAndFlushes c.flush_behind.result words (writes c.args.writer.now) (writes c.flush_behind.new.writer) in
-    follows_told _ _ _ g.R.Source.shown writes c.args.reader.now c.replay_again.new.reader c.args.writer.now c.flush_behind.new.writer c.flush_behind.result
+    follows_told _ _ _ _ _ c.flush_behind.result
     (sites_text peak peak_sites end end_sites) c.flush_behind.ensures.fault tells (subst P text (c.flush_behind.ensures.flushed (writes c.args.writer.now) _ c.put_told-put.ensures)) c.in-Ok.ensures.not_failed

@@ -7,12 +7,12 @@ use Rattle.mtrace_replay.proofs.runs.timeline.run_timeline.Goals as goal
 
 pub returns-in-Err-BadSettings : goal.returns-in-Err-BadSettings
 returns-in-Err-BadSettings g c =
-    let again = again_undone c.args.settings (λ lines. TimelineFollows c.args.settings c.args.parts lines g.R.Source.shown g.W.Sink.shown) g.R.Source.shown g.W.Sink.shown _ c.args.reader.now c.args.writer.now (refl, refl) (search rules) in
+    let again = again_undone c.args.settings (TimelineFollows c.args.settings c.args.parts) g.R.Source.shown g.W.Sink.shown _ c.args.reader.now c.args.writer.now (refl, refl) (search rules) in
     record { bad_parts = search rules; runs = λ good. again }
 
 pub returns-in-Err-OutOfMemory : goal.returns-in-Err-OutOfMemory
 returns-in-Err-OutOfMemory g c =
-    let again = again_undone c.args.settings (λ lines. TimelineFollows c.args.settings c.args.parts lines g.R.Source.shown g.W.Sink.shown) g.R.Source.shown g.W.Sink.shown _ c.args.reader.now c.args.writer.now (refl, refl) (search rules) in
+    let again = again_undone c.args.settings (TimelineFollows c.args.settings c.args.parts) g.R.Source.shown g.W.Sink.shown _ c.args.reader.now c.args.writer.now (refl, refl) (search rules) in
     record { bad_parts = search rules; runs = λ good. again }
 
 pub returns : goal.returns

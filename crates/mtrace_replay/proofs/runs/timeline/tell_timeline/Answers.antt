@@ -37,5 +37,5 @@ returns-clause-told g c = λ lines stands.
     let has = subst H (sym c.as_slice-2.ensures.value) (c.in-Ok.ensures.done c.args.settings c.restart.ensures.made) in
     let tells = tells_timeline c.args.settings c.args.parts lines c.args.replay.now totals numbers points (g.R.Source.shown c.args.reader.now).whole (g.R.Source.shown c.read_points.new.reader).left
     c.requires.some stands c.totals-totals.ensures.totals told has in
-    follows_told _ _ _ g.R.Source.shown writes c.args.reader.now c.read_points.new.reader c.args.writer.now c.flush_behind.new.writer c.flush_behind.result
+    follows_told _ _ _ _ _ c.flush_behind.result
     (timeline_text points totals.refused) c.flush_behind.ensures.fault tells (c.flush_behind.ensures.flushed (writes c.args.writer.now) (timeline_text points totals.refused) c.put_timeline-put.ensures) c.in-Ok.ensures.not_failed

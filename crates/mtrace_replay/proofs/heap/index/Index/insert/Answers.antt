@@ -1,4 +1,4 @@
--- A vacant place takes the key, so one address more is held and no other changes.
+-- A vacant position takes the key, so one address more is held and no other changes.
 use Rattle.std.proofs.Common.{ℕ, List, slice_index_or, Option, Some, None, refl, sym, ap, ◌∙◌, subst, cond, arith}
 use Rattle.std.specs.Prelude.{◌==◌, Result, Ok, Err, IfOk}
 use Rattle.std.proofs.lemmas.List.{get_or_default}
@@ -15,13 +15,13 @@ make_gap-gap-requires-clause-vacant c =
     let kept = c.self.inside.keys in
     let address = c.args.entry.now.addr in
     let found = subst (λ keys. IsFound keys c.args.found.now) (sym (ap (λ (index : Indexed). index.keys) c.self.view_is)) c.requires.found in
-    by_place kept.keys (λ at stands. vacant_there kept address at (slice_index_or kept.keys at (record { address = 0; block = None })) (record { rise = c.self.invariant.rise; have = c.self.invariant.rows; stands = stands; there = get_or_default kept.keys at _ _ stands.0 })
-    (ap (λ (index : Indexed). held_at index.all address) c.self.view_is ∙ c.requires.free)) c.args.found.now.place
-    (subst (λ a. IfOk c.args.found.now.place (StandsAt kept.keys a)) c.requires.address found.held)
+    by_position kept.keys (λ at stands. vacant_there kept address at (slice_index_or kept.keys at (record { address = 0; block = None })) (record { rise = c.self.invariant.rise; have = c.self.invariant.rows; stands = stands; there = get_or_default kept.keys at _ _ stands.0 })
+    (ap (λ (index : Indexed). held_at index.all address) c.self.view_is ∙ c.requires.free)) c.args.found.now.position
+    (subst (λ a. IfOk c.args.found.now.position (StandsAt kept.keys a)) c.requires.address found.held)
   where
-    by_place : {address : ℕ} → (keys : List Key) → ((at : ℕ) → StandsAt keys address at → IsVacantAt keys at) → (place : Result ℕ ℕ) → IfOk place (StandsAt keys address) → IfOk place (IsVacantAt keys)
-    by_place keys vacant (Ok at) stands = vacant at stands
-    by_place keys vacant (Err at) stands = tt
+    by_position : {address : ℕ} → (keys : List Key) → ((at : ℕ) → StandsAt keys address at → IsVacantAt keys at) → (position : Result ℕ ℕ) → IfOk position (StandsAt keys address) → IfOk position (IsVacantAt keys)
+    by_position keys vacant (Ok at) stands = vacant at stands
+    by_position keys vacant (Err at) stands = tt
 
 pub invariant_of-self : goal.invariant_of-self
 invariant_of-self c =

@@ -1,4 +1,4 @@
--- A place is in one chunk, at one place of it.
+-- A position is in one chunk, at one position of it.
 use Rattle.mtrace_replay.proofs.Index.KeysLemmas.{key_read}
 use Rattle.mtrace_replay.proofs.heap.keys.Keys.key.Goals as goal
 

@@ -1,4 +1,4 @@
--- A gap that moved and was written is the key put in its place.
+-- A gap that moved and was written is the key put at its position.
 use Rattle.std.proofs.Common.{arith, ap, length, ◌∙◌}
 use Rattle.std.specs.List.{insert, remove}
 use Rattle.mtrace_replay.specs.declared.heap.key.Key.{Key}

@@ -1,4 +1,4 @@
--- A slot is in one chunk, at one place of it.
+-- A slot is in one chunk, at one position of it.
 use Rattle.std.proofs.Common.{arith, slice_index_or, ap, sym, ◌∙◌}
 use Rattle.mtrace_replay.proofs.Index.KeysLemmas.{row_read, rows_are}
 use Rattle.mtrace_replay.proofs.heap.keys.Keys.row.Goals as goal

@@ -14,4 +14,4 @@ pub returns-clause-few : goal.returns-clause-few
 returns-clause-few c =
     let live = c.self.invariant.live (never _ c.self.invariant.lacks) in
     subst (λ (replay : Replayed). length replay.given ≤ most_records) c.self.view_is
-    (omega (arith, length-map c.self.inside.held.all given_of, c.self.invariant.few, live.records))
+    (omega (arith, length-map c.self.inside.holder.held.all given_of, c.self.invariant.few, live.records))

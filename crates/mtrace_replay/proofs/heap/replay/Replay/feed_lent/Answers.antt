@@ -24,7 +24,7 @@ invariant_of-self g c =
       live = (λ works. c.in-Ok.ensures.live);
       lacks = c.self.invariant.lacks;
       room = c.outcome.ensures.looked.room ∙ c.self.invariant.room ∙ sym c.outcome.ensures.records;
-      few = held_few c.outcome.new.held.all (g.H.Heaped.content c.outcome.new.heap) c.keeps_order.ensures c.keeps_good.ensures.good c.in-Ok.ensures.live;
+      few = held_few c.outcome.new.holder.held.all (g.H.Heaped.content c.outcome.new.holder.heap) c.keeps_order.ensures c.keeps_good.ensures.good c.in-Ok.ensures.live;
       served = served_within old c.in-Ok.end c.has_refusal-is_refused.result c.bytes-bytes.result c.len-blocks.result c.after-self-inside.result gone c.self.invariant.served;
       refused = refused_within old c.in-Ok.end c.has_refusal-is_refused.result c.bytes-bytes.result c.len-blocks.result c.after-self-inside.result gone c.self.invariant.refused;
     }
@@ -36,19 +36,19 @@ put_half-requires g c =
       arith,
       ap (length {A = Diagnostic}) c.half_before-half.ensures,
       ap (length {A = Diagnostic}) c.in-Ok.ensures.comes.diagnostics_are,
-      diagnostics_few inside.totals.lines c.args.number c.args.event inside.pending (found (all_given inside.held.all)) (bare (g.H.Heaped.content inside.heap)),
+      diagnostics_few inside.totals.lines c.args.number c.args.event inside.pending (found (all_given inside.holder.held.all)) (bare (g.H.Heaped.content inside.holder.heap)),
     )
 
 pub returns-in-Ok : goal.returns-in-Ok
 returns-in-Ok g c =
     let number = c.args.number in
     let event = c.args.event in
-    let heap = g.H.Heaped.content c.outcome.new.heap in
-    let holdings = c.outcome.new.held.all in
+    let heap = g.H.Heaped.content c.outcome.new.holder.heap in
+    let holdings = c.outcome.new.holder.held.all in
     let new : Replayed = record {
       content = bare heap;
-      touches = g.H.Heaped.touches c.outcome.new.heap;
-      comparisons = c.outcome.new.held.comparisons;
+      touches = g.H.Heaped.touches c.outcome.new.holder.heap;
+      comparisons = c.outcome.new.holder.held.comparisons;
       given = all_given holdings;
       totals = c.after-self-inside.result;
       pending = c.old_address-next.result;

@@ -3,6 +3,7 @@ use Rattle.std.proofs.Common.{arith, refl, sym, subst, ◌∙◌, reverse, inl}
 use Rattle.std.specs.Prelude.{◌+◌, Ok, Err}
 use Rattle.mtrace_log.specs.Progress.{Progress}
 use Rattle.mtrace_replay.specs.declared.runs.following.Stop.TheVariants.{Reader, Memory}
+use Rattle.mtrace_replay.specs.Course.{course}
 use Rattle.mtrace_replay.specs.Replaying.{FollowsUpTo}
 use Rattle.mtrace_log.proofs.CallLemmas.{calls_more, calls_of_line, calls_to_end, calls_to_fault}
 use Rattle.mtrace_replay.proofs.Running.ReplayingLemmas.{followed_on_line, followed_end, followed_fault}
@@ -14,7 +15,7 @@ returns-in-Ok-None g c =
     let reads = g.R.Source.shown in
     let rules = g.P.LineReplay.rules in
     let found = rw c.in-Ok-None.field-0-is at c.in-Ok-None.ensures.end in
-    let F : Progress → Type 0 = λ old. FollowsUpTo rules (old.count + 1) (Err Reader) old c.advance.new.self c.args.replay.now c.args.replay.now (reads c.args.reader.now) (reads c.advance.new.reader) in
+    let F : Progress → Type 0 = λ old. FollowsUpTo rules (old.count + 1) (Err Reader) old c.advance.new.self c.args.replay.now c.args.replay.now (course reads c.args.reader.now c.advance.new.reader) in
     subst F c.self.view_is (record {
       counted = tt;
       ready = tt;
@@ -36,7 +37,7 @@ pub returns-in-Err : goal.returns-in-Err
 returns-in-Err g c =
     let reads = g.R.Source.shown in
     let rules = g.P.LineReplay.rules in
-    let F : Progress → Type 0 = λ old. FollowsUpTo rules (old.count + 1) (Err Reader) old c.advance.new.self c.args.replay.now c.args.replay.now (reads c.args.reader.now) (reads c.advance.new.reader) in
+    let F : Progress → Type 0 = λ old. FollowsUpTo rules (old.count + 1) (Err Reader) old c.advance.new.self c.args.replay.now c.args.replay.now (course reads c.args.reader.now c.advance.new.reader) in
     subst F c.self.view_is (record {
       counted = tt;
       ready = tt;
@@ -60,7 +61,7 @@ returns-in_default g c =
     let reads = g.R.Source.shown in
     let rules = g.P.LineReplay.rules in
     let given = (rw c.in-Ok-Some.field-0-is at c.in-Ok-Some.ensures.line) c.event.result c.event.ensures in
-    let F : Progress → Type 0 = λ old. FollowsUpTo rules (old.count + 1) (Err Memory) old c.advance.new.self c.args.replay.now c.take_line.new.self (reads c.args.reader.now) (reads c.advance.new.reader) in
+    let F : Progress → Type 0 = λ old. FollowsUpTo rules (old.count + 1) (Err Memory) old c.advance.new.self c.args.replay.now c.take_line.new.self (course reads c.args.reader.now c.advance.new.reader) in
     subst F c.self.view_is (record {
       counted = tt;
       ready = tt;
@@ -82,7 +83,7 @@ returns g c =
     let rules = g.P.LineReplay.rules in
     let given = (rw c.in-Ok-Some.field-0-is at c.in-Ok-Some.ensures.line) c.event.result c.event.ensures in
     let taken = c.in-Ok.ensures in
-    let F : Progress → Type 0 = λ old. FollowsUpTo rules (old.count + 1) (Ok tt) old c.advance.new.self c.args.replay.now c.take_line.new.self (reads c.args.reader.now) (reads c.advance.new.reader) in
+    let F : Progress → Type 0 = λ old. FollowsUpTo rules (old.count + 1) (Ok tt) old c.advance.new.self c.args.replay.now c.take_line.new.self (course reads c.args.reader.now c.advance.new.reader) in
     subst F c.self.view_is (record {
       counted = taken.counted ∙ sym given.count;
       ready = taken.ready;

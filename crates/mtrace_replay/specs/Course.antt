@@ -1,0 +1,24 @@
+-- A reader or a writer over a call.
+
+-- what it shows of itself, by how it is; and how it was before the call, and is after it
+pub record Course (T S : Type 0) : Type 0 where
+  pub shown : T → S
+  pub old : T
+  pub new : T
+
+abbrev pub course : {T S : Type 0} → (T → S) → (old new : T) → Course T S
+course shown old new = record { shown = shown; old = old; new = new }
+
+-- what it showed before, and shows after
+abbrev pub shown_before : {T S : Type 0} → Course T S → S
+shown_before over = over.shown over.old
+
+abbrev pub shown_after : {T S : Type 0} → Course T S → S
+shown_after over = over.shown over.new
+
+-- the same up to a middle, and from there on
+abbrev pub until : {T S : Type 0} → Course T S → (middle : T) → Course T S
+until over middle = course over.shown over.old middle
+
+abbrev pub since : {T S : Type 0} → Course T S → (middle : T) → Course T S
+since over middle = course over.shown middle over.new
