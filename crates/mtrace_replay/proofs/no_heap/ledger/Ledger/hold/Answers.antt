@@ -1,17 +1,18 @@
 -- The map gains the address, and so do the entries and the share of its location.
-use Rattle.std.proofs.Common.{◌≡◌, length, ◌+◌, ◌∙◌, refl, sym, ap, subst, Some, cond, arith}
+use Rattle.std.proofs.Common.{◌≡◌, ℕ, length, ◌+◌, ◌∙◌, refl, sym, ap, subst, Some, cond, arith}
 use Rattle.std.specs.Prelude.{◌==◌}
 use Rattle.std.specs.Map.{values_of}
 use Rattle.mtrace_replay.specs.declared.no_heap.ledger.Kept.{Kept}
 use Rattle.mtrace_replay.specs.declared.no_heap.count.Count.{Count}
 use Rattle.mtrace_replay.specs.Calls.{count_more}
-use Rattle.mtrace_replay.specs.Shares.{amount_more, now_at, count_at, Changes, Counts}
-use Rattle.mtrace_replay.specs.Ledger.{LedgerState, IsLedger, AreShared, AreCalled, held_at, slot_of}
+use Rattle.mtrace_replay.specs.Shares.{ByLocation, amount_more, now_at, count_at, Changes, Counts}
+use Rattle.mtrace_replay.specs.Ledger.{LedgerState, IsLedger, AreShared, AreCalled, Forgets, held_at, slot_of}
 use Rattle.mtrace_replay.proofs.Served.LedgerLemmas.{changes_at, still_keeps, same_view, on_err}
-use Rattle.mtrace_replay.proofs.Served.LedgerPeak.{state_of, same_state, keeps_now, shared_now, called_now, few_more, peak_stays, rest_of, counted_there, counted, few_blocks, few_bytes}
+use Rattle.mtrace_replay.proofs.Served.LedgerPeak.{IsRest, state_of, same_state, keeps_now, shared_now, called_now, few_more, peak_stays, rest_of, counted_there, counted, few_blocks, few_bytes}
 use Rattle.mtrace_replay.proofs.Served.SharesLemmas.{shared-longer, called-longer}
 use Rattle.mtrace_replay.proofs.Served.CallersBySlot.{called-more, more_called}
 use Rattle.mtrace_replay.proofs.no_heap.ledger.Ledger.hold.Goals as goal
+use Rattle.mtrace_replay.proofs.no_heap.ledger.Ledger.hold.Goals.{In_ok-before}
 
 pub invariant_of-self : goal.invariant_of-self
 invariant_of-self c =
@@ -66,74 +67,69 @@ forget-requires c =
           (record { size = c.ranges.size.fits; location = c.in_ok-location.ensures.there }) c.in_ok-before.before c.in_ok-before.ensures.old;
     }
 
+-- what the address is held under now
+abbrev kept : In_ok-before → Kept
+kept c = record { size = c.args.size; line = c.args.line; location = c.in_ok-location.location }
+
+-- what was so before, of the locations and the shares that have room for this one
+keeps : (c : In_ok-before) → IsLedger c.number_at.new.self c.self.inside.held.entries c.self.inside.bytes
+keeps c = keeps_now c.self.inside.locations c.number_at.new.self c.number_at.ensures.others c.self.inside.held.entries c.self.inside.bytes c.self.inside.shares c.cover.new.self c.cover.ensures.kept c.self.invariant
+
+shared : (c : In_ok-before) → AreShared c.number_at.new.self c.cover.new.self (values_of c.self.inside.held.entries)
+shared c = shared_now c.self.inside.locations c.number_at.new.self c.number_at.ensures.others c.self.inside.held.entries c.self.inside.bytes c.self.inside.shares c.cover.new.self c.cover.ensures.kept c.self.invariant
+
+called : (c : In_ok-before) → AreCalled c.number_at.new.self c.cover.new.self (length c.self.inside.held.entries)
+called c = called_now c.self.inside.locations c.number_at.new.self c.number_at.ensures.others c.self.inside.held.entries c.self.inside.bytes c.self.inside.shares c.cover.new.self c.cover.ensures.kept c.self.invariant
+
+-- until the address is counted, the shares are those of the rest
+rest : (c : In_ok-before) (shares : ByLocation) (left : ℕ) → Forgets c.in_ok-before.before c.cover.new.self shares c.self.inside.bytes left
+    → IsRest c.number_at.new.self c.self.inside.held.entries c.insert.new.self.entries (kept c) c.cover.new.self shares left
+rest c =
+    rest_of c.number_at.new.self c.self.inside.held.entries c.insert.new.self.entries c.self.inside.bytes (keeps c) c.cover.new.self (shared c) c.value.result (kept c)
+    (record { size = c.ranges.size.fits; location = c.in_ok-location.ensures.there }) c.in_ok-before.before c.in_ok-before.ensures.old c.in_ok-before.ensures.entries
+
 pub add-requires-clause-slot : goal.add-requires-clause-slot
 add-requires-clause-slot c =
-    let new = c.number_at.new.self in
-    let old = c.self.inside.held.entries in
-    let kept : Kept = record { size = c.args.size; line = c.args.line; location = c.in_ok-location.location } in
-    let keeps = keeps_now c.self.inside.locations c.number_at.new.self c.number_at.ensures.others c.self.inside.held.entries c.self.inside.bytes c.self.inside.shares c.cover.new.self c.cover.ensures.kept c.self.invariant in
-    let shared = shared_now c.self.inside.locations c.number_at.new.self c.number_at.ensures.others c.self.inside.held.entries c.self.inside.bytes c.self.inside.shares c.cover.new.self c.cover.ensures.kept c.self.invariant in
-    let rest = rest_of new old c.insert.new.self.entries c.self.inside.bytes keeps c.cover.new.self shared c.value.result kept (record { size = c.ranges.size.fits; location = c.in_ok-location.ensures.there })
-    c.in_ok-before.before c.in_ok-before.ensures.old c.in_ok-before.ensures.entries c.forget.new.shares c.forget.new.bytes c.forget.ensures in
+    let at = (goal.at.add-requires-clause-slot c).In_ok-before in
+    let rest = rest at c.forget.new.shares c.forget.new.bytes c.forget.ensures in
     omega (arith, c.in_ok-cover.ensures.slots, rest.slots)
 
 pub add-requires-clause-blocks : goal.add-requires-clause-blocks
 add-requires-clause-blocks c =
-    let new = c.number_at.new.self in
-    let old = c.self.inside.held.entries in
-    let kept : Kept = record { size = c.args.size; line = c.args.line; location = c.in_ok-location.location } in
-    let keeps = keeps_now c.self.inside.locations c.number_at.new.self c.number_at.ensures.others c.self.inside.held.entries c.self.inside.bytes c.self.inside.shares c.cover.new.self c.cover.ensures.kept c.self.invariant in
-    let shared = shared_now c.self.inside.locations c.number_at.new.self c.number_at.ensures.others c.self.inside.held.entries c.self.inside.bytes c.self.inside.shares c.cover.new.self c.cover.ensures.kept c.self.invariant in
-    let rest = rest_of new old c.insert.new.self.entries c.self.inside.bytes keeps c.cover.new.self shared c.value.result kept (record { size = c.ranges.size.fits; location = c.in_ok-location.ensures.there })
-    c.in_ok-before.before c.in_ok-before.ensures.old c.in_ok-before.ensures.entries c.forget.new.shares c.forget.new.bytes c.forget.ensures in
-    let few = few_blocks new old c.insert.new.self.entries kept c.cover.new.self c.forget.new.shares c.forget.new.bytes rest (omega (arith, c.len-few.ensures.small, c.len-few.ensures.len)) in
+    let at = (goal.at.add-requires-clause-blocks c).In_ok-before in
+    let rest = rest at c.forget.new.shares c.forget.new.bytes c.forget.ensures in
+    let few = few_blocks c.number_at.new.self c.self.inside.held.entries c.insert.new.self.entries (kept at) c.cover.new.self c.forget.new.shares c.forget.new.bytes rest (omega (arith, c.len-few.ensures.small, c.len-few.ensures.len)) in
     let same = ap (λ slot. (now_at c.forget.new.shares slot).blocks) c.slot_of-slot.ensures in
     omega (arith, few, same)
 
 pub add-requires-clause-bytes : goal.add-requires-clause-bytes
 add-requires-clause-bytes c =
-    let new = c.number_at.new.self in
-    let old = c.self.inside.held.entries in
-    let kept : Kept = record { size = c.args.size; line = c.args.line; location = c.in_ok-location.location } in
-    let keeps = keeps_now c.self.inside.locations c.number_at.new.self c.number_at.ensures.others c.self.inside.held.entries c.self.inside.bytes c.self.inside.shares c.cover.new.self c.cover.ensures.kept c.self.invariant in
-    let shared = shared_now c.self.inside.locations c.number_at.new.self c.number_at.ensures.others c.self.inside.held.entries c.self.inside.bytes c.self.inside.shares c.cover.new.self c.cover.ensures.kept c.self.invariant in
-    let rest = rest_of new old c.insert.new.self.entries c.self.inside.bytes keeps c.cover.new.self shared c.value.result kept (record { size = c.ranges.size.fits; location = c.in_ok-location.ensures.there })
-    c.in_ok-before.before c.in_ok-before.ensures.old c.in_ok-before.ensures.entries c.forget.new.shares c.forget.new.bytes c.forget.ensures in
-    let few = few_bytes new old c.insert.new.self.entries kept c.cover.new.self c.forget.new.shares c.forget.new.bytes rest c.self.inside.bytes keeps (omega (arith, c.len-few.ensures.small, c.len-few.ensures.len)) in
+    let at = (goal.at.add-requires-clause-bytes c).In_ok-before in
+    let rest = rest at c.forget.new.shares c.forget.new.bytes c.forget.ensures in
+    let few = few_bytes c.number_at.new.self c.self.inside.held.entries c.insert.new.self.entries (kept at) c.cover.new.self c.forget.new.shares c.forget.new.bytes rest c.self.inside.bytes (keeps at) (omega (arith, c.len-few.ensures.small, c.len-few.ensures.len)) in
     let same = ap (λ slot. (now_at c.forget.new.shares slot).bytes) c.slot_of-slot.ensures in
     omega (arith, few.1, same, c.ranges.size.fits)
 
 pub overflow_add-self : goal.overflow_add-self
 overflow_add-self c =
-    let new = c.number_at.new.self in
-    let old = c.self.inside.held.entries in
-    let kept : Kept = record { size = c.args.size; line = c.args.line; location = c.in_ok-location.location } in
-    let keeps = keeps_now c.self.inside.locations c.number_at.new.self c.number_at.ensures.others c.self.inside.held.entries c.self.inside.bytes c.self.inside.shares c.cover.new.self c.cover.ensures.kept c.self.invariant in
-    let shared = shared_now c.self.inside.locations c.number_at.new.self c.number_at.ensures.others c.self.inside.held.entries c.self.inside.bytes c.self.inside.shares c.cover.new.self c.cover.ensures.kept c.self.invariant in
-    let rest = rest_of new old c.insert.new.self.entries c.self.inside.bytes keeps c.cover.new.self shared c.value.result kept (record { size = c.ranges.size.fits; location = c.in_ok-location.ensures.there })
-    c.in_ok-before.before c.in_ok-before.ensures.old c.in_ok-before.ensures.entries c.forget.new.shares c.forget.new.bytes c.forget.ensures in
-    let few = few_bytes new old c.insert.new.self.entries kept c.cover.new.self c.forget.new.shares c.forget.new.bytes rest c.self.inside.bytes keeps (omega (arith, c.len-few.ensures.small, c.len-few.ensures.len)) in
+    let at = (goal.at.overflow_add-self c).In_ok-before in
+    let rest = rest at c.forget.new.shares c.forget.new.bytes c.forget.ensures in
+    let few = few_bytes c.number_at.new.self c.self.inside.held.entries c.insert.new.self.entries (kept at) c.cover.new.self c.forget.new.shares c.forget.new.bytes rest c.self.inside.bytes (keeps at) (omega (arith, c.len-few.ensures.small, c.len-few.ensures.len)) in
     omega (arith, few.0, c.from.ensures, c.ranges.size.fits)
 
 pub invariant_of-self-2 : goal.invariant_of-self-2
 invariant_of-self-2 c =
-    let new = c.number_at.new.self in
-    let old = c.self.inside.held.entries in
-    let kept : Kept = record { size = c.args.size; line = c.args.line; location = c.in_ok-location.location } in
-    let keeps = keeps_now c.self.inside.locations c.number_at.new.self c.number_at.ensures.others c.self.inside.held.entries c.self.inside.bytes c.self.inside.shares c.cover.new.self c.cover.ensures.kept c.self.invariant in
-    let shared = shared_now c.self.inside.locations c.number_at.new.self c.number_at.ensures.others c.self.inside.held.entries c.self.inside.bytes c.self.inside.shares c.cover.new.self c.cover.ensures.kept c.self.invariant in
-    let rest = rest_of new old c.insert.new.self.entries c.self.inside.bytes keeps c.cover.new.self shared c.value.result kept (record { size = c.ranges.size.fits; location = c.in_ok-location.ensures.there })
-    c.in_ok-before.before c.in_ok-before.ensures.old c.in_ok-before.ensures.entries c.forget.new.shares c.forget.new.bytes c.forget.ensures in
-    let slot = slot_of kept.location in
+    let at = (goal.at.invariant_of-self-2 c).In_ok-before in
+    let rest = rest at c.forget.new.shares c.forget.new.bytes c.forget.ensures in
+    let slot = slot_of c.in_ok-location.location in
     let amounts = subst (λ slot. Changes slot (amount_more (now_at c.forget.new.shares slot) c.args.size) c.forget.new.shares c.add.new.self) c.slot_of-slot.ensures c.add.ensures.amount in
     let counts = subst (λ slot. Counts slot (count_more (count_at c.forget.new.shares slot) c.args.size) c.forget.new.shares c.add.new.self) c.slot_of-slot.ensures c.add.ensures.count in
-    let called = called_now c.self.inside.locations c.number_at.new.self c.number_at.ensures.others c.self.inside.held.entries c.self.inside.bytes c.self.inside.shares c.cover.new.self c.cover.ensures.kept c.self.invariant in
-    let both = counted new old c.insert.new.self.entries kept c.cover.new.self c.forget.new.shares c.forget.new.bytes rest c.insert.ensures.unique c.add.new.self amounts in
-    let bytes = subst (λ size. IsLedger new c.insert.new.self.entries (c.forget.new.bytes + size)) (sym c.from.ensures) both.0 in (
+    let both = counted c.number_at.new.self c.self.inside.held.entries c.insert.new.self.entries (kept at) c.cover.new.self c.forget.new.shares c.forget.new.bytes rest c.insert.ensures.unique c.add.new.self amounts in
+    let bytes = subst (λ size. IsLedger c.number_at.new.self c.insert.new.self.entries (c.forget.new.bytes + size)) (sym c.from.ensures) both.0 in (
       bytes,
       both.1,
-      called-more new old c.insert.new.self.entries kept c.in_ok-location.ensures.there c.ranges.size.fits c.cover.new.self c.forget.new.shares c.add.new.self c.forget.new.bytes rest shared called amounts counts c.add.ensures.total
-          (few_more new old c.insert.new.self.entries kept c.cover.new.self c.forget.new.shares c.forget.new.bytes rest),
+      called-more c.number_at.new.self c.self.inside.held.entries c.insert.new.self.entries (kept at) c.in_ok-location.ensures.there c.ranges.size.fits c.cover.new.self c.forget.new.shares c.add.new.self c.forget.new.bytes rest (shared at) (called at) amounts counts c.add.ensures.total
+          (few_more c.number_at.new.self c.self.inside.held.entries c.insert.new.self.entries (kept at) c.cover.new.self c.forget.new.shares c.forget.new.bytes rest),
     )
 
 pub returns-clause-held : goal.returns-clause-held
@@ -146,15 +142,10 @@ returns-clause-held c = λ other.
 
 pub returns-clause-peak : goal.returns-clause-peak
 returns-clause-peak c =
-    let new = c.number_at.new.self in
-    let old = c.self.inside.held.entries in
-    let kept : Kept = record { size = c.args.size; line = c.args.line; location = c.in_ok-location.location } in
-    let keeps = keeps_now c.self.inside.locations c.number_at.new.self c.number_at.ensures.others c.self.inside.held.entries c.self.inside.bytes c.self.inside.shares c.cover.new.self c.cover.ensures.kept c.self.invariant in
-    let shared = shared_now c.self.inside.locations c.number_at.new.self c.number_at.ensures.others c.self.inside.held.entries c.self.inside.bytes c.self.inside.shares c.cover.new.self c.cover.ensures.kept c.self.invariant in
-    let rest = rest_of new old c.insert.new.self.entries c.self.inside.bytes keeps c.cover.new.self shared c.value.result kept (record { size = c.ranges.size.fits; location = c.in_ok-location.ensures.there })
-    c.in_ok-before.before c.in_ok-before.ensures.old c.in_ok-before.ensures.entries c.forget.new.shares c.forget.new.bytes c.forget.ensures in
+    let at = (goal.at.returns-clause-peak c).In_ok-before in
+    let rest = rest at c.forget.new.shares c.forget.new.bytes c.forget.ensures in
     record {
-      at_peak = peak_stays c.self.inside.locations new c.number_at.ensures.others c.self.inside.shares c.add.new.self c.self.invariant.1.beyond
+      at_peak = peak_stays c.self.inside.locations c.number_at.new.self c.number_at.ensures.others c.self.inside.shares c.add.new.self c.self.invariant.1.beyond
           (λ slot. c.add.ensures.amount.marked slot ∙ rest.marked slot ∙ c.cover.ensures.kept.marked slot)
           ∙ ap (λ (state : LedgerState). state.at_peak) c.self.view_is;
       mark = c.add.ensures.amount.mark ∙ rest.mark ∙ c.cover.ensures.kept.mark ∙ ap (λ (state : LedgerState). state.mark) c.self.view_is;
@@ -162,32 +153,21 @@ returns-clause-peak c =
 
 pub add-requires-clause-calls : goal.add-requires-clause-calls
 add-requires-clause-calls c =
-    let new = c.number_at.new.self in
-    let old = c.self.inside.held.entries in
-    let kept : Kept = record { size = c.args.size; line = c.args.line; location = c.in_ok-location.location } in
-    let keeps = keeps_now c.self.inside.locations c.number_at.new.self c.number_at.ensures.others c.self.inside.held.entries c.self.inside.bytes c.self.inside.shares c.cover.new.self c.cover.ensures.kept c.self.invariant in
-    let shared = shared_now c.self.inside.locations c.number_at.new.self c.number_at.ensures.others c.self.inside.held.entries c.self.inside.bytes c.self.inside.shares c.cover.new.self c.cover.ensures.kept c.self.invariant in
-    let rest = rest_of new old c.insert.new.self.entries c.self.inside.bytes keeps c.cover.new.self shared c.value.result kept (record { size = c.ranges.size.fits; location = c.in_ok-location.ensures.there })
-    c.in_ok-before.before c.in_ok-before.ensures.old c.in_ok-before.ensures.entries c.forget.new.shares c.forget.new.bytes c.forget.ensures in
+    let at = (goal.at.add-requires-clause-calls c).In_ok-before in
+    let rest = rest at c.forget.new.shares c.forget.new.bytes c.forget.ensures in
     let same : c.forget.new.shares.total.calls ≡ c.args.self.now.called.total.calls =
     ap (λ (count : Count). count.calls) (rest.counts.total ∙ c.cover.ensures.kept.counts.total) ∙ ap (λ (state : LedgerState). state.called.total.calls) c.self.view_is in
     omega (arith, same, c.requires.few)
 
 pub returns-clause-called : goal.returns-clause-called
 returns-clause-called c =
-    let new = c.number_at.new.self in
-    let old = c.self.inside.held.entries in
-    let kept : Kept = record { size = c.args.size; line = c.args.line; location = c.in_ok-location.location } in
-    let keeps = keeps_now c.self.inside.locations c.number_at.new.self c.number_at.ensures.others c.self.inside.held.entries c.self.inside.bytes c.self.inside.shares c.cover.new.self c.cover.ensures.kept c.self.invariant in
-    let shared = shared_now c.self.inside.locations c.number_at.new.self c.number_at.ensures.others c.self.inside.held.entries c.self.inside.bytes c.self.inside.shares c.cover.new.self c.cover.ensures.kept c.self.invariant in
-    let rest = rest_of new old c.insert.new.self.entries c.self.inside.bytes keeps c.cover.new.self shared c.value.result kept (record { size = c.ranges.size.fits; location = c.in_ok-location.ensures.there })
-    c.in_ok-before.before c.in_ok-before.ensures.old c.in_ok-before.ensures.entries c.forget.new.shares c.forget.new.bytes c.forget.ensures in
+    let at = (goal.at.returns-clause-called c).In_ok-before in
+    let rest = rest at c.forget.new.shares c.forget.new.bytes c.forget.ensures in
     let amounts = subst (λ slot. Changes slot (amount_more (now_at c.forget.new.shares slot) c.args.size) c.forget.new.shares c.add.new.self) c.slot_of-slot.ensures c.add.ensures.amount in
     let counts = subst (λ slot. Counts slot (count_more (count_at c.forget.new.shares slot) c.args.size) c.forget.new.shares c.add.new.self) c.slot_of-slot.ensures c.add.ensures.count in
-    let called = called_now c.self.inside.locations c.number_at.new.self c.number_at.ensures.others c.self.inside.held.entries c.self.inside.bytes c.self.inside.shares c.cover.new.self c.cover.ensures.kept c.self.invariant in
-    let after = called-more new old c.insert.new.self.entries kept c.in_ok-location.ensures.there c.ranges.size.fits c.cover.new.self c.forget.new.shares c.add.new.self c.forget.new.bytes rest shared called amounts counts c.add.ensures.total
-    (few_more new old c.insert.new.self.entries kept c.cover.new.self c.forget.new.shares c.forget.new.bytes rest) in
-    more_called c.self.inside.locations new c.number_at.ensures.others kept.location c.in_ok-location.ensures.there c.self.inside.shares c.forget.new.shares c.add.new.self (length old)
-    (length c.insert.new.self.entries) c.self.invariant.2 after kept.size _ (sym c.in_ok-location.ensures.found)
+    let after = called-more c.number_at.new.self c.self.inside.held.entries c.insert.new.self.entries (kept at) c.in_ok-location.ensures.there c.ranges.size.fits c.cover.new.self c.forget.new.shares c.add.new.self c.forget.new.bytes rest (shared at) (called at) amounts counts c.add.ensures.total
+    (few_more c.number_at.new.self c.self.inside.held.entries c.insert.new.self.entries (kept at) c.cover.new.self c.forget.new.shares c.forget.new.bytes rest) in
+    more_called c.self.inside.locations c.number_at.new.self c.number_at.ensures.others c.in_ok-location.location c.in_ok-location.ensures.there c.self.inside.shares c.forget.new.shares c.add.new.self (length c.self.inside.held.entries)
+    (length c.insert.new.self.entries) c.self.invariant.2 after c.args.size _ (sym c.in_ok-location.ensures.found)
     (λ slot. rest.counts.now slot ∙ c.cover.ensures.kept.counts.now slot) (rest.counts.total ∙ c.cover.ensures.kept.counts.total) counts c.add.ensures.total
     _ (ap (λ (state : LedgerState). state.called) c.self.view_is)
