@@ -61,9 +61,9 @@ struct live {
     uint64_t blocks;
 };
 
-/* What is free: the bytes of the free blocks with their fronts, the most bytes for which
- * tlsf_placed_malloc never answers TLSF_NO_FIT, and how many bytes no free block exceeds behind a front. The
- * last two are 0 where no block is free, and else may differ: they are of one class. */
+/* What is free: the bytes of the free blocks, with their fronts; for how many bytes tlsf_placed_malloc
+ * surely finds a block; and how many no free block exceeds behind its front. The last two are of one
+ * class, and 0 where no block is free. */
 struct free_figures {
     uint64_t bytes;
     uint64_t largest_request;
