@@ -21,14 +21,14 @@ int tlsf_stats(tlsf_t tlsf, tlsf_figures *out)
     if (control == NULL) {
         return -1;
     }
-    struct free_figures free;
-    tlsf_placed_free_figures(&control->at, &free);
+    struct free_figures figures;
+    tlsf_placed_free_figures(&control->at, &figures);
     *out = (tlsf_figures){.bytes_live = (size_t)control->at.live.bytes,
                           .blocks_live = (size_t)control->at.live.blocks,
                           .most_bytes_live = (size_t)control->at.live.most_bytes,
-                          .bytes_free = (size_t)free.bytes,
-                          .largest_request = (size_t)free.largest_request,
-                          .largest_free = (size_t)free.largest_free,
+                          .bytes_free = (size_t)figures.bytes,
+                          .largest_request = (size_t)figures.largest_request,
+                          .largest_free = (size_t)figures.largest_free,
                           .records = control->records,
                           .records_used = tlsf_heap_records_used(&control->at.heap)};
     (void)memcpy(out->refusals, control->refusals, sizeof out->refusals);
