@@ -13,7 +13,7 @@ ghost use Rattle.tlsf_heap.specs.Inner.Following.{Stands, content_of};
 ghost use Rattle.tlsf_heap.specs.Inner.Nodes.{NodeState, InUse, Listed, is_listed};
 ghost use Rattle.tlsf_heap.specs.Inner.At.{At, StandsAt, with_slot, at_turned, at_taken, at_split_off, at_split_rest};
 ghost use Rattle.tlsf_heap.specs.Inner.Spans.{IsRead, IsOfClass};
-ghost use Rattle.tlsf_heap.specs.Inner.Answers.{AnswersOver, IsPick, IsTakeable, IsTakenFor, Leaves};
+ghost use Rattle.tlsf_heap.specs.Inner.Answers.{AnswersOver, IsPick, IsTakeable, IsTakenFor, IsOwnFirst, Leaves};
 
 use crate::chains::{split, turn};
 use crate::free_lists::{put_first, unlink};
@@ -85,18 +85,20 @@ fn pick_or_own(store: &mut Store, asked: u32) -> Option<(Class, Slot)>
 {
     match pick(store, asked) {
         Some(found) => Some(found),
-        None => own_first(store, asked),
+        None => {
+            let slot = own_first(store, asked)?;
+            Some((class_of(asked), slot))
+        }
     }
 }
 
-/// The first block of the class that `asked` bytes are in, if it has as many; with that class. At most two
-/// touches.
+/// The first block of the class that `asked` bytes are in, if it has as many. At most two touches.
 #[cold]
 #[inline(never)]
-fn own_first(store: &mut Store, asked: u32) -> Option<(Class, Slot)>
+fn own_first(store: &mut Store, asked: u32) -> Option<Slot>
     requires stands { Stands store.old.cells }
     requires size { IsSize asked }
-    ensures found { MatchOption result (own_first asked (content_of store.old.cells) ≡ None) (λ first. IsTakenFor asked (own_first asked (content_of store.old.cells)) first.0 first.1 store.old.cells) }
+    ensures found { MatchOption result (own_first asked (content_of store.old.cells) ≡ None) (λ slot. IsOwnFirst asked slot store.old.cells) }
     ensures left { Leaves store.old.cells 2 store.old store.new }
 {
     let class = class_of(asked);
@@ -105,7 +107,7 @@ fn own_first(store: &mut Store, asked: u32) -> Option<(Class, Slot)>
     if block.size < asked {
         return None;
     }
-    Some((class, slot))
+    Some(slot)
 }
 
 /// The first block of the first list that isn't empty, at or above the class from which each block holds
@@ -137,16 +139,17 @@ fn take(store: &mut Store, class: Class, slot: Slot, asked: u32) -> Result<Ptr, 
     ensures { AnswersOver result (IsServed (λ owner. malloc_picked owner asked (Some (record_at store.old.cells.records slot).place))) (λ refusal old. (owner : ℕ) → malloc_picked owner asked (Some (record_at store.old.cells.records slot).place) old ≡ Err refusal) 17 store.old store.new }
 {
     let block = store.read_used(slot);
+    let ptr = Ptr::new(block.place, slot.0);
     if block.size == asked {
         take_whole(store, class, slot, &block);
-        return Ok(Ptr::new(block.place, slot.0));
+        return Ok(ptr);
     }
     let Some(rest) = store.take_vacant() else {
         return Err(Refusal::TableFull);
     };
     unlink(store, class, &block);
     split_off(store, &Span::of(slot, &block), rest, asked);
-    Ok(Ptr::new(block.place, slot.0))
+    Ok(ptr)
 }
 
 /// A free block of this record leaves the list of its class and is live. At most six touches.

@@ -6,10 +6,11 @@ use Rattle.tlsf_store.specs.Cells.{Cells}
 use Rattle.tlsf_store.specs.CountedCells.{CountedCells}
 use Rattle.tlsf_heap.specs.declared.refusal.Refusal.{Refusal}
 use Rattle.tlsf_heap.specs.Touches.{AtMost}
-use Rattle.tlsf_class.specs.Classes.{classes}
+use Rattle.tlsf_class.specs.Classes.{classes, class}
 use Rattle.tlsf_heap.specs.Content.{Content, blocks_of, size_at}
 use Rattle.tlsf_heap.specs.Good.{times}
 use Rattle.tlsf_heap.specs.Lists.{list_of, pick}
+use Rattle.tlsf_heap.specs.OwnClass.{own_first}
 use Rattle.tlsf_heap.specs.Inner.Spans.{IsOfClass}
 use Rattle.tlsf_heap.specs.Inner.Following.{Stands, content_of}
 
@@ -37,6 +38,10 @@ pub record IsTakeable (asked class slot : ℕ) (cells : Cells) : Type 0 where
 pub record IsTakenFor (asked : ℕ) (place : Option ℕ) (class slot : ℕ) (cells : Cells) : Type 0 where
   pub takeable : IsTakeable asked class slot cells
   pub found : place ≡ Some (record_at cells.records slot).place
+
+-- the slot's block is the first of the class that the bytes are in, and has as many
+abbrev pub IsOwnFirst : (asked slot : ℕ) → Cells → Type 0
+IsOwnFirst asked slot cells = IsTakenFor asked (own_first asked (content_of cells)) (class asked) slot cells
 
 -- a call over a store that stands, by its content: what it gives, or why it is refused. Refused, it leaves the cells as they
 -- were. At most n touches

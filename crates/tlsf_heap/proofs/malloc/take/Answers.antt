@@ -40,7 +40,7 @@ take_whole-requires-clause-stands c =
     let by = free_at c.args.store.now.cells c.requires.stands c.args.slot c.requires.takeable.free in (by.at, rw c.read_used-block.ensures.left.cells by.stands)
 
 -- what a whole block leaves
-whole : (c : goal.After-new) → Stands c.take_whole.new.store.cells × (malloc_picked c.args.slot c.args.asked (Some (record_at c.args.store.now.cells.records c.args.slot).place) (content_of c.args.store.now.cells) ≡ Ok ((record_at c.args.store.now.cells.records c.args.slot).place, content_of c.take_whole.new.store.cells))
+whole : (c : goal.After-take_whole) → Stands c.take_whole.new.store.cells × (malloc_picked c.args.slot c.args.asked (Some (record_at c.args.store.now.cells.records c.args.slot).place) (content_of c.args.store.now.cells) ≡ Ok ((record_at c.args.store.now.cells.records c.args.slot).place, content_of c.take_whole.new.store.cells))
 whole c =
     let old : Cells = c.args.store.now.cells in
     let by = free_at old c.requires.stands c.args.slot c.requires.takeable.free in
@@ -52,9 +52,9 @@ pub returns-then-block-asked : goal.returns-then-block-asked
 returns-then-block-asked c = record {
   stands = (whole c).0;
   ok = record {
-    ok = rw (c.new.ensures, c.read_used-block.ensures.value, c.slot.view_is) ((whole c).1);
-    slot_below = rw (c.new.ensures, c.slot.view_is) (slot_below c.args.store.now.cells c.requires.stands (record_at c.args.store.now.cells.records c.args.slot).place c.args.slot (free_at c.args.store.now.cells c.requires.stands c.args.slot c.requires.takeable.free));
-    slot_new = rw (c.new.ensures, c.slot.view_is) (slot_new c.args.store.now.cells c.requires.stands (record_at c.args.store.now.cells.records c.args.slot).place c.args.slot (free_at c.args.store.now.cells c.requires.stands c.args.slot c.requires.takeable.free));
+    ok = rw (c.new-ptr.ensures, c.read_used-block.ensures.value, c.slot.view_is) ((whole c).1);
+    slot_below = rw (c.new-ptr.ensures, c.slot.view_is) (slot_below c.args.store.now.cells c.requires.stands (record_at c.args.store.now.cells.records c.args.slot).place c.args.slot (free_at c.args.store.now.cells c.requires.stands c.args.slot c.requires.takeable.free));
+    slot_new = rw (c.new-ptr.ensures, c.slot.view_is) (slot_new c.args.store.now.cells c.requires.stands (record_at c.args.store.now.cells.records c.args.slot).place c.args.slot (free_at c.args.store.now.cells c.requires.stands c.args.slot c.requires.takeable.free));
   };
   refused = search rules;
   cells = search rules;
@@ -121,7 +121,7 @@ split_off-requires-clause-less c =
     rw c.of.ensures (omega (arith, least, size, c.if-block-asked.false))
 
 -- what a part leaves
-part : (c : goal.After-new-2) → StandsAt c.args.slot Loose c.unlink.new.store.cells (with_slot c.in-Some.rest (at_unlisted (free_at c.args.store.now.cells c.requires.stands c.args.slot c.requires.takeable.free).at))
+part : (c : goal.After-split_off) → StandsAt c.args.slot Loose c.unlink.new.store.cells (with_slot c.in-Some.rest (at_unlisted (free_at c.args.store.now.cells c.requires.stands c.args.slot c.requires.takeable.free).at))
     → Stands c.split_off.new.store.cells × (malloc_picked c.args.slot c.args.asked (Some (record_at c.args.store.now.cells.records c.args.slot).place) (content_of c.args.store.now.cells) ≡ Ok ((record_at c.args.store.now.cells.records c.args.slot).place, content_of c.split_off.new.store.cells))
 part c left =
     let old : Cells = c.args.store.now.cells in
@@ -139,9 +139,9 @@ returns c =
     record {
       stands = (part c left).0;
       ok = record {
-        ok = rw (c.new-2.ensures, c.read_used-block.ensures.value, c.slot-2.view_is) ((part c left).1);
-        slot_below = rw (c.new-2.ensures, c.slot-2.view_is) (slot_below c.args.store.now.cells c.requires.stands (record_at c.args.store.now.cells.records c.args.slot).place c.args.slot (free_at c.args.store.now.cells c.requires.stands c.args.slot c.requires.takeable.free));
-        slot_new = rw (c.new-2.ensures, c.slot-2.view_is) (slot_new c.args.store.now.cells c.requires.stands (record_at c.args.store.now.cells.records c.args.slot).place c.args.slot (free_at c.args.store.now.cells c.requires.stands c.args.slot c.requires.takeable.free));
+        ok = rw (c.new-ptr.ensures, c.read_used-block.ensures.value, c.slot.view_is) ((part c left).1);
+        slot_below = rw (c.new-ptr.ensures, c.slot.view_is) (slot_below c.args.store.now.cells c.requires.stands (record_at c.args.store.now.cells.records c.args.slot).place c.args.slot (free_at c.args.store.now.cells c.requires.stands c.args.slot c.requires.takeable.free));
+        slot_new = rw (c.new-ptr.ensures, c.slot.view_is) (slot_new c.args.store.now.cells c.requires.stands (record_at c.args.store.now.cells.records c.args.slot).place c.args.slot (free_at c.args.store.now.cells c.requires.stands c.args.slot c.requires.takeable.free));
       };
       refused = search rules;
       cells = search rules;
