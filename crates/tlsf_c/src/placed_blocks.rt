@@ -16,7 +16,7 @@ ghost use Rattle.tlsf_c.specs.Status.{number};
 
 use crate::front::{Mark, mark_of, word_of};
 use crate::placed_heap::PlacedHeap;
-use crate::placed_lookup::{later_pool_of, pool_at};
+use crate::placed_lookup::{later_pool_of, place_at, pool_at};
 use crate::placed_pool::PlacedPool;
 use crate::status::{SERVED, number};
 use tlsf_heap::{Heap, Ptr, Refusal};
@@ -163,9 +163,9 @@ pub(crate) fn find(heap: &mut PlacedHeap, address: u64, word: u64) -> Option<Siz
     ensures figures { heap.new.figures ≡ heap.old.figures }
     ensures read { Reads 1 heap.old.handle.value heap.new.handle.value }
 {
-    let pool = pool_at(&heap.pools, address)?;
+    let place = place_at(&heap.pools, address)?;
     let mark = mark_of(word, address);
-    let ptr = Ptr::new(pool.place_of(address), mark.slot);
+    let ptr = Ptr::new(place, mark.slot);
     let inner = heap.handle.heap();
     inner.keeps_good();
     let Ok(size) = inner.block_size(ptr) else {

@@ -1,7 +1,7 @@
 //! The pool of a placed heap that has a place or an address.
 
 ghost use Rattle.std.specs.Prelude.{All, Contains, MatchOption};
-ghost use Rattle.tlsf_c.specs.PlacedPools.{IsPlaced, HasPlace, HasAddress};
+ghost use Rattle.tlsf_c.specs.PlacedPools.{IsPlaced, HasPlace, HasAddress, IsAt};
 
 use crate::placed_pool::PlacedPool;
 
@@ -20,24 +20,25 @@ pub(crate) fn later_pool_of(pools: &[PlacedPool; 8], place: u32) -> Option<&Plac
     None
 }
 
-/// The pool that has a block's address, if one has.
+/// The place of the block at an address, if a pool has it.
 #[inline(always)]
-pub(crate) fn pool_at(pools: &[PlacedPool; 8], address: u64) -> Option<&PlacedPool>
+pub(crate) fn place_at(pools: &[PlacedPool; 8], address: u64) -> Option<u32>
     requires { All IsPlaced pools.now }
-    ensures { MatchOption result (All (λ pool. HasAddress pool address → ⊥) pools.now) (λ pool. Contains pools.now pool.now × HasAddress pool.now address) }
+    ensures { MatchOption result (All (λ pool. HasAddress pool address → ⊥) pools.now) (λ place. (pool : PlacedPool) × Contains pools.now pool × IsAt pool place address) }
 {
     let first = &pools[0];
-    if first.has_address(address) {
-        Some(first)
+    let pool = if first.has_address(address) {
+        first
     } else {
-        later_pool_at(pools, address)
-    }
+        pool_at(pools, address)?
+    };
+    Some(pool.place_of(address))
 }
 
 /// The pool that has a block's address, if one has. It is for where that isn't the first.
 #[inline(never)]
 #[cold]
-fn later_pool_at(pools: &[PlacedPool; 8], address: u64) -> Option<&PlacedPool>
+pub(crate) fn pool_at(pools: &[PlacedPool; 8], address: u64) -> Option<&PlacedPool>
     requires { All IsPlaced pools.now }
     ensures { MatchOption result (All (λ pool. HasAddress pool address → ⊥) pools.now) (λ pool. Contains pools.now pool.now × HasAddress pool.now address) }
 {

@@ -11,9 +11,9 @@ use Rattle.tlsf_c.proofs.placed_blocks.find.Goals as goal
 pub returns-then-from-mark-clause-none : goal.returns-then-from-mark-clause-none
 returns-then-from-mark-clause-none c = λ live.
     let heap = c.args.heap.now in
-    let there = live_in_found c.args.address c.args.word c.place_of.result heap.pools c.in_ok-pool.pool.now heap.handle.value.content heap.apart c.in_ok-pool.ensures.0 c.place_of.ensures.at live in
-    let block_is : c.new-ptr.result ≡ told_block c.place_of.result c.args.address c.args.word =
-    c.new-ptr.ensures ∙ ap (λ (slot : ℕ). let p : Pointer = record { place = c.place_of.result; slot = slot } in p) c.mark_of-mark.ensures.slot in
+    let there = live_in_found c.args.address c.args.word c.in_ok-place.place heap.pools c.in_ok-place.ensures.0 heap.handle.value.content heap.apart c.in_ok-place.ensures.1 c.in_ok-place.ensures.2 live in
+    let block_is : c.new-ptr.result ≡ told_block c.in_ok-place.place c.args.address c.args.word =
+    c.new-ptr.ensures ∙ ap (λ (slot : ℕ). let p : Pointer = record { place = c.in_ok-place.place; slot = slot } in p) c.mark_of-mark.ensures.slot in
     let found = subst (λ (h : Counted). block_size_ptr c.new-ptr.result h.content ≡ Ok c.in-Ok.size) c.heap-inner.ensures.value c.in-Ok.ensures.ok in
     let found_told = subst (λ (p : Pointer). block_size_ptr p heap.handle.value.content ≡ Ok c.in-Ok.size) block_is found in
     let size_is : told_size c.args.word c.args.address ≡ c.in-Ok.size = the_size (sym there ∙ found_told) in
@@ -22,7 +22,7 @@ returns-then-from-mark-clause-none c = λ live.
 pub returns-in_default-clause-none : goal.returns-in_default-clause-none
 returns-in_default-clause-none c = λ live.
     let heap = c.args.heap.now in
-    let there = live_in_found c.args.address c.args.word c.place_of.result heap.pools c.in_ok-pool.pool.now heap.handle.value.content heap.apart c.in_ok-pool.ensures.0 c.place_of.ensures.at live in
+    let there = live_in_found c.args.address c.args.word c.in_ok-place.place heap.pools c.in_ok-place.ensures.0 heap.handle.value.content heap.apart c.in_ok-place.ensures.1 c.in_ok-place.ensures.2 live in
     absurd (cc (there, c.in_default.ensures.refused.refused, c.new-ptr.ensures, c.mark_of-mark.ensures.slot, c.heap-inner.ensures.value))
 
 pub returns-clause-long : goal.returns-clause-long
