@@ -1,7 +1,8 @@
 //! Blocks of a heap with addresses are asked for and given back.
 
-ghost use Rattle.std.specs.Prelude.{◌≡◌, ◌≢◌, ℕ, ◌+◌, ◌*◌, ◌/◌, ◌%◌, ◌^◌, ◌<◌, ◌≤◌, ◌↔◌, All, Contains, map, max, Ok, Err, IfOk, IfErr, OnOk, OnErr, IfSome, IfNone, true, false, length};
+ghost use Rattle.std.specs.Prelude.{◌≡◌, ◌≢◌, ℕ, ◌+◌, ◌-◌, ◌*◌, ◌/◌, ◌%◌, ◌^◌, ◌<◌, ◌≤◌, ◌↔◌, All, Contains, map, max, Ok, Err, IfOk, IfErr, OnOk, OnErr, IfSome, IfNone, true, false, length};
 ghost use Rattle.tlsf_heap.specs.declared.refusal.Refusal.TheVariants.{BadPointer};
+ghost use Rattle.tlsf_heap.specs.Content.{Content};
 ghost use Rattle.tlsf_heap.specs.Counted.{IsUnchanged, Reads, range_of};
 ghost use Rattle.tlsf_heap.specs.OwnClass.{malloc_or_own};
 ghost use Rattle.tlsf_heap.specs.Pointer.{free_ptr, block_size_ptr};
@@ -111,6 +112,18 @@ pub(crate) fn place_block(pools: &[PlacedPool; 8], ptr: Ptr, size: u64, word: &m
     place_in(pool, ptr, size, word)
 }
 
+/// Why every heap refuses a block of none or of too many bytes.
+#[cold]
+fn refusal_of(bytes: u64) -> Refusal
+    requires { bytes ≢ 0 → 2 ^ 30 - 24 < bytes }
+    ensures { (slot : ℕ) (content : Content ℕ) → malloc_with_front slot bytes content ≡ Err result }
+{
+    if bytes == 0 {
+        return Refusal::ZeroSize;
+    }
+    Refusal::NoFit
+}
+
 /// A live block of at least `bytes` bytes, at the address that is answered, with eight bytes in front of it. `word` gets
 /// what the caller puts into these, and hands back with the address. At most 23 touches.
 ///
@@ -125,12 +138,8 @@ pub extern "C" fn tlsf_placed_malloc(heap: &mut PlacedHeap, bytes: u64, word: &m
     ensures most { heap.new.figures.most_bytes ≡ max heap.old.figures.most_bytes heap.new.figures.bytes }
     ensures bound { AtMost malloc_or_own_touches heap.old.handle.value.touches heap.new.handle.value.touches }
 {
-    if bytes == 0 {
-        *word = u64::from(number(Refusal::ZeroSize));
-        return 0;
-    }
-    if bytes > MOST {
-        *word = u64::from(number(Refusal::NoFit));
+    if bytes == 0 || bytes > MOST {
+        *word = u64::from(number(refusal_of(bytes)));
         return 0;
     }
     match allocate(heap.handle.heap(), bytes + FRONT) {

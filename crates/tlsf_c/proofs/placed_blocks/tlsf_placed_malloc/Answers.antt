@@ -1,26 +1,17 @@
 -- Bytes that are too many are refused, and a block lies in a pool with its front.
-use Rattle.std.proofs.Common.{rules, ℕ, ◌+◌, ◌*◌, ◌/◌, map, refl, ◌∙◌, subst, arith}
-use Rattle.tlsf_heap.specs.declared.refusal.Refusal.TheVariants.{ZeroSize, NoFit}
+use Rattle.std.proofs.Common.{rules, ℕ, ◌+◌, ◌*◌, ◌/◌, map, ◌∙◌, subst, arith}
 use Rattle.tlsf_heap.specs.Counted.{Counted, range_of}
 use Rattle.tlsf_heap.specs.OwnClass.{malloc_or_own}
 use Rattle.tlsf_heap.specs.Served.{IsServed}
 use Rattle.tlsf_c.specs.Lying.{LiesIn}
 use Rattle.tlsf_c.specs.PlacedHeaps.{malloc_with_front}
-use Rattle.tlsf_c.proofs.PlacedLemmas.{refuses_above, with_front, lies_somewhere, given_at}
+use Rattle.tlsf_c.proofs.PlacedLemmas.{with_front, lies_somewhere, given_at}
 use Rattle.tlsf_c.proofs.placed_blocks.tlsf_placed_malloc.Goals as goal
 
 pub returns-then-bytes-eq0-clause-refused : goal.returns-then-bytes-eq0-clause-refused
 returns-then-bytes-eq0-clause-refused c = λ none. record {
-  refusal = ZeroSize;
-  refused = λ slot. (rw c.if-bytes-eq0.true refl);
-  number_is = search rules;
-  unchanged = search rules;
-}
-
-pub returns-then-bytes-gt-MOST-clause-refused : goal.returns-then-bytes-gt-MOST-clause-refused
-returns-then-bytes-gt-MOST-clause-refused c = λ none. record {
-  refusal = NoFit;
-  refused = λ slot. refuses_above slot c.args.bytes c.args.heap.now.handle.value.content (omega (arith, c.if-bytes-gt-MOST.true));
+  refusal = c.refusal_of.result;
+  refused = λ slot. c.refusal_of.ensures slot c.args.heap.now.handle.value.content;
   number_is = search rules;
   unchanged = search rules;
 }
