@@ -101,18 +101,34 @@ int lost_fronts(struct control *control, uint32_t entry, uint64_t began, bool mo
     return lost;
 }
 
+/* Whether the control part and the table are whole, and agree on what is live. */
+static bool is_whole(const struct control *control)
+{
+    const struct live *live = &control->at.live;
+    return control->mark == mark_of(control) && control->most == live->most_bytes
+           && tlsf_placed_check(&control->at, live->blocks, live->bytes);
+}
+
+/* How many live blocks of an entry's pool have lost their front; 1 where the table has no such pool. */
+static int lost_in(struct control *control, uint32_t entry)
+{
+    const struct pool *pool = &control->at.pools[entry];
+    if (pool->reach != 0u && !tlsf_placed_has_pool(&control->at, pool->place, pool->reach + FRONT)) {
+        return 1;
+    }
+    return lost_fronts(control, entry, pool->first, false);
+}
+
 /* Of one pool, or of all. The table is read where the control part is whole, and the fronts where the
  * table is, and agrees with the control part. */
 static int check(struct control *control, uint32_t entry)
 {
     int lost = 0;
-    if (control == NULL || control->mark != mark_of(control)
-        || control->most != control->at.live.most_bytes || !tlsf_placed_check(&control->at, entry)) {
+    if (control == NULL || !is_whole(control)) {
         return -1;
     }
     for (uint32_t k = 0; k < POOLS; k++) {
-        uint64_t first = control->at.pools[k].first;
-        lost += entry == POOLS || entry == k ? lost_fronts(control, k, first, false) : 0;
+        lost += entry == POOLS || entry == k ? lost_in(control, k) : 0;
     }
     return -lost;
 }

@@ -110,7 +110,8 @@ struct places {
  *
  * tlsf_placed_walk puts the rows of an entry's pool from the address *from on, as many as have room, and
  * answers how many. *from gets where the next piece begins. tlsf_placed_check answers whether the table
- * is whole, and has the entry's pool. Of TLSF_HEAP_POOLS it tells all pools, and what is live.
+ * is whole, and so many blocks are live, with so many bytes behind their fronts. tlsf_placed_has_pool
+ * answers whether a pool of the heap has this place and so many bytes.
  * tlsf_placed_free_figures puts what is free into *figures, by at most 2 touches.
  * tlsf_placed_places tells where table and first pool lie in memory with a control part of `part` bytes,
  * and answers whether there is room, and tlsf_placed_is_apart whether memory is none of such a heap's.
@@ -136,7 +137,8 @@ enum tlsf_status tlsf_placed_add_pool(struct placed *heap, uint64_t memory, uint
 enum tlsf_status tlsf_placed_remove_pool(struct placed *heap, uint32_t entry);
 uint64_t tlsf_placed_walk(const struct placed *heap, uint32_t entry, uint64_t *from, struct row *rows,
                           size_t room);
-bool tlsf_placed_check(const struct placed *heap, uint32_t entry);
+bool tlsf_placed_check(const struct placed *heap, uint64_t blocks, uint64_t bytes);
+bool tlsf_placed_has_pool(const struct placed *heap, uint32_t place, uint64_t bytes);
 void tlsf_placed_free_figures(const struct placed *heap, struct free_figures *figures);
 bool tlsf_placed_places(uint64_t memory, uint64_t bytes, uint32_t part, uint32_t records,
                         uint64_t last, struct places *places);

@@ -125,6 +125,11 @@ start:
   ret i1 false
 }
 
+define noundef zeroext i1 @tlsf_placed_has_pool(ptr noundef %a0, i32 noundef %a1, i64 noundef %a2) #0 {
+start:
+  ret i1 false
+}
+
 define noundef i64 @tlsf_placed_malloc(ptr noundef %a0, i64 noundef %a1, ptr noundef %a2) #0 {
 start:
   ret i64 0
@@ -155,7 +160,7 @@ start:
   ret i1 false
 }
 
-define noundef zeroext i1 @tlsf_placed_check(ptr noundef %a0, i32 noundef %a1) #0 {
+define noundef zeroext i1 @tlsf_placed_check(ptr noundef %a0, i64 noundef %a1, i64 noundef %a2) #0 {
 start:
   ret i1 false
 }

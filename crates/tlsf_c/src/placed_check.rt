@@ -1,19 +1,22 @@
-//! A heap with addresses checks itself.
+//! A heap with addresses checks itself, and what a program holds of it.
 
-ghost use Rattle.std.specs.Prelude.{◌≡◌, ◌+◌, ◌<◌, ◌≤◌, true};
-ghost use Rattle.tlsf_heap.specs.Counted.{IsUnchanged};
+ghost use Rattle.std.specs.Prelude.{◌≡◌, ◌+◌, ◌*◌, ◌<◌, ◌≤◌, ◌↔◌, Contains, map, true, false};
+ghost use Rattle.tlsf_heap.specs.Content.{blocks_of};
+ghost use Rattle.tlsf_heap.specs.Counted.{IsUnchanged, range_of};
+ghost use Rattle.tlsf_heap.specs.Implied.{live_blocks};
+ghost use Rattle.tlsf_heap.specs.Room.{live_bytes};
+ghost use Rattle.tlsf_c.specs.Fronts.{front};
 
 use crate::live_count::count_live;
 use crate::placed_blocks::FRONT;
 use crate::placed_heap::PlacedHeap;
-use crate::placed_loading::{are_of, has_range};
+use crate::placed_loading::has_range;
 
-/// Whether the table of records is that of a heap, and the pool that an entry holds is one of the heap's. For the entry 8, which
-/// there isn't, all pools are looked at, and the figures are compared with the blocks that are live. All this always is so, and
-/// the answer is `true`. There are more touches than records.
+/// Whether the table of records is that of a heap, as it always is, and the program's figures are right: so many blocks
+/// are live, with so many bytes behind their fronts. There are more touches than records.
 #[unsafe(no_mangle)]
-pub extern "C" fn tlsf_placed_check(heap: &mut PlacedHeap, entry: u32) -> bool
-    ensures whole { result ≡ true }
+pub extern "C" fn tlsf_placed_check(heap: &mut PlacedHeap, blocks: u64, bytes: u64) -> bool
+    ensures live { (result ≡ true) ↔ ((blocks ≡ live_blocks heap.old.handle.value.content) × (bytes + front * blocks ≡ live_bytes (blocks_of heap.old.handle.value.content.pools))) }
     ensures unchanged { IsUnchanged heap.old.handle.value heap.new.handle.value }
     ensures each_read { heap.old.handle.value.touches + heap.old.handle.value.content.records < heap.new.handle.value.touches }
     ensures pools { heap.new.pools ≡ heap.old.pools }
@@ -24,23 +27,19 @@ pub extern "C" fn tlsf_placed_check(heap: &mut PlacedHeap, entry: u32) -> bool
     if !inner.check() {
         return false;
     }
-    let ranges = inner.pools();
-    if entry < 8 {
-        let pool = heap.pools[entry as usize];
-        return pool.reach == 0
-            || has_range(ranges.as_slice(), u64::from(pool.place), pool.reach + FRONT);
-    }
-    are_of(&heap.pools, ranges.as_slice()) && has_figures(heap)
+    let live = count_live(inner);
+    live.blocks == blocks && live.bytes - FRONT * live.blocks == bytes
 }
 
-/// Whether the figures are those of the blocks that are live, as they always are. It reads each block.
-fn has_figures(heap: &mut PlacedHeap) -> bool
-    ensures whole { result ≡ true }
+/// Whether the heap has a pool of this place and of so many bytes.
+#[unsafe(no_mangle)]
+pub extern "C" fn tlsf_placed_has_pool(heap: &mut PlacedHeap, place: u32, bytes: u64) -> bool
+    ensures yes { result ≡ true → Contains (map range_of heap.old.handle.value.content.pools) (place, bytes) }
+    ensures no { result ≡ false → Contains (map range_of heap.old.handle.value.content.pools) (place, bytes) → ⊥ }
     ensures unchanged { IsUnchanged heap.old.handle.value heap.new.handle.value }
-    ensures floor { heap.old.handle.value.touches ≤ heap.new.handle.value.touches }
     ensures pools { heap.new.pools ≡ heap.old.pools }
     ensures figures { heap.new.figures ≡ heap.old.figures }
 {
-    let live = count_live(heap.handle.heap());
-    live.blocks == heap.figures.blocks && live.bytes - FRONT * live.blocks == heap.figures.bytes
+    let ranges = heap.handle.heap().pools();
+    has_range(ranges.as_slice(), u64::from(place), bytes)
 }
