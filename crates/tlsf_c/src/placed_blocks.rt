@@ -114,6 +114,7 @@ pub(crate) fn place_block(pools: &[PlacedPool; 8], ptr: Ptr, size: u64, word: &m
 
 /// Why every heap refuses a block of none or of too many bytes.
 #[cold]
+#[inline(never)]
 fn refusal_of(bytes: u64) -> Refusal
     requires { bytes ≢ 0 → 2 ^ 30 - 24 < bytes }
     ensures { (slot : ℕ) (content : Content ℕ) → malloc_with_front slot bytes content ≡ Err result }
