@@ -15,7 +15,7 @@ use Rattle.mtrace_replay.specs.Asked.{class_asked}
 use Rattle.mtrace_replay.specs.Served.{served_moment, served_moments, served_history}
 use Rattle.mtrace_replay.specs.RunServed.{AreServedTotals}
 use Rattle.mtrace_log.specs.Bytes.{newline}
-use Rattle.mtrace_replay.specs.Texts.{number_line, pair_line, size_line, size_text}
+use Rattle.mtrace_replay.specs.Texts.{number_line, pair_line, size_line, bytes_text}
 
 -- how many ranges of sizes there are: the last has the greatest classes
 abbrev pub size_ranges : ℕ
@@ -111,7 +111,7 @@ sum_over measure (part ∷ parts) = option_and_then (λ n. option_map (λ rest. 
 
 -- `up to F: L blocks, B bytes`, one line
 abbrev pub part_line : Part → List ℕ
-part_line part = codes "up to " ++ decimal part.size ++ codes ": " ++ decimal part.blocks ++ codes " blocks, " ++ size_text (pool_bytes part) ++ newline ∷ []
+part_line part = codes "up to " ++ decimal part.size ++ codes ": " ++ decimal part.blocks ++ codes " blocks, " ++ bytes_text (pool_bytes part) ++ newline ∷ []
 
 -- the parts, each with its line, and their sums
 abbrev pub parts_text : List Part → List ℕ
