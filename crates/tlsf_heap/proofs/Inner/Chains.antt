@@ -13,7 +13,7 @@ use Rattle.tlsf_heap.specs.Inner.Entries.{padded}
 use Rattle.tlsf_heap.specs.Good.{times}
 use Rattle.tlsf_heap.specs.Inner.Nodes.{NodeState, InUse, Listed, Loose, Node, Area, nodes_of, nodes_in, has_slot, is_listed, is_listed_in}
 use Rattle.tlsf_heap.specs.Inner.Positions.{plug, Position, filled, laid}
-use Rattle.tlsf_heap.specs.Inner.Represents.{InPool, InList, in_pool, in_list, pool_view, pool_views, list_views, state_of, first_slot, AreLinked, IsChain, uses_in, AreChains, IsIndex, Agree, Represented, Represents}
+use Rattle.tlsf_heap.specs.Inner.Represents.{InPool, InList, in_pool, in_list, pool_view, pool_views, list_views, record_state, first_slot, AreLinked, IsChain, uses_in, AreChains, IsIndex, Agree, Represented, Represents}
 use Rattle.tlsf_heap.proofs.Counts.{one_if, count-cons, count_and}
 use Rattle.tlsf_heap.proofs.Content.FreeLists.{times-cons}
 use Rattle.tlsf_heap.proofs.Inner.Plugs.{map-plug, all_parts, all_plugged, count-nodes, around, count-filled}
@@ -135,7 +135,7 @@ unlisted_nowhere at position node nodes lists taken chains agree not_listed numb
     )
 
 -- the record of a node is in use
-pub uses_node : (node_state : NodeState) → uses_in (state_of node_state) ≡ 1
+pub uses_node : (node_state : NodeState) → uses_in (record_state node_state) ≡ 1
 uses_node InUse = refl
 uses_node Listed = refl
 uses_node Loose = refl

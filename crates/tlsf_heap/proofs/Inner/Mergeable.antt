@@ -11,7 +11,7 @@ use Rattle.tlsf_heap.specs.Inner.Edits.{IsUsed, unlinked_by}
 use Rattle.tlsf_heap.specs.Inner.Spans.{IsRead, node_span, span_at, merged_by, CanMerge}
 use Rattle.tlsf_heap.specs.Inner.Nodes.{NodeState, InUse, Listed, Loose, Node, Area, nodes_of, turned, block_of, pool_of, is_listed, left}
 use Rattle.tlsf_heap.specs.Inner.Positions.{Position, laid, filled, is_loose, past, listed_first, left_by, merged_with_front, merged_with_behind}
-use Rattle.tlsf_heap.specs.Inner.Represents.{InPool, in_pool, pool_views, state_of, first_slot, AreChains, Represents}
+use Rattle.tlsf_heap.specs.Inner.Represents.{InPool, in_pool, pool_views, record_state, first_slot, AreChains, Represents}
 use Rattle.tlsf_heap.specs.Inner.At.{At, StandsAt, AreCovered, previous_merged, next_merged}
 use Rattle.tlsf_heap.proofs.Good.MallocIsGood.{IsWholeBlock}
 use Rattle.tlsf_heap.proofs.Counts.{one_if, count-cons}
@@ -126,12 +126,12 @@ settled_first node nodes none = elim (cases_Bool (is_loose node.state)) [
   | inr settled ↦ settled
 ]
 
-node_state_free : (s : NodeState) → is_loose s ≡ false → is_free_state (state_of s) ≡ true → s ≡ Listed
+node_state_free : (s : NodeState) → is_loose s ≡ false → is_free_state (record_state s) ≡ true → s ≡ Listed
 node_state_free InUse settled free = absurd (false≢true free)
 node_state_free Listed settled free = refl
 node_state_free Loose settled free = absurd (false≢true (sym settled))
 
-node_state_live : (s : NodeState) → is_free_state (state_of s) ≡ false → is_listed s ≡ false
+node_state_live : (s : NodeState) → is_free_state (record_state s) ≡ false → is_listed s ≡ false
 node_state_live InUse live = refl
 node_state_live Listed live = absurd (false≢true (sym live))
 node_state_live Loose live = refl
@@ -164,7 +164,7 @@ module _ (cells : Cells) (at : At) (slot : ℕ) (node_state : NodeState) (stands
           record { node = b; others = nodes; is = refl; slot_is = own; says = ap (pool_views cells.records) (sym own) ∙ says; settled = settled_first b nodes none }
 
 module _ {prev next : List Node → Option ℕ} (records : List Record) (slot : ℕ) (nodes : List Node) (by : Neighbour records slot nodes prev next) where
-  by_state : (record_at records slot).state ≡ state_of by.node.state
+  by_state : (record_at records slot).state ≡ record_state by.node.state
   by_state = ap (λ (v : InPool). v.state) by.says
 
   by_free : is_free_state (record_at records slot).state ≡ true → by.node.state ≡ Listed
