@@ -54,6 +54,6 @@ first_of base [] = None
 first_of base (pool ∷ pools) = if pool.base == base then Some 0 else option_map (λ number. length pool.blocks + number) (first_of base pools)
 
 -- the rows from a number on, none behind the last
-abbrev pub rows_at : Option ℕ → List (Pool ℕ) → List Row
-rows_at None pools = []
-rows_at (Some number) pools = map row_of (blocks_from number pools)
+abbrev pub rows_from_number : Option ℕ → List (Pool ℕ) → List Row
+rows_from_number None pools = []
+rows_from_number (Some number) pools = map row_of (blocks_from number pools)
