@@ -8,7 +8,7 @@ use Rattle.tlsf_heap.specs.declared.refusal.Refusal.TheVariants.{NoPool}
 use Rattle.tlsf_heap.specs.Content.{Block, Pool, blocks_of}
 use Rattle.tlsf_heap.specs.Good.{Covers, AreGoodPools}
 use Rattle.tlsf_heap.specs.Rows.{row_of, rows_from}
-use Rattle.tlsf_heap.specs.PlainHeap.{blocks_from, first_of, rows_from_number}
+use Rattle.tlsf_heap.specs.PlainHeap.{blocks_from, blocks_in_front, rows_from_number}
 
 -- a block that is found so has that many in front of it
 pub number_within : (number : ℕ) (pools : List (Pool ℕ)) (block : Block ℕ) (behind : List (Block ℕ)) → blocks_from number pools ≡ block ∷ behind → number < length (blocks_of pools)
@@ -72,10 +72,10 @@ some_blocks from to [] h c = absurd (omega (arith, h, c))
 some_blocks from to (block ∷ blocks) h c = omega arith
 
 -- the rows of the first pool that begins at the base
-pub first_rows : (base from : ℕ) (pools : List (Pool ℕ)) → AreGoodPools from pools → rows_from base pools ≡ rows_by pools (first_of base pools)
+pub first_rows : (base from : ℕ) (pools : List (Pool ℕ)) → AreGoodPools from pools → rows_from base pools ≡ rows_by pools (blocks_in_front base pools)
 first_rows base from [] g = refl
 first_rows base from (pool ∷ pools) g = elim (cases_Bool (pool.base == base)) [
   | inl here ↦
       rw (here, lt-ltb 0 (length pool.blocks) (some_blocks pool.base (pool.base + pool.bytes) pool.blocks (omega (arith, g.1.least_bytes)) g.1.covered)) refl
-  | inr later ↦ rw later (first_rows base (pool.base + pool.bytes) pools g.2 ∙ pool_passed pool pools (first_of base pools))
+  | inr later ↦ rw later (first_rows base (pool.base + pool.bytes) pools g.2 ∙ pool_passed pool pools (blocks_in_front base pools))
 ]

@@ -4,7 +4,7 @@ use Rattle.mtrace_log.specs.Shown.{WriterState}
 use Rattle.mtrace_log.specs.Output.{Puts}
 use Rattle.tlsf_store.specs.Cells.{Cells}
 use Rattle.tlsf_heap.specs.Images.Image.{Parts, parts_in}
-use Rattle.tlsf_heap.specs.Images.Rules.{first_broken, first_of, rules_of_table}
+use Rattle.tlsf_heap.specs.Images.Rules.{first_broken, first_unmet, rules_of_table}
 use Rattle.tlsf_heap.specs.Content.{Content}
 use Rattle.tlsf_heap.specs.Inner.Entries.{entries_of}
 use Rattle.tlsf_heap.specs.Inner.Following.{content_from}
@@ -48,5 +48,5 @@ told_parts cells = record { pools = cells.pools; heads = cells.heads; records = 
 
 -- the cells' image would break no rule, and the bitmaps agree with the heads
 pub record IsWholeStore (cells : Cells) : Type 0 where
-  pub rules : first_of (rules_of_table (told_parts cells)) ≡ None
+  pub rules : first_unmet (rules_of_table (told_parts cells)) ≡ None
   pub bitmaps : AreBitmapsOf cells.heads cells.step_words cells.level_word

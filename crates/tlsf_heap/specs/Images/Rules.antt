@@ -169,9 +169,9 @@ has_all_on_lists parts =
 -- ---- all of them
 
 -- the first rule whose test says no
-abbrev pub first_of : List (Rule × Bool) → Option Rule
-first_of [] = None
-first_of (rule ∷ rules) = if rule.1 then first_of rules else Some rule.0
+abbrev pub first_unmet : List (Rule × Bool) → Option Rule
+first_unmet [] = None
+first_unmet (rule ∷ rules) = if rule.1 then first_unmet rules else Some rule.0
 
 abbrev pub rules_of_parts : Parts → List (Rule × Bool)
 rules_of_parts parts =
@@ -189,4 +189,4 @@ rules bytes =
 
 -- the first rule that the bytes break
 abbrev pub first_broken : List ℕ → Option Rule
-first_broken bytes = first_of (rules bytes)
+first_broken bytes = first_unmet (rules bytes)

@@ -152,7 +152,7 @@ impl Heaped for PlainHeap {
     }
 
     fn first(&mut self, base: u64) -> Result<Cursor, Refusal> {
-        let Some(number) = self.content.first_of(base) else {
+        let Some(number) = self.content.blocks_in_front(base) else {
             return Err(Refusal::NoPool);
         };
         Ok(Cursor { next: Some(number) })
