@@ -14,7 +14,7 @@ use Rattle.tlsf_heap.specs.Images.Rules.{are_pools, first_unmet, rules_of_parts,
 use Rattle.tlsf_heap.proofs.Images.LinkLemmas.{follow_none}
 use Rattle.tlsf_heap.proofs.Images.Counting.{one_if, same_length}
 use Rattle.tlsf_heap.specs.Good.{times}
-use Rattle.tlsf_heap.proofs.Images.Totals.{is_block, used_below, is_listed as is_listed_slot, first_list, other_lists}
+use Rattle.tlsf_heap.proofs.Images.Totals.{is_block, used_below, is_listed_slot, first_list, other_lists}
 use Rattle.tlsf_heap.proofs.Images.Once.{linked_ends, on_chain_once, list_of_class, in_list_once}
 use Rattle.tlsf_heap.proofs.Images.UnbrokenRules.{IsUnbroken, unbroken}
 use Rattle.tlsf_heap.specs.Images.Described.{parts_of}

@@ -10,7 +10,7 @@ use Rattle.tlsf_store.proofs.RecordLaws.{record_at-set_same, record_at-set_other
 use Rattle.tlsf_heap.specs.Inner.Edits.{edited_in}
 use Rattle.tlsf_heap.specs.Inner.Spans.{node_span, rest_of, split_by}
 use Rattle.tlsf_heap.specs.Good.{times}
-use Rattle.tlsf_heap.specs.Inner.Nodes.{NodeState, InUse, Node, turned, rest_node, has_slot, nodes_in, is_listed, is_listed_in}
+use Rattle.tlsf_heap.specs.Inner.Nodes.{NodeState, InUse, Node, turned, rest_node, has_slot, nodes_in, is_listed_state, is_listed_in}
 use Rattle.tlsf_heap.specs.Inner.Positions.{Position, laid, filled}
 use Rattle.tlsf_heap.specs.Inner.Represents.{InPool, pool_view, list_view, pool_views, list_views, in_pool, first_slot, record_state, uses_in, Represents}
 use Rattle.tlsf_heap.proofs.Counts.{one_if, count-cons}
@@ -21,7 +21,7 @@ use Rattle.tlsf_heap.proofs.Content.FreeLists.{times-cons}
 use Rattle.tlsf_heap.proofs.Inner.Chains.{uses_node, not_taken, unlisted, listed_within, AtNode, at_node, refilled}
 
 module _ (cells : Cells) (count : ℕ) (position : Position) (node : Node) (nodes : List Node) (lists : List (List Node)) (rest : ℕ) (back : NodeState) (second : Option ℕ) (taken : List ℕ) (bytes : ℕ)
-    (was : Represents cells (laid count position (node ∷ nodes) lists (rest ∷ taken))) (was_not : is_listed node.state ≡ false) (back_not : is_listed back ≡ false) where
+    (was : Represents cells (laid count position (node ∷ nodes) lists (rest ∷ taken))) (was_not : is_listed_state node.state ≡ false) (back_not : is_listed_state back ≡ false) where
   abbrev left : Record
   left = rest_of (record_state back) (node_span node nodes) second bytes
 

@@ -5,7 +5,7 @@ use Rattle.tlsf_store.specs.declared.records.Record.{Record}
 use Rattle.tlsf_store.specs.Records.{record_at}
 use Rattle.tlsf_store.specs.Cells.{Cells}
 use Rattle.tlsf_heap.specs.Inner.Edits.{edited_in, with_state}
-use Rattle.tlsf_heap.specs.Inner.Nodes.{NodeState, Node, turned, has_slot, is_listed, is_listed_in}
+use Rattle.tlsf_heap.specs.Inner.Nodes.{NodeState, Node, turned, has_slot, is_listed_state, is_listed_in}
 use Rattle.tlsf_heap.specs.Inner.Positions.{Position, laid}
 use Rattle.tlsf_heap.specs.Inner.Represents.{InPool, pool_view, list_view, pool_views, record_state, in_pool, uses_in, Represents}
 use Rattle.tlsf_heap.proofs.Counts.{count-cons}
@@ -14,7 +14,7 @@ use Rattle.tlsf_heap.proofs.Inner.Reads.{length-edited, edited_here, edited_apar
 use Rattle.tlsf_heap.proofs.Inner.Chains.{uses_node, unlisted, AtNode, at_node, refilled}
 
 module _ (cells : Cells) (count : ℕ) (position : Position) (node : Node) (nodes : List Node) (lists : List (List Node)) (taken : List ℕ) (was : Represents cells (laid count position (node ∷ nodes) lists taken)) where
-  pub state_set : (node_state : NodeState) → is_listed node.state ≡ false → is_listed node_state ≡ false
+  pub state_set : (node_state : NodeState) → is_listed_state node.state ≡ false → is_listed_state node_state ≡ false
       → Represents (with_state node.slot (record_state node_state) cells) (laid count position (turned node_state node ∷ nodes) lists taken)
   state_set node_state was_not is_not =
       let edit : Record → Record = λ r. record r { state = record_state node_state } in

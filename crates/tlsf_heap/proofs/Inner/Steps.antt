@@ -6,7 +6,7 @@ use Rattle.tlsf_store.specs.Records.{record_at}
 use Rattle.tlsf_store.specs.Cells.{Cells, head_at}
 use Rattle.tlsf_heap.specs.Inner.Edits.{IsUsed, linked, with_state}
 use Rattle.tlsf_heap.specs.Inner.At.{AreCovered, At, areas_at, layout_at, StandsAt, at_turned, at_listed}
-use Rattle.tlsf_heap.specs.Inner.Nodes.{NodeState, InUse, Listed, Loose, Node, turned, block_of, pool_of, is_listed}
+use Rattle.tlsf_heap.specs.Inner.Nodes.{NodeState, InUse, Listed, Loose, Node, turned, block_of, pool_of, is_listed_state}
 use Rattle.tlsf_heap.specs.Inner.Represents.{InPool, record_state, first_slot, Represents}
 use Rattle.tlsf_heap.proofs.Good.MallocIsGood.{IsWholeBlock}
 use Rattle.tlsf_heap.proofs.Inner.Chains.{AtNode, at_node}
@@ -50,10 +50,10 @@ module _ (cells : Cells) (slot : ℕ) (node_state : NodeState) (at : At) (stands
   pub covered_turned : (new : NodeState) → AreCovered 0 (map pool_of (areas_at (at_turned new at)))
   covered_turned new = covered_refilled at.position (at.node ∷ at.nodes) (turned new at.node ∷ at.nodes) (λ from to c. c) stands.1.covered
 
-  pub turned_stands : (new : NodeState) → is_listed node_state ≡ false → is_listed new ≡ false → StandsAt slot new (with_state slot (record_state new) cells) (at_turned new at)
+  pub turned_stands : (new : NodeState) → is_listed_state node_state ≡ false → is_listed_state new ≡ false → StandsAt slot new (with_state slot (record_state new) cells) (at_turned new at)
   turned_stands new was_not is_not =
       let P : ℕ → Type 0 = λ q. Represents (with_state q (record_state new) cells) (layout_at (at_turned new at)) in (
-        subst P stands.1.slot_is (state_set cells at.count at.position at.node at.nodes at.lists at.taken stands.0 new (ap is_listed stands.1.node_state_is ∙ was_not) is_not),
+        subst P stands.1.slot_is (state_set cells at.count at.position at.node at.nodes at.lists at.taken stands.0 new (ap is_listed_state stands.1.node_state_is ∙ was_not) is_not),
         record { slot_is = stands.1.slot_is; node_state_is = refl; others_settled = stands.1.others_settled; covered = covered_turned new },
       )
 
