@@ -154,19 +154,19 @@ found-without a (f ∷ fs) sorted q = by_first (found-without a fs sorted.1 q) (
     by_first later false is = later_on later is (f.entry.addr == q) refl
 
 -- what was held before, but for what was released
-abbrev pub rest_of : Option ℕ → List Given → List Given
-rest_of None all = all
-rest_of (Some address) all = without address all
+abbrev pub still_held : Option ℕ → List Given → List Given
+still_held None all = all
+still_held (Some address) all = without address all
 
 -- and then perhaps one more
 abbrev pub with_given : Option Given → List Given → List Given
 with_given None all = all
 with_given (Some given) all = put given all
 
-pub rise-rest : (address : Option ℕ) (all : List Given) → Rise all → Rise (rest_of address all)
+pub rise-rest : (address : Option ℕ) (all : List Given) → Rise all → Rise (still_held address all)
 rise-rest None all rise = rise
 rise-rest (Some address) all rise = rise-without address all rise
 
-pub found-rest : (address : Option ℕ) (all : List Given) → Rise all → (q : ℕ) → found (rest_of address all) q ≡ unless_taken address q (found all q)
+pub found-rest : (address : Option ℕ) (all : List Given) → Rise all → (q : ℕ) → found (still_held address all) q ≡ unless_taken address q (found all q)
 found-rest None all rise q = refl
 found-rest (Some address) all rise q = found-without address all rise q

@@ -10,7 +10,7 @@ use Rattle.tlsf_store.specs.Cells.{Cells, with_taken}
 use Rattle.tlsf_heap.specs.Good.{Covers}
 use Rattle.tlsf_heap.specs.declared.span.Span.{Span}
 use Rattle.tlsf_heap.specs.Inner.Edits.{IsUsed, unlinked_by}
-use Rattle.tlsf_heap.specs.Inner.Spans.{IsRead, span_at, rest_of, split_by}
+use Rattle.tlsf_heap.specs.Inner.Spans.{IsRead, span_at, rest_record, split_by}
 use Rattle.tlsf_heap.specs.Inner.Nodes.{NodeState, InUse, Listed, Loose, Node, turned, rest_node, block_of, is_listed_state, Layout, pool_of, nodes_of}
 use Rattle.tlsf_heap.specs.Inner.Represents.{Represents}
 use Rattle.tlsf_heap.specs.Inner.At.{At, layout_at, StandsAt, at_unlisted, with_slot, at_turned, at_split, AreCovered, at_split_off, at_split_rest}
@@ -109,12 +109,12 @@ span_splits old new span node_state rest second bytes at unlisted stands read so
 
 -- the record of the rest
 pub span_rest : (old new : Cells) (span : Span) (node_state : NodeState) (rest : ℕ) (second : Option ℕ) (bytes : ℕ) (at : At) → is_listed_state node_state ≡ false → StandsAt span.slot node_state old (with_slot rest at) → IsRead span old.records
-    → new ≡ split_by span rest Free second bytes old → record_at new.records rest ≡ rest_of Free span second bytes
+    → new ≡ split_by span rest Free second bytes old → record_at new.records rest ≡ rest_record Free span second bytes
 span_rest old new span node_state rest second bytes at unlisted stands read is =
     let known : span ≡ span_at at = span_is old node_state (with_slot rest at) span stands read in
     ap (λ (c : Cells). record_at c.records rest) (is ∙ ap (λ s. split_by s rest Free second bytes old) known)
     ∙ at_rest old at.count at.position at.node at.nodes at.lists rest Loose second at.taken bytes stands.0 (ap is_listed_state stands.1.node_state_is ∙ unlisted) refl
-    ∙ ap (λ s. rest_of Free s second bytes) (sym known)
+    ∙ ap (λ s. rest_record Free s second bytes) (sym known)
 
 -- the node keeps its first bytes, and a live one of what is left stands behind it
 abbrev pub at_front : ℕ → ℕ → At → At

@@ -8,7 +8,7 @@ use Rattle.tlsf_store.specs.Records.{record_at}
 use Rattle.tlsf_store.specs.Cells.{Cells}
 use Rattle.tlsf_store.proofs.RecordLaws.{record_at-set_same, record_at-set_other}
 use Rattle.tlsf_heap.specs.Inner.Edits.{edited_in}
-use Rattle.tlsf_heap.specs.Inner.Spans.{node_span, rest_of, split_by}
+use Rattle.tlsf_heap.specs.Inner.Spans.{node_span, rest_record, split_by}
 use Rattle.tlsf_heap.specs.Good.{times}
 use Rattle.tlsf_heap.specs.Inner.Nodes.{NodeState, InUse, Node, turned, rest_node, has_slot, nodes_in, is_listed_state, is_listed_in}
 use Rattle.tlsf_heap.specs.Inner.Positions.{Position, laid, filled}
@@ -23,7 +23,7 @@ use Rattle.tlsf_heap.proofs.Inner.Chains.{uses_node, not_taken, unlisted, listed
 module _ (cells : Cells) (count : ℕ) (position : Position) (node : Node) (nodes : List Node) (lists : List (List Node)) (rest : ℕ) (back : NodeState) (second : Option ℕ) (taken : List ℕ) (bytes : ℕ)
     (was : Represents cells (laid count position (node ∷ nodes) lists (rest ∷ taken))) (was_not : is_listed_state node.state ≡ false) (back_not : is_listed_state back ≡ false) where
   abbrev left : Record
-  left = rest_of (record_state back) (node_span node nodes) second bytes
+  left = rest_record (record_state back) (node_span node nodes) second bytes
 
   abbrev kept : Record → Record
   kept r = record r { size = bytes; state = Live; next = Some rest }
