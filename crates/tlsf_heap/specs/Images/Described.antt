@@ -39,12 +39,12 @@ told_in Vacant r = blank
 told_in Free r = r
 told_in Live r = record r { prev_free = None; next_free = None }
 
-abbrev pub told : Record → Record
-told r = told_in r.state r
+abbrev pub told_record : Record → Record
+told_record r = told_in r.state r
 
 -- the parts that the image of a store's cells is to have
 abbrev pub told_parts : Cells → Parts
-told_parts cells = record { pools = cells.pools; heads = cells.heads; records = map told cells.records }
+told_parts cells = record { pools = cells.pools; heads = cells.heads; records = map told_record cells.records }
 
 -- the cells' image would break no rule, and the bitmaps agree with the heads
 pub record IsWholeStore (cells : Cells) : Type 0 where
