@@ -28,8 +28,8 @@ abbrev pub all_given : List Holding → List Given
 all_given holdings = map given_of holdings
 
 -- what an address is held under
-abbrev pub found : List Given → ℕ → Option Given
-found all address = find (λ given. given.entry.addr == address) all
+abbrev pub held_given : List Given → ℕ → Option Given
+held_given all address = find (λ given. given.entry.addr == address) all
 
 -- where the block that a moment gave ends, in the heap after it
 abbrev pub end_of : Moment → Option ℕ
@@ -38,7 +38,7 @@ end_of moment = option_map (λ given. given.place + size_at given.place (blocks_
 -- the heap and what is held are as the moment says; these are its diagnostics, and the end of the block given
 pub record Comes (content_old content_new : Bare) (old new : List Given) (diagnostics : List Diagnostic) (end : Option ℕ) (moment : Moment) : Type 0 where
   pub content_is : content_new ≡ moment.content
-  pub held_is : (address : ℕ) → found new address ≡ held_after moment (found old) address
+  pub held_is : (address : ℕ) → held_given new address ≡ held_after moment (held_given old) address
   pub diagnostics_are : diagnostics ≡ moment.diagnostics
   pub end_is : end ≡ end_of moment
 

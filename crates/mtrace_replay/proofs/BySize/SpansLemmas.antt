@@ -9,7 +9,7 @@ use Rattle.mtrace_replay.specs.declared.parts.span.Span.{Span}
 use Rattle.mtrace_replay.specs.declared.parts.spans.Block.{Block}
 use Rattle.mtrace_replay.specs.Moment.{ReadLine, Given, Moment, plan}
 use Rattle.mtrace_replay.specs.History.{held, given_or, pending, unless_taken, AreHeld}
-use Rattle.mtrace_replay.specs.Step.{found}
+use Rattle.mtrace_replay.specs.Step.{held_given}
 use Rattle.mtrace_replay.specs.Totals.{is_served, Measures, IsMost}
 use Rattle.mtrace_replay.specs.Asked.{class_asked}
 use Rattle.mtrace_replay.specs.Served.{served_moment, served_moments}
@@ -39,12 +39,12 @@ module _ (asked : ℕ → Option ℕ) (span : Span) where
       by_class None = omega arith
       by_class (Some size) = by_hit (has_range span (range_of size))
 
-  count-rest : (held : ℕ → Option Given) (address : Option ℕ) (all : List Given) → ((q : ℕ) → found all q ≡ held q) → span.live ≡ count_by passes all
+  count-rest : (held : ℕ → Option Given) (address : Option ℕ) (all : List Given) → ((q : ℕ) → held_given all q ≡ held q) → span.live ≡ count_by passes all
       → (released (range_released (range_held asked held) address) span).live ≡ count_by passes (still_held address all)
   count-rest held None all finds is = is
   count-rest held (Some address) all finds is =
       let fewer = count-without passes address all in
-      let its : one_if passes (found all address) ≡ one_if passes (held address) = ap (one_if passes) (finds address) in
+      let its : one_if passes (held_given all address) ≡ one_if passes (held address) = ap (one_if passes) (finds address) in
       let one = one_released (held address) in
       omega (arith, fewer, its, one, is)
 

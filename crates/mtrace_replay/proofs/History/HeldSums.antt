@@ -6,18 +6,18 @@ use Rattle.std.proofs.lemmas.Map.Keys.{sorted_from_strictly_increasing, IsStrict
 use Rattle.mtrace_replay.specs.Entry.{Entry}
 use Rattle.mtrace_replay.specs.Moment.{Given, Moment}
 use Rattle.mtrace_replay.specs.History.{AreHeld, held, unless_taken, given_or, entries_of}
-use Rattle.mtrace_replay.specs.Step.{found}
+use Rattle.mtrace_replay.specs.Step.{held_given}
 use Rattle.mtrace_replay.specs.Texts.{total_size}
 use Rattle.mtrace_replay.specs.Totals.{rounded_bytes_in}
 use Rattle.mtrace_replay.specs.Needs.{of_one, block_bytes}
 use Rattle.mtrace_replay.proofs.History.SortedLemmas.{addresses, one_list}
 use Rattle.mtrace_replay.proofs.History.FoundLemmas.{found_is_held, held_as_found}
-use Rattle.mtrace_replay.proofs.History.HeldCounts.{Rise, put, still_held, with_given, sum-put, sum-without, found-put, rise-put, rise-rest, found-rest}
+use Rattle.mtrace_replay.proofs.History.HeldCounts.{Rise, put, still_held, with_given, sum-put, sum-without, held_given-put, rise-put, rise-rest, held_given-rest}
 
 -- what is taken of what is held
 abbrev pub freed_of : Option ℕ → List Given → Option Given
 freed_of None all = None
-freed_of (Some address) all = found all address
+freed_of (Some address) all = held_given all address
 
 -- what is taken may be told otherwise, where that says the same of what is held
 module _ (before : List Moment) (now : Moment) (taken : Option ℕ) (takes : (q : ℕ) → unless_taken now.taken q (held before q) ≡ unless_taken taken q (held before q))
@@ -25,8 +25,8 @@ module _ (before : List Moment) (now : Moment) (taken : Option ℕ) (takes : (q 
   rises : Rise all
   rises = sorted_from_strictly_increasing (addresses all) are.in_order
 
-  finds : (q : ℕ) → found (still_held taken all) q ≡ unless_taken now.taken q (held before q)
-  finds q = found-rest taken all rises q ∙ ap (unless_taken taken q) (found_is_held all before are q) ∙ sym (takes q)
+  finds : (q : ℕ) → held_given (still_held taken all) q ≡ unless_taken now.taken q (held before q)
+  finds q = held_given-rest taken all rises q ∙ ap (unless_taken taken q) (found_is_held all before are q) ∙ sym (takes q)
 
   -- what is held behind the moment, by what it gives, at an address that isn't held then
   pub held_behind : (gave : Option Given) → now.given ≡ gave → ((given : Given) → gave ≡ Some given → unless_taken now.taken given.entry.addr (held before given.entry.addr) ≡ None)
@@ -37,7 +37,7 @@ module _ (before : List Moment) (now : Moment) (taken : Option ℕ) (takes : (q 
       let rest = still_held taken all in
       held_as_found (put given rest) (now ∷ before)
       (IsStrictlyIncreasing-from_sorted (addresses (put given rest)) (rise-put given rest (rise-rest taken all rises) (finds given.entry.addr ∙ vacant given refl)))
-      (λ q. found-put given rest q ∙ ap (cond (given.entry.addr == q) (Some given)) (finds q)
+      (λ q. held_given-put given rest q ∙ ap (cond (given.entry.addr == q) (Some given)) (finds q)
       ∙ sym (ap (λ (o : Option Given). given_or o q (unless_taken now.taken q (held before q))) gave))
 
 module _ (before : List Moment) (now : Moment) (vacant : (given : Given) → now.given ≡ Some given → unless_taken now.taken given.entry.addr (held before given.entry.addr) ≡ None)
