@@ -14,7 +14,7 @@ use Rattle.tlsf_heap.specs.Rows.{row_of}
 abbrev pub rows_at : List Record → ℕ → List Row
 rows_at records slot = if is_vacant (record_at records slot).state then [] else map (λ q. row_of (block_at records q)) (chain_from records (Some slot))
 
--- the same for each slot
+-- for each slot the rows from its block on
 abbrev pub rows_by : List Record → List (List Row)
 rows_by records = map (rows_at records) (range_with_len 0 (length records))
 

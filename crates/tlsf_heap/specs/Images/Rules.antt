@@ -178,7 +178,7 @@ rules_of_parts parts =
     (Links, has_links parts) ∷ (Chains, has_chains parts) ∷ (Cover, has_cover parts) ∷ (OnChains, has_all_on_chains parts)
     ∷ (Merged, has_merged parts) ∷ (Lists, has_lists parts) ∷ (OnLists, has_all_on_lists parts) ∷ []
 
--- the rules of parts that stand in no bytes: that on their pools comes first
+-- the rules of parts that were not read from bytes, of which the rule on the pools comes first
 abbrev pub rules_of_table : Parts → List (Rule × Bool)
 rules_of_table parts = (Pools, has_packed_pools parts) ∷ rules_of_parts parts
 

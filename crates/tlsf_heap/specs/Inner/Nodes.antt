@@ -98,7 +98,7 @@ entered node lists = slice_set lists (class node.size) (node ∷ nodes_in (class
 abbrev pub gap_nodes : (slot place size : ℕ) → List Node
 gap_nodes slot place size = if size == 0 then [] else record { slot = slot; place = place; size = size; state = Listed } ∷ []
 
--- it enters its class's list
+-- a node of these bytes, where there are any, enters its class's list
 abbrev pub entered_gap : (slot place size : ℕ) → List (List Node) → List (List Node)
 entered_gap slot place size lists = if size == 0 then lists else entered (record { slot = slot; place = place; size = size; state = Listed }) lists
 

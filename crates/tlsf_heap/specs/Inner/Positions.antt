@@ -37,7 +37,7 @@ abbrev pub listed_first : List Node → Option Node
 listed_first [] = None
 listed_first (node ∷ nodes) = if is_listed_state node.state then Some node else None
 
--- the nodes without it
+-- the nodes without the first, where that one is listed
 abbrev pub past : List Node → List Node
 past [] = []
 past (node ∷ nodes) = if is_listed_state node.state then nodes else node ∷ nodes

@@ -58,7 +58,7 @@ first_slot [] = None
 first_slot (node ∷ nodes) = Some node.slot
 
 module _ {V : Type 0} (says : Option ℕ → Node → Option ℕ → V) (at : ℕ → V) where
-  -- what is at each node's slot says the node, between what is in front of it and the next one
+  -- at each node's slot stands what `says` gives for it, between the slot in front of it and the one behind
   abbrev pub AreLinked : Option ℕ → List Node → Type 0
   AreLinked prev [] = ⊤
   AreLinked prev (node ∷ nodes) = (at node.slot ≡ says prev node (first_slot nodes)) × AreLinked (Some node.slot) nodes
