@@ -68,7 +68,8 @@ pub record IsPart (past : List ReadLine) (first last : ℕ) (part : Part) : Type
 abbrev pub AreParts : List ReadLine → (ℕ → ℕ → Part) → Type 0
 AreParts past part = (first last : ℕ) → first ≤ last → last < size_ranges → IsPart past first last (part first last)
 
--- The ranges from `first` on are joined up to each of these, its own too, and no request falls under one behind the last.
+-- The ranges from `first` on are cut into parts. The list has the last range of each part, behind which the next one begins. No
+-- request falls under a range behind the last part.
 abbrev pub IsCut : (ℕ → ℕ → Part) → ℕ → List ℕ → Type 0
 IsCut part first [] = (last : ℕ) → first ≤ last → last < size_ranges → (part first last).size ≡ 0
 IsCut part first (last ∷ ends) = (first ≤ last) × (last < size_ranges) × IsCut part (suc last) ends
@@ -100,7 +101,7 @@ pub record IsLeastCut (part : ℕ → ℕ → Part) (most first : ℕ) (ends : L
 abbrev pub pool_bytes : Part → Option ℕ
 pool_bytes part = if nat_le (part_bytes part) greatest_size && nat_le part.blocks most_records then Some (part_bytes part) else None
 
--- the bytes of its table
+-- the bytes of the table for a part's records; none where there can be no pool for the part
 abbrev pub records_bytes : Part → Option ℕ
 records_bytes part = option_map (λ pool. table_bytes part.blocks) (pool_bytes part)
 
@@ -131,7 +132,7 @@ pub record TellsCut (heaps : ℕ) (past : List ReadLine) (text : List ℕ) : Typ
   pub chosen : IsLeastCut part heaps 0 ends
   pub text_is : text ≡ parts_text (parts_of part 0 ends)
 
--- the same, where each served request has a class
+-- the text of a least cut where each served request has a class, else the text that no parts serve
 abbrev pub TellsHeaps : (has_classes : Bool) (heaps : ℕ) (past : List ReadLine) (text : List ℕ) → Type 0
 TellsHeaps true heaps past text = TellsCut heaps past text
 TellsHeaps false heaps past text = text ≡ no_parts_text

@@ -68,7 +68,7 @@ pub record View (H : Type 0) : Type 1 where
 abbrev pub view : {H : Type 0} → (H → Content ℕ) → (H → ℕ) → Type 0 → View H
 view content touches lacks = record { content = content; touches = touches; Lacks = lacks }
 
--- What a line does, or a part of it, which answers where the block ends that it was given, if any. Where no memory is
+-- What a line does, or a part of it. It answers where the block that was given ends, if there is one. Where no memory is
 -- refused, the heap, what is held and the diagnostics are as the plan says, and what is held is live. Else what is held
 -- is as it was. The heap has as many records as before. The look-ups are counted, and the touches are at most `most`:
 -- none where nothing is asked of the heap.

@@ -19,7 +19,7 @@ abbrev pub freed_of : Option ℕ → List Given → Option Given
 freed_of None all = None
 freed_of (Some address) all = held_given all address
 
--- what is taken may be told otherwise, where that says the same of what is held
+-- `taken` may differ from the address that the moment takes, where what is left at each address is the same with both
 module _ (before : List Moment) (now : Moment) (taken : Option ℕ) (takes : (q : ℕ) → unless_taken now.taken q (held before q) ≡ unless_taken taken q (held before q))
     (all : List Given) (are : AreHeld all before) where
   rises : Rise all
