@@ -13,7 +13,7 @@ use Rattle.mtrace_replay.specs.Texts.{total_size}
 use Rattle.mtrace_replay.specs.declared.no_heap.count.Count.{Count}
 use Rattle.mtrace_replay.specs.Calls.{Caller, Called, called_at}
 
--- the entry that was given, before others
+-- the calls with the entry in front that was given a block, if one was
 abbrev pub with_call : Option Given → List Entry → List Entry
 with_call None calls = calls
 with_call (Some given) calls = given.entry ∷ calls
@@ -23,7 +23,7 @@ abbrev pub calls_in : List Moment → List Entry
 calls_in [] = []
 calls_in (moment ∷ past) = with_call moment.given (calls_in past)
 
--- what an address is held under, where the line of this number gave it, before others
+-- the calls with what an address is held under in front, if the line of this number made it
 abbrev pub with_call_of : ℕ → Option Given → List Entry → List Entry
 with_call_of number None calls = calls
 with_call_of number (Some given) calls = if given.entry.line == number then given.entry ∷ calls else calls

@@ -1,6 +1,6 @@
 -- A reader or a writer over a call.
 
--- what it shows of itself, by how it is; and how it was before the call, and is after it
+-- what a reader or writer shows in each state, its state before the call, and its state after it
 pub record Course (T S : Type 0) : Type 0 where
   pub shown : T → S
   pub old : T
@@ -16,7 +16,7 @@ shown_before over = over.shown over.old
 abbrev pub shown_after : {T S : Type 0} → Course T S → S
 shown_after over = over.shown over.new
 
--- the same up to a middle, and from there on
+-- the part of a course up to a middle, and the part from there on
 abbrev pub until : {T S : Type 0} → Course T S → (middle : T) → Course T S
 until over middle = course over.shown over.old middle
 

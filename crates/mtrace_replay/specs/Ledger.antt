@@ -55,8 +55,9 @@ pub record AreShared (locations : List (List ℕ)) (shares : ByLocation) (all : 
   pub bytes : (slot : ℕ) → (now_at shares slot).bytes ≡ in_slot (λ kept. kept.size) slot all
   pub beyond : (slot : ℕ) → length locations < slot → marked_at shares slot ≡ nothing
 
--- Each call's block is held, or it was released: by the very next line, where the call is temporary. So many addresses are held. No
--- location that isn't there was named.
+-- A slot has at least as many calls as held blocks and temporary calls together, since a temporary call's block was released. So have
+-- all slots together, where `many` addresses are held. No call has more bytes than fit in 64 bits. A slot behind those of the locations
+-- has no call.
 pub record AreCalled (locations : List (List ℕ)) (shares : ByLocation) (many : ℕ) : Type 0 where
   pub held : (slot : ℕ) → (now_at shares slot).blocks + (count_at shares slot).temporary ≤ (count_at shares slot).calls
   pub total : many + shares.total.temporary ≤ shares.total.calls

@@ -3,16 +3,20 @@ use Rattle.std.specs.Prelude.{◌≡◌, ℕ, List, [], ◌∷◌, ◌++◌, Res
 use Rattle.mtrace_replay.specs.declared.held.diagnostic.Diagnostic.{Diagnostic}
 use Rattle.mtrace_replay.specs.Moment.{ReadLine}
 
--- What a replay begins on, as the settings of a heap. For which lines it stands, the latest first; what one more adds to the
--- diagnostics; how many there were; whether it takes one more. What no line changes, as how many records a heap has. And whether it
--- may lack memory.
 pub record LineRules (R : Type 0) : Type 1 where
+  -- what it begins on, as the settings of a heap
   pub Start : Type 0
+  -- it stands for these lines, the latest first
   pub Stands : Start → R → List ReadLine → Type 0
+  -- the diagnostics that a line adds to those of the lines before it, the latest of which comes first
   pub added : Start → ReadLine → List ReadLine → List Diagnostic
+  -- how many lines there were
   pub lines : R → ℕ
+  -- it can take one more line
   pub IsReady : R → Type 0
+  -- a number that no line changes, as how many records a heap has
   pub fixed : R → ℕ
+  -- it may lack memory
   pub Lacks : Type 0
 
 -- the diagnostics of lines in the order found, where each adds these to those before it

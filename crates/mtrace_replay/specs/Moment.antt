@@ -37,7 +37,7 @@ pub data Act : Type 0 where
   take : (address place : ℕ) → Act
   move : (old place : ℕ) → Entry → Act
 
--- what is done, and what is wrong with the line before that
+-- the diagnostics that come first, and what is then done
 pub record Plan : Type 0 where
   pub first : List Diagnostic
   pub act : Act
@@ -58,7 +58,7 @@ abbrev pub release : ℕ → ℕ → Option Given → Plan
 release number address None = none_for number (NotHeld address)
 release number address (Some given) = doing (take address given.place)
 
--- the same, after another diagnostic
+-- the plan with another diagnostic in front
 abbrev pub preceded : Kind → ℕ → Plan → Plan
 preceded kind number planned = record { first = one_diagnostic number kind ++ planned.first; act = planned.act }
 
@@ -99,7 +99,7 @@ pub record Moment : Type 0 where
 abbrev pub unserved : List Diagnostic → Bare → Moment
 unserved diagnostics content = record { given = None; taken = None; diagnostics = diagnostics; content = content }
 
--- the same, after other diagnostics
+-- the moment with other diagnostics in front of its own
 abbrev pub after_diagnostics : List Diagnostic → Moment → Moment
 after_diagnostics diagnostics moment = record { given = moment.given; taken = moment.taken; diagnostics = diagnostics ++ moment.diagnostics; content = moment.content }
 

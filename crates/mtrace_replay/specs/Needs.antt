@@ -18,7 +18,7 @@ use Rattle.mtrace_replay.specs.LineReplay.{LineRules}
 use Rattle.mtrace_replay.specs.Replay.{added_diagnostics, StandsFor}
 use Rattle.mtrace_replay.specs.Run.{EndsAt}
 
--- what one that there may be is in a sum
+-- a measure of what was given or freed, 0 where nothing was
 abbrev pub of_one : (Given → ℕ) → Option Given → ℕ
 of_one measure None = 0
 of_one measure (Some given) = measure given
@@ -27,7 +27,7 @@ of_one measure (Some given) = measure given
 abbrev pub block_bytes : Given → ℕ
 block_bytes given = rounded_bytes given.entry.size
 
--- One of what was held is freed, and one is given, for this many bytes: so say the sums before and after. There may be none of either.
+-- by the sums before and after, what is held lost `freed` and got `given`, of `asked` bytes; either may be none
 pub record Exchanges (asked : ℕ) (old new : Totals) (freed given : Option Given) : Type 0 where
   pub served : nat_lt old.served new.served ≡ is_some given
   pub size : of_one (λ given. given.entry.size) given ≡ of_one (λ given. asked) given

@@ -15,7 +15,7 @@ use Rattle.mtrace_replay.specs.Asked.{class_asked}
 use Rattle.mtrace_replay.specs.Served.{served_moment, served_moments, served_history}
 use Rattle.mtrace_replay.specs.RunServed.{AreServedTotals}
 use Rattle.mtrace_log.specs.Bytes.{newline}
-use Rattle.mtrace_replay.specs.Texts.{number_line, pair_line, size_line, size_text}
+use Rattle.mtrace_replay.specs.Texts.{number_line, pair_line, size_line, bytes_text}
 
 -- how many ranges of sizes there are: the last has the greatest classes
 abbrev pub size_ranges : ℕ
@@ -68,7 +68,8 @@ pub record IsPart (past : List ReadLine) (first last : ℕ) (part : Part) : Type
 abbrev pub AreParts : List ReadLine → (ℕ → ℕ → Part) → Type 0
 AreParts past part = (first last : ℕ) → first ≤ last → last < size_ranges → IsPart past first last (part first last)
 
--- The ranges from `first` on are joined up to each of these, its own too, and no request falls under one behind the last.
+-- The ranges from `first` on are cut into parts. The list has the last range of each part, behind which the next one begins. No
+-- request falls under a range behind the last part.
 abbrev pub IsCut : (ℕ → ℕ → Part) → ℕ → List ℕ → Type 0
 IsCut part first [] = (last : ℕ) → first ≤ last → last < size_ranges → (part first last).size ≡ 0
 IsCut part first (last ∷ ends) = (first ≤ last) × (last < size_ranges) × IsCut part (suc last) ends
@@ -100,7 +101,7 @@ pub record IsLeastCut (part : ℕ → ℕ → Part) (most first : ℕ) (ends : L
 abbrev pub pool_bytes : Part → Option ℕ
 pool_bytes part = if nat_le (part_bytes part) greatest_size && nat_le part.blocks most_records then Some (part_bytes part) else None
 
--- the bytes of its table
+-- the bytes of the table for a part's records; none where there can be no pool for the part
 abbrev pub records_bytes : Part → Option ℕ
 records_bytes part = option_map (λ pool. table_bytes part.blocks) (pool_bytes part)
 
@@ -111,7 +112,7 @@ sum_over measure (part ∷ parts) = option_and_then (λ n. option_map (λ rest. 
 
 -- `up to F: L blocks, B bytes`, one line
 abbrev pub part_line : Part → List ℕ
-part_line part = codes "up to " ++ decimal part.size ++ codes ": " ++ decimal part.blocks ++ codes " blocks, " ++ size_text (pool_bytes part) ++ newline ∷ []
+part_line part = codes "up to " ++ decimal part.size ++ codes ": " ++ decimal part.blocks ++ codes " blocks, " ++ bytes_text (pool_bytes part) ++ newline ∷ []
 
 -- the parts, each with its line, and their sums
 abbrev pub parts_text : List Part → List ℕ
@@ -131,7 +132,7 @@ pub record TellsCut (heaps : ℕ) (past : List ReadLine) (text : List ℕ) : Typ
   pub chosen : IsLeastCut part heaps 0 ends
   pub text_is : text ≡ parts_text (parts_of part 0 ends)
 
--- the same, where each served request has a class
+-- the text of a least cut where each served request has a class, else the text that no parts serve
 abbrev pub TellsHeaps : (has_classes : Bool) (heaps : ℕ) (past : List ReadLine) (text : List ℕ) → Type 0
 TellsHeaps true heaps past text = TellsCut heaps past text
 TellsHeaps false heaps past text = text ≡ no_parts_text

@@ -10,7 +10,7 @@ use Rattle.mtrace_replay.specs.Callers.{AreCounted, AreCallers}
 use Rattle.mtrace_replay.specs.Sites.{Site, AreSites, AreTallied}
 use Rattle.mtrace_replay.specs.Served.{Standing, totals_of}
 
--- it is of that report
+-- what is prepared is for this report
 abbrev pub IsOf : LedgerReport → Prepared → Type 0
 IsOf report.Held (prepared.Held addresses) = ⊤
 IsOf report.Sums prepared.Sums = ⊤
@@ -36,7 +36,7 @@ HasNamed replay prepared = ⊤
 abbrev pub held_text : Standing → (peak end : List Site) → List ℕ
 held_text replay peak end = both_sections replay.peak_line replay.peak_blocks replay.peak_bytes peak (length replay.all) (total_size replay.all) end
 
--- its text
+-- the text of what is prepared for this replay
 abbrev pub prepared_text : Standing → Prepared → List ℕ
 prepared_text replay (prepared.Held addresses) = leaks_report replay.all
 prepared_text replay prepared.Sums = ledger_peak_report (totals_of replay)

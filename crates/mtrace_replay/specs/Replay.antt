@@ -8,7 +8,7 @@ use Rattle.mtrace_replay.specs.declared.heap.settings.Settings.{Settings}
 use Rattle.mtrace_replay.specs.declared.heap.totals.Totals.{Totals}
 use Rattle.tlsf_heap.specs.Touches.{AtMost}
 use Rattle.mtrace_replay.specs.Started.{Bare, started}
-use Rattle.mtrace_replay.specs.Step.{found}
+use Rattle.mtrace_replay.specs.Step.{held_given}
 use Rattle.mtrace_replay.specs.Totals.{AreTotals}
 use Rattle.mtrace_replay.specs.Moment.{ReadLine, Given, plan, acts, half}
 use Rattle.mtrace_replay.specs.History.{AreHeld, next_moment, moments, content_after, pending, entries_of}
@@ -65,7 +65,7 @@ pub record Feeds {N : Type 0} (lacks : Type 0) (items : N → List Diagnostic) (
   pub records : new.content.records ≡ old.content.records
   pub compared : (digits : ℕ) → old.content.records < 2 ^ digits → AtMost (3 * digits) old.comparisons new.comparisons
   pub bound : AtMost 384 old.touches new.touches
-  pub idle : acts (plan number line old.pending (found old.given)).act ≡ false → new.touches ≡ old.touches
+  pub idle : acts (plan number line old.pending (held_given old.given)).act ≡ false → new.touches ≡ old.touches
 
 -- what is wrong at the end is told, unless memory was refused
 pub record TellsEnd {N : Type 0} (lacks : Type 0) (items : N → List Diagnostic) (result : Result N ReplayFault) (replay : Replayed) : Type 0 where

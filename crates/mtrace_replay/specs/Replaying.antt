@@ -35,8 +35,8 @@ pub record IsFollowedOn (Stands : List (Result Event LineFault) → Type 0) (bef
 abbrev pub HasGivenSo : Stage → (start now : ReaderState) → Type 0
 HasGivenSo stage start now = CallsFor stage start.calls now.calls × HasNotFailed start.calls now.calls
 
--- What a call leaves that reads and follows the lines up to one. With them what was so is so. Or memory was refused, or the reader
--- failed, or has fewer lines.
+-- What a call leaves that reads and follows the lines up to this number. The replay then stands for these lines too. Or memory was
+-- refused, or the reader failed, or has fewer lines.
 pub record FollowsUpTo {P R : Type 0} (rules : LineRules P) (number : ℕ) (result : Result (Unit {0}) Stop) (old new : Progress) (replay_old replay_new : P)
     (reader : Course R ReaderState) : Type 0 where
   pub counted : OnOk result (rules.lines replay_new ≡ new.count)

@@ -12,8 +12,8 @@ abbrev pub or_none : Result (List Row) Refusal → List Row
 or_none (Ok rows) = rows
 or_none (Err refusal) = []
 
-abbrev pub rows_at : {A : Type 0} → List (Pool A) → ℕ → List Row
-rows_at pools base = or_none (rows_from base pools)
+abbrev pub pool_rows : {A : Type 0} → List (Pool A) → ℕ → List Row
+pool_rows pools base = or_none (rows_from base pools)
 
 -- a text is put of what is read of a heap, which stays as it is
 pub record PutsOf {H T E : Type 0} (content : H → Content ℕ) (result : Result T E) (text : List ℕ)

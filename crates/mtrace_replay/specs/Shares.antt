@@ -72,7 +72,7 @@ pub record Changes (slot : ℕ) (amount : Amount) (old new : ByLocation) : Type 
   pub slots : length new.all ≡ length old.all
   pub mark : new.mark ≡ old.mark
 
--- each slot has what it had, and had at the mark what it had
+-- no slot's amount has changed, neither now nor at the mark
 pub record KeepsAmounts (old new : ByLocation) : Type 0 where
   pub now : (slot : ℕ) → now_at new slot ≡ now_at old slot
   pub marked : (slot : ℕ) → marked_at new slot ≡ marked_at old slot
@@ -88,19 +88,19 @@ pub record CountsOne (slot : ℕ) (old new : ByLocation) : Type 0 where
   pub count : Counts slot (count_temporary (count_at old slot)) old new
   pub total : new.total ≡ count_temporary old.total
 
--- each slot asked for what it asked for
+-- no slot's count of calls has changed, nor have all calls in sum
 pub record KeepsCounts (old new : ByLocation) : Type 0 where
   pub now : (slot : ℕ) → count_at new slot ≡ count_at old slot
   pub total : new.total ≡ old.total
 
--- there may be more slots; each has what it had, had at the mark what it had, and asked for what it asked for
+-- There may be more slots. No slot's amount has changed, neither now nor at the mark, nor has its count of calls.
 pub record KeepsShares (old new : ByLocation) : Type 0 where
   pub now : (slot : ℕ) → now_at new slot ≡ now_at old slot
   pub marked : (slot : ℕ) → marked_at new slot ≡ marked_at old slot
   pub mark : new.mark ≡ old.mark
   pub counts : KeepsCounts old new
 
--- the mark is this line, and each slot had then what it has now
+-- the mark is set at this line: each slot has at the mark what it has now
 pub record Marks (line : ℕ) (old new : ByLocation) : Type 0 where
   pub now : (slot : ℕ) → now_at new slot ≡ now_at old slot
   pub marked : (slot : ℕ) → marked_at new slot ≡ now_at old slot

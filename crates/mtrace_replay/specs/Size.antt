@@ -33,8 +33,8 @@ abbrev pub rounded_pool : (blocks : ℕ) → Option ℕ → Option ℕ
 rounded_pool blocks size = option_and_then (λ bytes. pool_bytes (record { blocks = blocks; size = bytes })) size
 
 -- the records with their table, the pool that is always enough, and the one for blocks of one size
-abbrev pub size_text : Bounds → List ℕ
-size_text bounds =
+abbrev pub bounds_text : Bounds → List ℕ
+bounds_text bounds =
     record_lines (sure_records bounds.blocks)
     ++ (size_line (codes "sure pool: ") (sure_pool bounds.blocks (blocks_bytes bounds.blocks bounds.largest bounds.bytes) (class_size (align_of bounds) bounds.largest))
     ++ size_line (codes "rounded pool: ") (rounded_pool bounds.blocks (class_size (align_of bounds) bounds.largest)))
@@ -46,4 +46,4 @@ pub record RunsSize {W : Type 0} (bounds : Bounds) (writes : W → WriterState) 
   pub nothing_done : IsErrOf result BadSettings → writer_new ≡ writer_old
   pub faults : IfErr result (λ fault. (fault ≡ BadSettings) ⊎ (fault ≡ Write))
   pub clean : IfOk result (λ status. status ≡ Clean)
-  pub told : result ≢ Err BadSettings → PutsAndFlushes result (size_text bounds) (writes writer_old) (writes writer_new)
+  pub told : result ≢ Err BadSettings → PutsAndFlushes result (bounds_text bounds) (writes writer_old) (writes writer_new)

@@ -28,8 +28,8 @@ abbrev pub all_given : List Holding → List Given
 all_given holdings = map given_of holdings
 
 -- what an address is held under
-abbrev pub found : List Given → ℕ → Option Given
-found all address = find (λ given. given.entry.addr == address) all
+abbrev pub held_given : List Given → ℕ → Option Given
+held_given all address = find (λ given. given.entry.addr == address) all
 
 -- where the block that a moment gave ends, in the heap after it
 abbrev pub end_of : Moment → Option ℕ
@@ -38,7 +38,7 @@ end_of moment = option_map (λ given. given.place + size_at given.place (blocks_
 -- the heap and what is held are as the moment says; these are its diagnostics, and the end of the block given
 pub record Comes (content_old content_new : Bare) (old new : List Given) (diagnostics : List Diagnostic) (end : Option ℕ) (moment : Moment) : Type 0 where
   pub content_is : content_new ≡ moment.content
-  pub held_is : (address : ℕ) → found new address ≡ held_after moment (found old) address
+  pub held_is : (address : ℕ) → held_given new address ≡ held_after moment (held_given old) address
   pub diagnostics_are : diagnostics ≡ moment.diagnostics
   pub end_is : end ≡ end_of moment
 
@@ -68,7 +68,7 @@ pub record View (H : Type 0) : Type 1 where
 abbrev pub view : {H : Type 0} → (H → Content ℕ) → (H → ℕ) → Type 0 → View H
 view content touches lacks = record { content = content; touches = touches; Lacks = lacks }
 
--- What a line does, or a part of it, which answers where the block ends that it was given, if any. Where no memory is
+-- What a line does, or a part of it. It answers where the block that was given ends, if there is one. Where no memory is
 -- refused, the heap, what is held and the diagnostics are as the plan says, and what is held is live. Else what is held
 -- is as it was. The heap has as many records as before. The look-ups are counted, and the touches are at most `most`:
 -- none where nothing is asked of the heap.

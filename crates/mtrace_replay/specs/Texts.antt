@@ -193,13 +193,13 @@ abbrev pub most_line : ℕ → List ℕ
 most_line most = count_line (codes "held at most: ") most (codes " blocks")
 
 -- a size in bytes, or that there is none
-abbrev pub size_text : Option ℕ → List ℕ
-size_text None = codes "-"
-size_text (Some size) = decimal size ++ codes " bytes"
+abbrev pub bytes_text : Option ℕ → List ℕ
+bytes_text None = codes "-"
+bytes_text (Some size) = decimal size ++ codes " bytes"
 
 -- `word` and a size, one line
 abbrev pub size_line : List ℕ → Option ℕ → List ℕ
-size_line word size = word ++ size_text size ++ newline ∷ []
+size_line word size = word ++ bytes_text size ++ newline ∷ []
 
 -- the records, and the bytes of their table
 abbrev pub record_lines : ℕ → List ℕ

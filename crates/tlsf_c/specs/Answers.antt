@@ -26,5 +26,5 @@ pub record AnswersBlock (call : ℕ → Content ℕ → Result (ℕ × Content �
   pub out : result ≢ 0 → given ≡ stood
 
 -- what realloc gives: nothing where no byte was asked for, else the place and the slot
-abbrev pub given : ℕ → ℕ → ℕ → Option (ℕ × ℕ)
-given bytes place slot = if bytes == 0 then None else Some (place, slot)
+abbrev pub block_given : ℕ → ℕ → ℕ → Option (ℕ × ℕ)
+block_given bytes place slot = if bytes == 0 then None else Some (place, slot)

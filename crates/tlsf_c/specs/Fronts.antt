@@ -10,15 +10,15 @@ abbrev pub unscramble : ℕ
 unscramble = 17428512612931826493
 
 -- what a word in front of an address tells, as one number
-abbrev pub told : (word address : ℕ) → ℕ
-told word address = (word + (2 ^ 64 - address)) % 2 ^ 64 * unscramble % 2 ^ 64
+abbrev pub unscrambled : (word address : ℕ) → ℕ
+unscrambled word address = (word + (2 ^ 64 - address)) % 2 ^ 64 * unscramble % 2 ^ 64
 
 -- the slot, and the size in bytes
 abbrev pub told_slot : (word address : ℕ) → ℕ
-told_slot word address = told word address % 65536
+told_slot word address = unscrambled word address % 65536
 
 abbrev pub told_size : (word address : ℕ) → ℕ
-told_size word address = told word address / 65536 * 16
+told_size word address = unscrambled word address / 65536 * 16
 
 -- the word in front of an address is no block's. Nor is it that of a freed one, nor zeros, as where no block was
 pub record IsLostFront (word address : ℕ) : Type 0 where

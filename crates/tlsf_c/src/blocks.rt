@@ -10,7 +10,7 @@ ghost use Rattle.tlsf_heap.specs.Counted.{IsUnchanged, Reads};
 ghost use Rattle.tlsf_heap.specs.Malloc.{malloc};
 ghost use Rattle.tlsf_heap.specs.Memalign.{memalign};
 ghost use Rattle.tlsf_heap.specs.Pointer.{free_ptr, realloc_ptr, block_size_ptr};
-ghost use Rattle.tlsf_c.specs.Answers.{Answers, AnswersBlock, given, pointer_of};
+ghost use Rattle.tlsf_c.specs.Answers.{Answers, AnswersBlock, block_given, pointer_of};
 ghost use Rattle.tlsf_c.specs.Status.{status_of, number};
 
 use crate::block::Block;
@@ -85,7 +85,7 @@ pub extern "C" fn tlsf_heap_realloc(
     out: &mut Block,
 ) -> u32
     ensures status { status_of (realloc_ptr (Some (pointer_of block)) bytes out.new.slot handle.old.value.content) ≡ result }
-    ensures ok { result ≡ 0 → realloc_ptr (Some (pointer_of block)) bytes out.new.slot handle.old.value.content ≡ Ok (given bytes out.new.place out.new.slot, handle.new.value.content) }
+    ensures ok { result ≡ 0 → realloc_ptr (Some (pointer_of block)) bytes out.new.slot handle.old.value.content ≡ Ok (block_given bytes out.new.place out.new.slot, handle.new.value.content) }
     ensures slot_below { result ≡ 0 → bytes ≢ 0 → out.new.slot < handle.old.value.content.records }
     ensures slot_new { result ≡ 0 → bytes ≢ 0 → pointer_of block ≢ pointer_of out.new → slot_times out.new.slot (blocks_of handle.old.value.content.pools) ≡ 0 }
     ensures room { HasRoom bytes handle.old.value.content → (result ≡ 0) ⊎ (result ≡ number BadPointer) }

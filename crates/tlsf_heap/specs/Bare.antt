@@ -26,6 +26,6 @@ module _ {A B : Type 0} (rename : A → B) where
   abbrev pub renamed_moved : Result (Option (ℕ × A) × Content A) Refusal → Result (Option (ℕ × B) × Content B) Refusal
   renamed_moved result = result_map_both (λ given. (option_map (λ pointer. (pointer.0, rename pointer.1)) given.0, renamed given.1)) (λ refusal. refusal) result
 
--- nothing is told of what live blocks are known by
+-- a content without what its live blocks are known by
 abbrev pub bare : {A : Type 0} → Content A → Content (Unit {0})
 bare content = renamed (λ owner. tt) content

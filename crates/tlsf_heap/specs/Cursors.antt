@@ -14,14 +14,14 @@ use Rattle.tlsf_heap.specs.Rows.{row_of}
 abbrev pub rows_at : List Record → ℕ → List Row
 rows_at records slot = if is_vacant (record_at records slot).state then [] else map (λ q. row_of (block_at records q)) (chain_from records (Some slot))
 
--- the same for each slot
+-- for each slot the rows from its block on
 abbrev pub rows_by : List Record → List (List Row)
 rows_by records = map (rows_at records) (range_with_len 0 (length records))
 
 -- the rows from a cursor on, which has a slot or none
-abbrev pub rest_of : List (List Row) → Option ℕ → List Row
-rest_of rows None = []
-rest_of rows (Some slot) = slice_index_or rows slot []
+abbrev pub rows_left : List (List Row) → Option ℕ → List Row
+rows_left rows None = []
+rows_left rows (Some slot) = slice_index_or rows slot []
 
 -- the cursor stands behind the last row, or at one
 abbrev pub stands_at : List (List Row) → Option ℕ → Type 0
@@ -30,7 +30,7 @@ stands_at rows (Some slot) = slice_index_or rows slot [] ≢ []
 
 -- the rows from a cursor on
 abbrev pub rows_behind : List (List Row) → Cursor → List Row
-rows_behind rows cursor = rest_of rows cursor.next
+rows_behind rows cursor = rows_left rows cursor.next
 
 abbrev pub is_at_row : List (List Row) → Cursor → Type 0
 is_at_row rows cursor = stands_at rows cursor.next

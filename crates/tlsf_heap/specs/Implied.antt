@@ -36,7 +36,7 @@ live_blocks content = count_by (λ block. not (is_free block)) (blocks_of conten
 abbrev pub HasFewRecords : {A : Type 0} → Content A → Type 0
 HasFewRecords content = content.records ≤ 2 * live_blocks content + length content.pools
 
--- the same, and one more
+-- there are at most two records for each live block, one for each pool, and one more
 abbrev pub HasFewRecordsAndOne : {A : Type 0} → Content A → Type 0
 HasFewRecordsAndOne content = content.records ≤ 2 * live_blocks content + length content.pools + 1
 

@@ -21,7 +21,7 @@ gives_at (Given pointer) place = pointer.place == place
 gives_at (Moved (Some pointer)) place = pointer.place == place
 gives_at answer place = false
 
--- the first of two that there is
+-- the first number where there is one, else the second
 abbrev pub first_of_two : Option ℕ → Option ℕ → Option ℕ
 first_of_two (Some n) other = Some n
 first_of_two None other = other

@@ -18,7 +18,7 @@ link_gap place size lists = if size == 0 then lists else link place size lists
 abbrev pub replaced : {A : Type 0} → ℕ → List (Block A) → List (Block A) → List (Block A)
 replaced place others blocks = flat_map (λ block. if is_at place block then others else block ∷ []) blocks
 
--- the same in a pool
+-- a pool where the block at the place gives way to other blocks
 abbrev pub replaced_in : {A : Type 0} → ℕ → List (Block A) → Pool A → Pool A
 replaced_in place others pool = record pool { blocks = replaced place others pool.blocks }
 

@@ -20,9 +20,9 @@ pub record TakesOne {A : Type 0} (blocks size n : ℕ) (content : Content A) : T
   pub few : live_blocks content < blocks
   pub rounds : round n ≡ Some size
 
--- A request is for a block of this size, and leaves at most `blocks` live ones. Each is that asks for no bytes, at a bad
--- alignment, or for a pointer that names no live block. An alignment is at most the unit, which each block has anyway. A block
--- that is live gets no other size. No pool comes or goes.
+-- A request is for a block of this size, and leaves at most `blocks` live ones. One for no bytes always passes, and so does one at a
+-- bad alignment, or with a pointer that names no live block. An alignment is at most the unit, which each block has anyway. A block
+-- that is live gets no other size. A request that adds or removes a pool never passes.
 abbrev pub IsOfSize : (blocks size : ℕ) → Request → Content ℕ → Type 0
 IsOfSize blocks size (AddPool base pool) content = ⊥
 IsOfSize blocks size (RemovePool base) content = ⊥

@@ -49,11 +49,11 @@ blocks_from number [] = []
 blocks_from number (pool ∷ pools) = if nat_lt number (length pool.blocks) then drop number pool.blocks else blocks_from (number - length pool.blocks) pools
 
 -- how many blocks stand in front of those of the first pool that begins at the base
-abbrev pub first_of : ℕ → List (Pool ℕ) → Option ℕ
-first_of base [] = None
-first_of base (pool ∷ pools) = if pool.base == base then Some 0 else option_map (λ number. length pool.blocks + number) (first_of base pools)
+abbrev pub blocks_in_front : ℕ → List (Pool ℕ) → Option ℕ
+blocks_in_front base [] = None
+blocks_in_front base (pool ∷ pools) = if pool.base == base then Some 0 else option_map (λ number. length pool.blocks + number) (blocks_in_front base pools)
 
 -- the rows from a number on, none behind the last
-abbrev pub rows_at : Option ℕ → List (Pool ℕ) → List Row
-rows_at None pools = []
-rows_at (Some number) pools = map row_of (blocks_from number pools)
+abbrev pub rows_from_number : Option ℕ → List (Pool ℕ) → List Row
+rows_from_number None pools = []
+rows_from_number (Some number) pools = map row_of (blocks_from number pools)

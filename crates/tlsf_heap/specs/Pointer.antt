@@ -15,7 +15,7 @@ abbrev pub place_and_slot : Option Pointer → Option (ℕ × ℕ)
 place_and_slot None = None
 place_and_slot (Some pointer) = Some (pointer.place, pointer.slot)
 
--- its slot; 0 where there is none
+-- the pointer's slot, 0 where there is no pointer
 abbrev pub slot_of : Option Pointer → ℕ
 slot_of None = 0
 slot_of (Some pointer) = pointer.slot
@@ -24,10 +24,10 @@ slot_of (Some pointer) = pointer.slot
 abbrev pub free_ptr : Pointer → Content ℕ → Result (Content ℕ) Refusal
 free_ptr pointer content = free (λ slot. slot == pointer.slot) pointer.place content
 
--- realloc of it, where a new live block has the slot
+-- realloc of the live block with the pointer's place and slot, where a new live block has `slot`
 abbrev pub realloc_ptr : Option Pointer → (n slot : ℕ) → Content ℕ → Result (Option (ℕ × ℕ) × Content ℕ) Refusal
 realloc_ptr pointer n slot content = realloc (λ a b. a == b) slot (place_and_slot pointer) n content
 
--- its size
+-- the size of the live block with the pointer's place and slot
 abbrev pub block_size_ptr : Pointer → Content ℕ → Result ℕ Refusal
 block_size_ptr pointer content = block_size (λ slot. slot == pointer.slot) pointer.place content

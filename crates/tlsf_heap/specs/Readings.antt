@@ -21,7 +21,7 @@ pub record GivesRow (result : Option (Row × Cursor)) (rows : List Row) (rest : 
   pub next_stands : IfSome result (λ given. stands_at given.1)
   pub none : IfNone result (rows ≡ [])
 
--- a row takes at most n touches, and none takes none
+-- there are at most n touches where a row is given, and no touch where none is
 pub record TouchesForRow (n : ℕ) (result : Option (Row × Cursor)) (old new : ℕ) : Type 0 where
   pub bound : IfSome result (λ given. AtMost n old new)
   pub no_touch : IfNone result (new ≡ old)

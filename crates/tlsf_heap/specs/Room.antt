@@ -16,10 +16,10 @@ abbrev pub pool_bytes : {A : Type 0} → List (Pool A) → ℕ
 pool_bytes [] = 0
 pool_bytes (pool ∷ pools) = pool.bytes + pool_bytes pools
 
--- n bytes, rounded up, are m, for which the lists are asked for a block of `asked m` bytes: from class c on each block has them.
--- The pools have more bytes than the live blocks, and for each of these and each pool the most that a free block has that is
--- too small: a unit less than the lowest size of class c. There are two records for each live block, one for each pool, and as
--- many as there may be rests.
+-- The bytes n are m when rounded up, and the lists are then asked for a block of `asked m` bytes. Each block of class c or above has
+-- them. The pools have more bytes than the live blocks and a share for each live block and each pool. That share is what a free block
+-- has at most that is too small: a unit less than the lowest size of class c. There are two records for each live block, one for each
+-- pool, and one for each rest.
 pub record HasRoomFor {A : Type 0} (asked : ℕ → ℕ) (rests n : ℕ) (content : Content A) : Type 0 where
   pub m : ℕ
   pub rounds : round n ≡ Some m
@@ -28,10 +28,10 @@ pub record HasRoomFor {A : Type 0} (asked : ℕ → ℕ) (rests n : ℕ) (conten
   pub bytes : live_bytes (blocks_of content.pools) + (live_blocks content + length content.pools) * (low c - unit) < pool_bytes content.pools
   pub records : 2 * live_blocks content + length content.pools + rests ≤ content.records
 
--- for malloc and realloc, which may leave a rest behind the block
+-- there is room for malloc and realloc, which may leave a rest behind the block
 abbrev pub HasRoom : {A : Type 0} → ℕ → Content A → Type 0
 HasRoom n content = HasRoomFor (λ m. m) 1 n content
 
--- for memalign, which may leave one in front of it too
+-- there is room for memalign, which may leave a rest in front of the block too
 abbrev pub HasRoomAligned : {A : Type 0} → ℕ → ℕ → Content A → Type 0
 HasRoomAligned align n content = HasRoomFor (size_asked align) 2 n content

@@ -16,8 +16,8 @@ use Rattle.tlsf_heap.specs.Room.{live_bytes, pool_bytes}
 use Rattle.tlsf_heap.specs.Sizing.{most_refusing}
 use Rattle.tlsf_heap.specs.Run.{Run}
 
--- Rounded up, n is m bytes, for which the lists are asked for a block of `asked m` bytes: from class c on each block has them,
--- and the lowest size of class c is at most `size`.
+-- The bytes n are m when rounded up, and the lists are then asked for a block of `asked m` bytes. Each block of class c or above has
+-- them, and the lowest size of class c is at most `size`.
 pub record AsksAtMost (size : ℕ) (asked : ℕ → ℕ) (n : ℕ) : Type 0 where
   pub m : ℕ
   pub rounds : round n ≡ Some m
@@ -36,8 +36,8 @@ abbrev pub NamesLive : Option Pointer → Content ℕ → Type 0
 NamesLive None content = ⊤
 NamesLive (Some pointer) content = IsTrue (is_live (λ slot. slot == pointer.slot) pointer.place (blocks_of content.pools))
 
--- A request keeps to the bounds on the content that it finds. Each does that asks for no bytes, at a bad alignment, or for a
--- pointer that names no live block. No pool comes or goes.
+-- A request keeps to the bounds on the content that it finds. One for no bytes always does, and so does one at a bad alignment, or
+-- with a pointer that names no live block. One that adds or removes a pool never does.
 abbrev pub IsWithin : (blocks bytes size : ℕ) → Request → Content ℕ → Type 0
 IsWithin blocks bytes size (AddPool base pool) content = ⊥
 IsWithin blocks bytes size (RemovePool base) content = ⊥

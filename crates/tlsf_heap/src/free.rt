@@ -9,7 +9,7 @@ ghost use Rattle.tlsf_heap.specs.Content.{blocks_of};
 ghost use Rattle.tlsf_heap.specs.Free.{is_live};
 ghost use Rattle.tlsf_heap.specs.Pointer.{free_ptr};
 ghost use Rattle.tlsf_heap.specs.Inner.Edits.{unlinked_by};
-ghost use Rattle.tlsf_heap.specs.Inner.Nodes.{NodeState, InUse, Listed, Loose, is_listed};
+ghost use Rattle.tlsf_heap.specs.Inner.Nodes.{NodeState, InUse, Listed, Loose, is_listed_state};
 ghost use Rattle.tlsf_heap.specs.Inner.Following.{Stands, content_of};
 ghost use Rattle.tlsf_heap.specs.Inner.At.{At, StandsAt, previous_merged, next_merged, at_listed, at_freed};
 ghost use Rattle.tlsf_heap.specs.Inner.Spans.{IsRead, IsRecordOf, CanMerge, merged_by};

@@ -10,7 +10,7 @@ ghost use Rattle.tlsf_heap.specs.Malloc.{malloc, malloc_picked, malloc_rounded};
 ghost use Rattle.tlsf_heap.specs.OwnClass.{own_first, picked_or_own, malloc_or_own};
 ghost use Rattle.tlsf_heap.specs.Served.{IsServed};
 ghost use Rattle.tlsf_heap.specs.Inner.Following.{Stands, content_of};
-ghost use Rattle.tlsf_heap.specs.Inner.Nodes.{NodeState, InUse, Listed, is_listed};
+ghost use Rattle.tlsf_heap.specs.Inner.Nodes.{NodeState, InUse, Listed, is_listed_state};
 ghost use Rattle.tlsf_heap.specs.Inner.At.{At, StandsAt, with_slot, at_turned, at_taken, at_split_off, at_split_rest};
 ghost use Rattle.tlsf_heap.specs.Inner.Spans.{IsRead, IsOfClass};
 ghost use Rattle.tlsf_heap.specs.Inner.Answers.{AnswersOver, IsPick, IsTakeable, IsTakenFor, IsOwnFirst, Leaves};
@@ -169,12 +169,12 @@ pub(crate) fn take_whole(store: &mut Store, class: Class, slot: Slot, block: &Re
 /// A block that is in no list keeps its first bytes and is live. What is left is a free block of the slot
 /// `rest`, first in its class's list. At most nine touches.
 fn split_off(store: &mut Store, block: &Span, rest: Slot, bytes: u32)
-    requires stands { (node_state : NodeState) × (at : At) × (is_listed node_state ≡ false) × StandsAt block.now.slot node_state store.old.cells (with_slot rest at) }
+    requires stands { (node_state : NodeState) × (at : At) × (is_listed_state node_state ≡ false) × StandsAt block.now.slot node_state store.old.cells (with_slot rest at) }
     requires read { IsRead block.now store.old.cells.records }
     requires some { 0 < bytes }
     requires less { bytes < block.now.size }
     requires whole { bytes % unit ≡ 0 }
-    ensures leads { (node_state : NodeState) (at : At) → is_listed node_state ≡ false → StandsAt block.now.slot node_state store.old.cells (with_slot rest at) → StandsAt rest Listed store.new.cells (at_split_off rest bytes (at_turned InUse at)) }
+    ensures leads { (node_state : NodeState) (at : At) → is_listed_state node_state ≡ false → StandsAt block.now.slot node_state store.old.cells (with_slot rest at) → StandsAt rest Listed store.new.cells (at_split_off rest bytes (at_turned InUse at)) }
     ensures touches { AtMost 9 store.old.touches store.new.touches }
 {
     let class = class_of(block.size - bytes);

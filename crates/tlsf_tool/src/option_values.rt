@@ -18,26 +18,26 @@ pub(crate) const NO_MEMORY: ToolFault = ToolFault::Run(RunFault::OutOfMemory);
 pub(crate) const NO_COMMAND: &str = "tlsf: no command; for more, try 'tlsf --help'\n";
 
 /// The size of this id, in bytes, that a subcommand's matches have.
-pub(crate) fn size_of(found: &ArgMatches<'_>, id: &str) -> Option<u64>
-    ensures { Picks (HasNumber (rows_of (found_of found.now)) id.now 64) result }
+pub(crate) fn size_of(matches: &ArgMatches<'_>, id: &str) -> Option<u64>
+    ensures { Picks (HasNumber (rows_of (found_of matches.now)) id.now 64) result }
 {
-    found.get_one::<u64>(id)
+    matches.get_one::<u64>(id)
 }
 
 /// The number of this id that a subcommand's matches have.
-pub(crate) fn option_number(found: &ArgMatches<'_>, id: &str) -> Option<u32>
-    ensures { Picks (HasNumber (rows_of (found_of found.now)) id.now 32) result }
+pub(crate) fn option_number(matches: &ArgMatches<'_>, id: &str) -> Option<u32>
+    ensures { Picks (HasNumber (rows_of (found_of matches.now)) id.now 32) result }
 {
-    found.get_one::<u32>(id)
+    matches.get_one::<u32>(id)
 }
 
 /// The settings that a subcommand's matches have.
-pub(crate) fn settings_of(found: &ArgMatches<'_>) -> Option<Settings>
-    ensures { Picks (HasSettings (rows_of (found_of found.now))) result }
+pub(crate) fn settings_of(matches: &ArgMatches<'_>) -> Option<Settings>
+    ensures { Picks (HasSettings (rows_of (found_of matches.now))) result }
 {
-    let pool = size_of(found, "pool")?;
-    let pools = option_number(found, "pools")?;
-    let records = option_number(found, "records")?;
+    let pool = size_of(matches, "pool")?;
+    let pools = option_number(matches, "pools")?;
+    let records = option_number(matches, "records")?;
     Some(Settings {
         pool,
         pools,
@@ -46,11 +46,15 @@ pub(crate) fn settings_of(found: &ArgMatches<'_>) -> Option<Settings>
 }
 
 /// The word of this id, which a subcommand's matches have.
-pub(crate) fn word_of(alloc: Global, found: &ArgMatches<'_>, id: &str) -> Result<String, ToolFault>
-    ensures { Asks (λ word. first_of id.now (rows_of (found_of found.now)) ≡ Some (string_bytes word))
-        (first_of id.now (rows_of (found_of found.now)) ≡ None) result }
+pub(crate) fn word_of(
+    alloc: Global,
+    matches: &ArgMatches<'_>,
+    id: &str,
+) -> Result<String, ToolFault>
+    ensures { Asks (λ word. first_of id.now (rows_of (found_of matches.now)) ≡ Some (string_bytes word))
+        (first_of id.now (rows_of (found_of matches.now)) ≡ None) result }
 {
-    let Some(word) = found.get_str(id) else {
+    let Some(word) = matches.get_str(id) else {
         return Err(ToolFault::usage(alloc, NO_COMMAND));
     };
     match String::from_str(alloc, word) {
@@ -60,45 +64,48 @@ pub(crate) fn word_of(alloc: Global, found: &ArgMatches<'_>, id: &str) -> Result
 }
 
 /// The settings and the log that a subcommand's matches have.
-pub(crate) fn log_of(alloc: Global, found: &ArgMatches<'_>) -> Result<(Settings, String), ToolFault>
-    ensures { Asks (λ given. HasSettings (rows_of (found_of found.now)) given.0
-        × (first_of (codes "LOG") (rows_of (found_of found.now)) ≡ Some (string_bytes given.1)))
-        (HasNoLog (rows_of (found_of found.now))) result }
+pub(crate) fn log_of(
+    alloc: Global,
+    matches: &ArgMatches<'_>,
+) -> Result<(Settings, String), ToolFault>
+    ensures { Asks (λ given. HasSettings (rows_of (found_of matches.now)) given.0
+        × (first_of (codes "LOG") (rows_of (found_of matches.now)) ≡ Some (string_bytes given.1)))
+        (HasNoLog (rows_of (found_of matches.now))) result }
 {
-    let Some(settings) = settings_of(found) else {
+    let Some(settings) = settings_of(matches) else {
         return Err(ToolFault::usage(alloc, NO_COMMAND));
     };
-    let log = word_of(alloc, found, "LOG")?;
+    let log = word_of(alloc, matches, "LOG")?;
     Ok((settings, log))
 }
 
 /// The size of this id, in bytes, or else this one.
-pub(crate) fn size_or(found: &ArgMatches<'_>, id: &str, other: u64) -> u64
-    ensures { HasOr (rows_of (found_of found.now)) id.now 64 other result }
+pub(crate) fn size_or(matches: &ArgMatches<'_>, id: &str, other: u64) -> u64
+    ensures { HasOr (rows_of (found_of matches.now)) id.now 64 other result }
 {
-    match size_of(found, id) {
+    match size_of(matches, id) {
         Some(size) => size,
         None => other,
     }
 }
 
 /// The number of this id, or else this one.
-pub(crate) fn number_or(found: &ArgMatches<'_>, id: &str, other: u32) -> u32
-    ensures { HasOr (rows_of (found_of found.now)) id.now 32 other result }
+pub(crate) fn number_or(matches: &ArgMatches<'_>, id: &str, other: u32) -> u32
+    ensures { HasOr (rows_of (found_of matches.now)) id.now 32 other result }
 {
-    match option_number(found, id) {
+    match option_number(matches, id) {
         Some(number) => number,
         None => other,
     }
 }
 
 /// Whether a setting of a heap is among a subcommand's matches.
-pub(crate) fn has_setting(found: &ArgMatches<'_>) -> bool
-    ensures { MatchBool result (HasNoSetting (rows_of (found_of found.now)) → ⊥) (HasNoSetting (rows_of (found_of found.now))) }
+pub(crate) fn has_setting(matches: &ArgMatches<'_>) -> bool
+    ensures { MatchBool result (HasNoSetting (rows_of (found_of matches.now)) → ⊥) (HasNoSetting (rows_of (found_of matches.now))) }
 {
-    let pool = size_of(found, "pool");
-    let pools = option_number(found, "pools");
-    let records = option_number(found, "records");
+    let pool = size_of(matches, "pool");
+    let pools = option_number(matches, "pools");
+    let records = option_number(matches, "records");
     match (pool, pools, records) {
         (None, None, None) => false,
         _ => true,
@@ -106,15 +113,15 @@ pub(crate) fn has_setting(found: &ArgMatches<'_>) -> bool
 }
 
 /// The heap that a subcommand's matches ask for, where they ask for one.
-pub(crate) fn heap_of(found: &ArgMatches<'_>) -> Option<Settings>
-    ensures { HasHeap (rows_of (found_of found.now)) result }
+pub(crate) fn heap_of(matches: &ArgMatches<'_>) -> Option<Settings>
+    ensures { HasHeap (rows_of (found_of matches.now)) result }
 {
-    if !has_setting(found) {
+    if !has_setting(matches) {
         return None;
     }
     Some(Settings {
-        pool: size_or(found, "pool", u64::from(GREATEST_SIZE)),
-        pools: number_or(found, "pools", 1),
-        records: number_or(found, "records", 65_535),
+        pool: size_or(matches, "pool", u64::from(GREATEST_SIZE)),
+        pools: number_or(matches, "pools", 1),
+        records: number_or(matches, "records", 65_535),
     })
 }

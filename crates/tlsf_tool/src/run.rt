@@ -103,7 +103,8 @@ impl<'a> Run<'a> {
         status
     }
 
-    /// The same of a run that read its log more than once: where no call failed, the log has changed.
+    /// Ends a run that read its log more than once. Where a file failed, it tells which one, and why; where no call failed, that the
+    /// log has fewer lines than at first.
     pub fn end_again(&self, status: u8, log: &str) -> u8 {
         if status == FILE_FAILED && !self.causes.tell(self.rt, log, "") {
             let log = Shown(log);

@@ -25,13 +25,13 @@ const NO_PART: &str =
     "error: --part takes LxM: L blocks, from 1 to 65535, of at most M bytes, from 1 to 1056964608\n\nFor more information, try '--help'.\n";
 
 /// The bounds that a subcommand's matches have.
-fn bounds_of(found: &ArgMatches<'_>) -> Option<Bounds>
-    ensures { Picks (HasBounds (rows_of (found_of found.now))) result }
+fn bounds_of(matches: &ArgMatches<'_>) -> Option<Bounds>
+    ensures { Picks (HasBounds (rows_of (found_of matches.now))) result }
 {
-    let bytes = size_of(found, "bytes");
-    let align = size_of(found, "align");
-    let blocks = option_number(found, "blocks")?;
-    let largest = size_of(found, "largest")?;
+    let bytes = size_of(matches, "bytes");
+    let align = size_of(matches, "align");
+    let blocks = option_number(matches, "blocks")?;
+    let largest = size_of(matches, "largest")?;
     Some(Bounds {
         blocks,
         largest,
@@ -85,13 +85,13 @@ fn parts_of(alloc: Global, texts: &[&str]) -> Result<Vec<PartBounds>, ToolFault>
 }
 
 /// Whether a bound of a program is among a subcommand's matches.
-fn has_bound(found: &ArgMatches<'_>) -> bool
-    ensures { MatchBool result (HasNoBounds (rows_of (found_of found.now)) → ⊥) (HasNoBounds (rows_of (found_of found.now))) }
+fn has_bound(matches: &ArgMatches<'_>) -> bool
+    ensures { MatchBool result (HasNoBounds (rows_of (found_of matches.now)) → ⊥) (HasNoBounds (rows_of (found_of matches.now))) }
 {
-    let blocks = option_number(found, "blocks");
-    let largest = size_of(found, "largest");
-    let sum = size_of(found, "bytes");
-    let align = size_of(found, "align");
+    let blocks = option_number(matches, "blocks");
+    let largest = size_of(matches, "largest");
+    let sum = size_of(matches, "bytes");
+    let align = size_of(matches, "align");
     match (blocks, largest, sum, align) {
         (None, None, None, None) => false,
         _ => true,
@@ -102,12 +102,12 @@ fn has_bound(found: &ArgMatches<'_>) -> bool
 fn asked_size_parts(
     alloc: Global,
     texts: &[&str],
-    found: &ArgMatches<'_>,
+    matches: &ArgMatches<'_>,
 ) -> Result<Command, ToolFault>
-    requires told { all_of (codes "part") (rows_of (found_of found.now)) ≡ Some (map (λ text. text.now) texts.now) }
-    ensures { MatchesGive (Some (codes "size", rows_of (found_of found.now))) result }
+    requires told { all_of (codes "part") (rows_of (found_of matches.now)) ≡ Some (map (λ text. text.now) texts.now) }
+    ensures { MatchesGive (Some (codes "size", rows_of (found_of matches.now))) result }
 {
-    if has_bound(found) {
+    if has_bound(matches) {
         return Err(ToolFault::usage(alloc, NO_BOUNDS));
     }
     if texts.len() > 8 {
@@ -118,13 +118,13 @@ fn asked_size_parts(
 }
 
 /// What the matches of the subcommand that tells what is enough without a log ask for.
-pub(crate) fn asked_size(alloc: Global, found: &ArgMatches<'_>) -> Result<Command, ToolFault>
-    ensures { MatchesGive (Some (codes "size", rows_of (found_of found.now))) result }
+pub(crate) fn asked_size(alloc: Global, matches: &ArgMatches<'_>) -> Result<Command, ToolFault>
+    ensures { MatchesGive (Some (codes "size", rows_of (found_of matches.now))) result }
 {
-    if let Some(texts) = found.get_strs("part") {
-        return asked_size_parts(alloc, texts, found);
+    if let Some(texts) = matches.get_strs("part") {
+        return asked_size_parts(alloc, texts, matches);
     }
-    let Some(bounds) = bounds_of(found) else {
+    let Some(bounds) = bounds_of(matches) else {
         return Err(ToolFault::usage(alloc, NO_SIZE));
     };
     Ok(Command::Size { bounds })

@@ -31,12 +31,12 @@ const NO_STEP: &str =
     "error: --heaps takes no option beside it: --step is of one heap\n\nFor more information, try '--help'.\n";
 
 /// What the matches of the subcommand that tells who holds the memory ask for.
-fn asked_sites(alloc: Global, found: &ArgMatches<'_>) -> Result<Command, ToolFault>
-    ensures { MatchesGive (Some (codes "sites", rows_of (found_of found.now))) result }
+fn asked_sites(alloc: Global, matches: &ArgMatches<'_>) -> Result<Command, ToolFault>
+    ensures { MatchesGive (Some (codes "sites", rows_of (found_of matches.now))) result }
 {
-    let log = word_of(alloc, found, "LOG")?;
-    let has_calls = has_flag(found, "calls");
-    let Some(settings) = heap_of(found) else {
+    let log = word_of(alloc, matches, "LOG")?;
+    let has_calls = has_flag(matches, "calls");
+    let Some(settings) = heap_of(matches) else {
         let report = if has_calls {
             LedgerReport::Callers
         } else {
@@ -52,49 +52,49 @@ fn asked_sites(alloc: Global, found: &ArgMatches<'_>) -> Result<Command, ToolFau
 }
 
 /// What the matches of the subcommand that tells what is held over the lines ask for.
-fn asked_timeline(alloc: Global, found: &ArgMatches<'_>) -> Result<Command, ToolFault>
-    ensures { MatchesGive (Some (codes "timeline", rows_of (found_of found.now))) result }
+fn asked_timeline(alloc: Global, matches: &ArgMatches<'_>) -> Result<Command, ToolFault>
+    ensures { MatchesGive (Some (codes "timeline", rows_of (found_of matches.now))) result }
 {
-    let Some(parts) = option_number(found, "points") else {
+    let Some(parts) = option_number(matches, "points") else {
         return Err(ToolFault::usage(alloc, NO_COMMAND));
     };
-    let log = word_of(alloc, found, "LOG")?;
-    let heap = heap_of(found);
+    let log = word_of(alloc, matches, "LOG")?;
+    let heap = heap_of(matches);
     let what = Rereading::Timeline { heap, parts };
     Ok(Command::Reread { what, log })
 }
 
 /// What the matches ask for that tell how many heaps by size there are at most.
-fn asked_parts(alloc: Global, heaps: u32, found: &ArgMatches<'_>) -> Result<Command, ToolFault>
-    requires heaps { HasNumber (rows_of (found_of found.now)) (codes "heaps") 32 heaps }
-    ensures { MatchesGive (Some (codes "fit", rows_of (found_of found.now))) result }
+fn asked_parts(alloc: Global, heaps: u32, matches: &ArgMatches<'_>) -> Result<Command, ToolFault>
+    requires heaps { HasNumber (rows_of (found_of matches.now)) (codes "heaps") 32 heaps }
+    ensures { MatchesGive (Some (codes "fit", rows_of (found_of matches.now))) result }
 {
-    if let Some(_step) = size_of(found, "step") {
+    if let Some(_step) = size_of(matches, "step") {
         return Err(ToolFault::usage(alloc, NO_STEP));
     }
-    let log = word_of(alloc, found, "LOG")?;
+    let log = word_of(alloc, matches, "LOG")?;
     Ok(Command::Parts { heaps, log })
 }
 
 /// What the matches of the subcommand that tries sizes ask for.
-fn asked_fit(alloc: Global, found: &ArgMatches<'_>) -> Result<Command, ToolFault>
-    ensures { MatchesGive (Some (codes "fit", rows_of (found_of found.now))) result }
+fn asked_fit(alloc: Global, matches: &ArgMatches<'_>) -> Result<Command, ToolFault>
+    ensures { MatchesGive (Some (codes "fit", rows_of (found_of matches.now))) result }
 {
-    if let Some(heaps) = option_number(found, "heaps") {
-        return asked_parts(alloc, heaps, found);
+    if let Some(heaps) = option_number(matches, "heaps") {
+        return asked_parts(alloc, heaps, matches);
     }
-    let step = size_of(found, "step");
-    let log = word_of(alloc, found, "LOG")?;
+    let step = size_of(matches, "step");
+    let log = word_of(alloc, matches, "LOG")?;
     let what = Rereading::Fit(step);
     Ok(Command::Reread { what, log })
 }
 
 /// What the matches of the subcommand that saves ask for.
-fn asked_save(alloc: Global, found: &ArgMatches<'_>) -> Result<Command, ToolFault>
-    ensures { MatchesGive (Some (codes "save", rows_of (found_of found.now))) result }
+fn asked_save(alloc: Global, matches: &ArgMatches<'_>) -> Result<Command, ToolFault>
+    ensures { MatchesGive (Some (codes "save", rows_of (found_of matches.now))) result }
 {
-    let (settings, log) = log_of(alloc, found)?;
-    let image = word_of(alloc, found, "IMAGE")?;
+    let (settings, log) = log_of(alloc, matches)?;
+    let image = word_of(alloc, matches, "IMAGE")?;
     Ok(Command::Save {
         settings,
         log,
@@ -103,18 +103,18 @@ fn asked_save(alloc: Global, found: &ArgMatches<'_>) -> Result<Command, ToolFaul
 }
 
 /// What the matches of the subcommand that checks ask for.
-fn asked_check(alloc: Global, found: &ArgMatches<'_>) -> Result<Command, ToolFault>
-    ensures { MatchesGive (Some (codes "check", rows_of (found_of found.now))) result }
+fn asked_check(alloc: Global, matches: &ArgMatches<'_>) -> Result<Command, ToolFault>
+    ensures { MatchesGive (Some (codes "check", rows_of (found_of matches.now))) result }
 {
-    let image = word_of(alloc, found, "IMAGE")?;
+    let image = word_of(alloc, matches, "IMAGE")?;
     Ok(Command::Check { image })
 }
 
 /// Whether the option of this id is there, which takes no value.
-fn has_flag(found: &ArgMatches<'_>, id: &str) -> bool
-    ensures { MatchBool result (HasFlag id.now (rows_of (found_of found.now))) (HasFlag id.now (rows_of (found_of found.now)) → ⊥) }
+fn has_flag(matches: &ArgMatches<'_>, id: &str) -> bool
+    ensures { MatchBool result (HasFlag id.now (rows_of (found_of matches.now))) (HasFlag id.now (rows_of (found_of matches.now)) → ⊥) }
 {
-    match found.get_str(id) {
+    match matches.get_str(id) {
         Some(word) => word == "true",
         None => false,
     }
@@ -125,13 +125,13 @@ fn asked_ledger(
     alloc: Global,
     name: Name,
     report: LedgerReport,
-    found: &ArgMatches<'_>,
+    matches: &ArgMatches<'_>,
 ) -> Result<Command, ToolFault>
-    requires none { HasNoHeap (rows_of (found_of found.now)) }
+    requires none { HasNoHeap (rows_of (found_of matches.now)) }
     requires name { IsOfReport report (name_text name) }
-    ensures { MatchesGive (Some (name_text name, rows_of (found_of found.now))) result }
+    ensures { MatchesGive (Some (name_text name, rows_of (found_of matches.now))) result }
 {
-    let (settings, log) = log_of(alloc, found)?;
+    let (settings, log) = log_of(alloc, matches)?;
     if settings != Settings::DEFAULT {
         return Err(ToolFault::usage(alloc, NO_SETTINGS));
     }
@@ -139,11 +139,11 @@ fn asked_ledger(
 }
 
 /// What the matches of the subcommand ask for of a report on a heap.
-fn asked_on_heap(alloc: Global, name: Name, found: &ArgMatches<'_>) -> Result<Command, ToolFault>
-    requires none { HasNoHeap (rows_of (found_of found.now)) → ⊥ }
-    ensures { MatchesGive (Some (name_text name, rows_of (found_of found.now))) result }
+fn asked_on_heap(alloc: Global, name: Name, matches: &ArgMatches<'_>) -> Result<Command, ToolFault>
+    requires none { HasNoHeap (rows_of (found_of matches.now)) → ⊥ }
+    ensures { MatchesGive (Some (name_text name, rows_of (found_of matches.now))) result }
 {
-    let (settings, log) = log_of(alloc, found)?;
+    let (settings, log) = log_of(alloc, matches)?;
     Ok(Command::Report {
         name,
         settings,
@@ -152,15 +152,15 @@ fn asked_on_heap(alloc: Global, name: Name, found: &ArgMatches<'_>) -> Result<Co
 }
 
 /// What the matches of a report's subcommand ask for.
-fn asked_report(alloc: Global, name: Name, found: &ArgMatches<'_>) -> Result<Command, ToolFault>
-    ensures { MatchesGive (Some (name_text name, rows_of (found_of found.now))) result }
+fn asked_report(alloc: Global, name: Name, matches: &ArgMatches<'_>) -> Result<Command, ToolFault>
+    ensures { MatchesGive (Some (name_text name, rows_of (found_of matches.now))) result }
 {
-    if !has_flag(found, "no-heap") {
-        return asked_on_heap(alloc, name, found);
+    if !has_flag(matches, "no-heap") {
+        return asked_on_heap(alloc, name, matches);
     }
     match name {
-        Name::Leaks => asked_ledger(alloc, name, LedgerReport::Held, found),
-        Name::Peak => asked_ledger(alloc, name, LedgerReport::Sums, found),
+        Name::Leaks => asked_ledger(alloc, name, LedgerReport::Held, matches),
+        Name::Peak => asked_ledger(alloc, name, LedgerReport::Sums, matches),
         Name::Walk => Err(ToolFault::usage(alloc, NO_COMMAND)),
     }
 }
@@ -169,19 +169,19 @@ fn asked_report(alloc: Global, name: Name, found: &ArgMatches<'_>) -> Result<Com
 fn asked(alloc: Global, matches: &ArgMatches<'_>) -> Result<Command, ToolFault>
     ensures { MatchesGive (subcommand_rows_of matches.now) result }
 {
-    let Some((text, found)) = matches.subcommand() else {
+    let Some((text, sub_matches)) = matches.subcommand() else {
         return Err(ToolFault::usage(alloc, NO_COMMAND));
     };
     match text {
-        "sites" => asked_sites(alloc, found),
-        "timeline" => asked_timeline(alloc, found),
-        "fit" => asked_fit(alloc, found),
-        "save" => asked_save(alloc, found),
-        "size" => asked_size(alloc, found),
-        "check" => asked_check(alloc, found),
-        "leaks" => asked_report(alloc, Name::Leaks, found),
-        "peak" => asked_report(alloc, Name::Peak, found),
-        "walk" => asked_report(alloc, Name::Walk, found),
+        "sites" => asked_sites(alloc, sub_matches),
+        "timeline" => asked_timeline(alloc, sub_matches),
+        "fit" => asked_fit(alloc, sub_matches),
+        "save" => asked_save(alloc, sub_matches),
+        "size" => asked_size(alloc, sub_matches),
+        "check" => asked_check(alloc, sub_matches),
+        "leaks" => asked_report(alloc, Name::Leaks, sub_matches),
+        "peak" => asked_report(alloc, Name::Peak, sub_matches),
+        "walk" => asked_report(alloc, Name::Walk, sub_matches),
         _ => Err(ToolFault::usage(alloc, NO_COMMAND)),
     }
 }

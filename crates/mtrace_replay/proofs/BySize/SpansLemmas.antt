@@ -9,7 +9,7 @@ use Rattle.mtrace_replay.specs.declared.parts.span.Span.{Span}
 use Rattle.mtrace_replay.specs.declared.parts.spans.Block.{Block}
 use Rattle.mtrace_replay.specs.Moment.{ReadLine, Given, Moment, plan}
 use Rattle.mtrace_replay.specs.History.{held, given_or, pending, unless_taken, AreHeld}
-use Rattle.mtrace_replay.specs.Step.{found}
+use Rattle.mtrace_replay.specs.Step.{held_given}
 use Rattle.mtrace_replay.specs.Totals.{is_served, Measures, IsMost}
 use Rattle.mtrace_replay.specs.Asked.{class_asked}
 use Rattle.mtrace_replay.specs.Served.{served_moment, served_moments}
@@ -18,7 +18,7 @@ use Rattle.mtrace_replay.specs.Spans.{has_range, with_block, hits, released, Agr
 use Rattle.mtrace_replay.proofs.History.FoundLemmas.{found_is_held}
 use Rattle.mtrace_replay.proofs.History.HeldSums.{held_behind}
 use Rattle.mtrace_replay.proofs.History.TotalsLemmas.{none_measured, most_none, most_goes_on}
-use Rattle.mtrace_replay.proofs.History.HeldCounts.{put, one_if, rest_of, count-put, count-without}
+use Rattle.mtrace_replay.proofs.History.HeldCounts.{put, one_if, still_held, count-put, count-without}
 use Rattle.mtrace_replay.proofs.History.LineChange.{IsChange, line_change}
 
 module _ (asked : ℕ → Option ℕ) (span : Span) where
@@ -39,12 +39,12 @@ module _ (asked : ℕ → Option ℕ) (span : Span) where
       by_class None = omega arith
       by_class (Some size) = by_hit (has_range span (range_of size))
 
-  count-rest : (held : ℕ → Option Given) (address : Option ℕ) (all : List Given) → ((q : ℕ) → found all q ≡ held q) → span.live ≡ count_by passes all
-      → (released (range_released (range_held asked held) address) span).live ≡ count_by passes (rest_of address all)
+  count-rest : (held : ℕ → Option Given) (address : Option ℕ) (all : List Given) → ((q : ℕ) → held_given all q ≡ held q) → span.live ≡ count_by passes all
+      → (released (range_released (range_held asked held) address) span).live ≡ count_by passes (still_held address all)
   count-rest held None all finds is = is
   count-rest held (Some address) all finds is =
       let fewer = count-without passes address all in
-      let its : one_if passes (found all address) ≡ one_if passes (held address) = ap (one_if passes) (finds address) in
+      let its : one_if passes (held_given all address) ≡ one_if passes (held address) = ap (one_if passes) (finds address) in
       let one = one_released (held address) in
       omega (arith, fewer, its, one, is)
 
@@ -91,12 +91,12 @@ module _ (past : List ReadLine) (line : ReadLine) where
   -- what is held behind the line, in order
   module _ (all : List Given) (are : AreHeld all (served_moments past)) where
     -- nothing is given
-    held_without : its.given ≡ None → AreHeld (rest_of taken all) (served_moments (line ∷ past))
+    held_without : its.given ≡ None → AreHeld (still_held taken all) (served_moments (line ∷ past))
     unfolding served_moments
     held_without none = held_behind (served_moments past) its taken changes.taken all are None none (λ given is. absurd (cc))
 
     -- a block is given
-    held_with : (given : Given) → its.given ≡ Some given → unless_taken its.taken given.entry.addr (before given.entry.addr) ≡ None → AreHeld (put given (rest_of taken all)) (served_moments (line ∷ past))
+    held_with : (given : Given) → its.given ≡ Some given → unless_taken its.taken given.entry.addr (before given.entry.addr) ≡ None → AreHeld (put given (still_held taken all)) (served_moments (line ∷ past))
     unfolding served_moments
     held_with given gave vacant = held_behind (served_moments past) its taken changes.taken all are (Some given) gave
         (λ other is. subst (λ (g : Given). unless_taken its.taken g.entry.addr (before g.entry.addr) ≡ None) (let same : given ≡ other = cc in same) vacant)
@@ -115,7 +115,7 @@ module _ (past : List ReadLine) (line : ReadLine) where
         by_hit false = omega arith
 
     left_counts : (asked : ℕ → Option ℕ) → Agrees asked past → (all : List Given) → AreHeld all (served_moments past) → span.live ≡ blocks_of asked span.first span.last all
-        → left.live ≡ blocks_of asked span.first span.last (rest_of taken all)
+        → left.live ≡ blocks_of asked span.first span.last (still_held taken all)
     left_counts asked agrees all are counted =
         ap (λ range. (released range span).live) (same_range taken)
         ∙ count-rest asked span before taken all (found_is_held all (served_moments past) are) counted
@@ -130,7 +130,7 @@ module _ (past : List ReadLine) (line : ReadLine) where
     span_without none = one_line_more past line span is left.live span.most span.size
         (λ asked agrees.
         let was = is.live asked agrees.1 in
-        record { all = rest_of taken was.all; held = held_without was.all was.held none; measured = left_counts asked agrees.1 was.all was.held was.measured })
+        record { all = still_held taken was.all; held = held_without was.all was.held none; measured = left_counts asked agrees.1 was.all was.held was.measured })
         (omega (arith, left_few, is.raised))
         (is.size ∙ ap (λ (o : Option Given). largest span.first span.last (if is_some o then class_asked line ∷ served_classes past else served_classes past)) (sym none))
         (omega (arith, left_few, is.few))
@@ -165,7 +165,7 @@ module _ (past : List ReadLine) (line : ReadLine) where
       span_with = one_line_more past line span is (if hit then left.live + 1 else left.live) (if hit then max span.most (left.live + 1) else span.most) (if hit then max size span.size else span.size)
           (λ asked agrees.
           let was = is.live asked agrees.1 in
-          let rest = rest_of taken was.all in
+          let rest = still_held taken was.all in
           let left_is : left.live ≡ blocks_of asked span.first span.last rest = left_counts asked agrees.1 was.all was.held was.measured in
           let passes_is : one_if (passes asked span) (Some given) ≡ cond hit 1 0 = ap (λ (class : Option ℕ). cond (is_in span.first span.last class) 1 0) (ap asked (facts given gave).0 ∙ agrees.0 ∙ has_class) in
           let counts = count-put (passes asked span) given rest in

@@ -31,12 +31,12 @@ use Rattle.mtrace_replay.specs.History.{AreHeld, held, moments, next_moment, con
 use Rattle.mtrace_replay.specs.Totals.{is_refused}
 use Rattle.mtrace_replay.specs.Enough.{HoldsAtMost, act_of}
 use Rattle.mtrace_replay.specs.Served.{served, served_moment, served_moments, unplaced}
-use Rattle.mtrace_replay.specs.Step.{found}
+use Rattle.mtrace_replay.specs.Step.{held_given}
 use Rattle.mtrace_replay.specs.OneSize.{served_act, served_acts, AsksForSize, rounded_up}
 use Rattle.mtrace_replay.proofs.History.TotalsLemmas.{AreAllFree, first_moments_all, started_free}
 use Rattle.mtrace_replay.proofs.History.Moments.{moments-none, moments-line}
 use Rattle.mtrace_replay.proofs.History.PlanLemmas.{Fits, is_planned}
-use Rattle.mtrace_replay.proofs.History.HeldCounts.{Rise, without, rise-without, found-without}
+use Rattle.mtrace_replay.proofs.History.HeldCounts.{Rise, without, rise-without, held_given-without}
 use Rattle.mtrace_replay.proofs.History.SortedLemmas.{addresses}
 use Rattle.mtrace_replay.proofs.History.FoundLemmas.{found_is_held, held_as_found}
 use Rattle.mtrace_replay.proofs.Enough.LineOnHeap.{IsRefusedAs, leaves_moment}
@@ -64,11 +64,11 @@ bare_asks size (move old place entry) asks = asks
 
 -- ---- what is held behind a line that was given a block
 
-length-without : (a : ℕ) (es : List Given) (given : Given) → found es a ≡ Some given → length es ≡ suc (length (without a es))
+length-without : (a : ℕ) (es : List Given) (given : Given) → held_given es a ≡ Some given → length es ≡ suc (length (without a es))
 length-without a [] given is = absurd (cc)
 length-without a (f ∷ fs) given is = by (length-without a fs given) (f.entry.addr == a) is
   where
-    by : (found fs a ≡ Some given → length fs ≡ suc (length (without a fs))) → (b : Bool) → cond b (Some f) (found fs a) ≡ Some given → suc (length fs) ≡ suc (length (cond b fs (f ∷ without a fs)))
+    by : (held_given fs a ≡ Some given → length fs ≡ suc (length (without a fs))) → (b : Bool) → cond b (Some f) (held_given fs a) ≡ Some given → suc (length fs) ≡ suc (length (cond b fs (f ∷ without a fs)))
     by more true here = refl
     by more false later = ap suc (more later)
 
@@ -76,7 +76,7 @@ length-without a (f ∷ fs) given is = by (length-without a fs given) (f.entry.a
 one_more_held : (new : Given) (one : Moment) (past : List Moment) (all : List Given) → one.given ≡ Some new → one.taken ≡ None → held past new.entry.addr ≡ None → AreHeld all (one ∷ past)
     → AreHeld (without new.entry.addr all) past × (length all ≡ suc (length (without new.entry.addr all)))
 one_more_held new one past all gave took none are =
-    (held_as_found (without address all) past (IsStrictlyIncreasing-from_sorted (addresses (without address all)) (rise-without address all rise)) (λ q. found-without address all rise q ∙ at q), length-without address all new (found_is_held all (one ∷ past) are address ∙ after address ∙ here address refl))
+    (held_as_found (without address all) past (IsStrictlyIncreasing-from_sorted (addresses (without address all)) (rise-without address all rise)) (λ q. held_given-without address all rise q ∙ at q), length-without address all new (found_is_held all (one ∷ past) are address ∙ after address ∙ here address refl))
   where
     address : ℕ
     address = new.entry.addr
@@ -90,10 +90,10 @@ one_more_held new one past all gave took none are =
     here : (q : ℕ) → address ≡ q → cond (address == q) (Some new) (held past q) ≡ Some new
     here q same = ap (λ b. cond b (Some new) (held past q)) (eq-eqb address q same)
 
-    at : (q : ℕ) → cond (address == q) None (found all q) ≡ held past q
+    at : (q : ℕ) → cond (address == q) None (held_given all q) ≡ held past q
     at q = elim (cases_Bool (address == q)) [
-      | inl same ↦ ap (λ b. cond b None (found all q)) same ∙ sym none ∙ ap (held past) (eqb-true address q same)
-      | inr other ↦ ap (λ b. cond b None (found all q)) other ∙ found_is_held all (one ∷ past) are q ∙ after q ∙ ap (λ b. cond b (Some new) (held past q)) other
+      | inl same ↦ ap (λ b. cond b None (held_given all q)) same ∙ sym none ∙ ap (held past) (eqb-true address q same)
+      | inr other ↦ ap (λ b. cond b None (held_given all q)) other ∙ found_is_held all (one ∷ past) are q ∙ after q ∙ ap (λ b. cond b (Some new) (held past q)) other
     ]
 
 module _ (blocks size base : ℕ) (lowest : IsLowest size) where

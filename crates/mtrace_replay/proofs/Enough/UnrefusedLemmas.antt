@@ -15,7 +15,7 @@ use Rattle.mtrace_replay.specs.Started.{Bare}
 use Rattle.mtrace_replay.specs.Moment.{ReadLine, Given, Moment, Plan, Act, idle, give, take, move, plan, allocation, release, reallocation, renewal, none_for, doing, done, moment, answered, moved, asked_size, after_diagnostics, half, is_new}
 use Rattle.mtrace_replay.specs.History.{held, given_or, unless_taken, pending, notes, AreHeld, entries_of, moments, next_moment, content_after}
 use Rattle.mtrace_replay.specs.Totals.{is_served, is_refused, is_refusal, Measures, IsPeak, bytes_in, blocks_in, first_moments, AreTotals}
-use Rattle.mtrace_replay.specs.Step.{found}
+use Rattle.mtrace_replay.specs.Step.{held_given}
 use Rattle.mtrace_replay.specs.RunServed.{AreServedTotals}
 use Rattle.mtrace_replay.specs.declared.heap.totals.Totals.{Totals}
 use Rattle.mtrace_replay.specs.declared.heap.point.Point.{Point}
@@ -254,12 +254,12 @@ length_unplaced_all : (all : List Given) → length (unplaced_all all) ≡ lengt
 length_unplaced_all [] = refl
 length_unplaced_all (given ∷ all) = ap suc (length_unplaced_all all)
 
-found_bare : (all : List Given) (address : ℕ) → found (unplaced_all all) address ≡ bare (found all address)
+found_bare : (all : List Given) (address : ℕ) → held_given (unplaced_all all) address ≡ bare (held_given all address)
 found_bare [] address = refl
 found_bare (given ∷ all) address = by (given.entry.addr == address) (found_bare all address)
   where
-    by : (b : Bool) → found (unplaced_all all) address ≡ bare (found all address)
-        → cond b (Some (unplaced given.entry)) (found (unplaced_all all) address) ≡ bare (cond b (Some given) (found all address))
+    by : (b : Bool) → held_given (unplaced_all all) address ≡ bare (held_given all address)
+        → cond b (Some (unplaced given.entry)) (held_given (unplaced_all all) address) ≡ bare (cond b (Some given) (held_given all address))
     by true more = refl
     by false more = more
 
@@ -298,20 +298,20 @@ module _ (past : List Moment) where
       ap (λ (entry : Entry). entry.addr ∷ addresses (map placed all)) (placed_is given (each given (has_first address_of given all))).1
       ∙ ap (λ (more : List ℕ). given.entry.addr ∷ more) (addresses_placed all (each_behind given all each))
 
-  found_placed : (all : List Given) → AreEach all → (address : ℕ) → found (map placed all) address ≡ cond (is_some (found all address)) (held past address) None
+  found_placed : (all : List Given) → AreEach all → (address : ℕ) → held_given (map placed all) address ≡ cond (is_some (held_given all address)) (held past address) None
   found_placed [] each address = refl
   found_placed (given ∷ all) each address =
       let here = placed_is given (each given (has_first address_of given all)) in
       let more = found_placed all (each_behind given all each) address in
-      ap (λ (entry : Entry). cond (entry.addr == address) (Some (placed given)) (found (map placed all) address)) here.1
+      ap (λ (entry : Entry). cond (entry.addr == address) (Some (placed given)) (held_given (map placed all) address)) here.1
       ∙ elim (cases_Bool (given.entry.addr == address)) [
         | inl same ↦
             let at : held past address ≡ Some (placed given) = subst (λ a. held past a ≡ Some (placed given)) (eqb-true given.entry.addr address same) here.0 in
-            ap (λ b. cond b (Some (placed given)) (found (map placed all) address)) same
-            ∙ sym at ∙ sym (ap (λ b. cond (is_some (cond b (Some given) (found all address))) (held past address) None) same)
+            ap (λ b. cond b (Some (placed given)) (held_given (map placed all) address)) same
+            ∙ sym at ∙ sym (ap (λ b. cond (is_some (cond b (Some given) (held_given all address))) (held past address) None) same)
         | inr other ↦
-            ap (λ b. cond b (Some (placed given)) (found (map placed all) address)) other
-            ∙ more ∙ sym (ap (λ b. cond (is_some (cond b (Some given) (found all address))) (held past address) None) other)
+            ap (λ b. cond b (Some (placed given)) (held_given (map placed all) address)) other
+            ∙ more ∙ sym (ap (λ b. cond (is_some (cond b (Some given) (held_given all address))) (held past address) None) other)
       ]
 
   none_bare : (here there : Option Given) → bare here ≡ there → cond (is_some there) here None ≡ here
@@ -333,7 +333,7 @@ module _ (past : List Moment) where
     held_back =
         held_as_found (map placed all) past (subst IsStrictlyIncreasing (sym (addresses_placed all each_is)) are.in_order)
         (λ address. found_placed all each_is address
-        ∙ none_bare (held past address) (found all address) (sym (held_plain past address) ∙ sym (found_is_held all (map plain past) are address)))
+        ∙ none_bare (held past address) (held_given all address) (sym (held_plain past address) ∙ sym (found_is_held all (map plain past) are address)))
 
 -- ---- the sums
 

@@ -11,7 +11,7 @@ use Rattle.mtrace_replay.specs.Texts.{total_size}
 use Rattle.mtrace_replay.specs.Entry.{Entry}
 use Rattle.std.proofs.lemmas.List.Sums.{sum_by-cons}
 use Rattle.mtrace_replay.specs.History.{AreHeld, given_or, unless_taken, held, entries_of}
-use Rattle.mtrace_replay.specs.Step.{found, all_given}
+use Rattle.mtrace_replay.specs.Step.{held_given, all_given}
 use Rattle.mtrace_replay.proofs.History.SortedLemmas.{address_of, addresses, is_found, found_in}
 
 -- what an address is held under has that address
@@ -45,16 +45,16 @@ same_answer None (Some given) there back = back given refl
 same_answer (Some given) other there back = sym (there given refl)
 
 -- a look-up finds what is held
-pub found_is_held : (all : List Given) (past : List Moment) → AreHeld all past → (address : ℕ) → found all address ≡ held past address
-found_is_held all past are address = same_answer (found all address) (held past address)
+pub found_is_held : (all : List Given) (past : List Moment) → AreHeld all past → (address : ℕ) → held_given all address ≡ held past address
+found_is_held all past are address = same_answer (held_given all address) (held past address)
     (λ given is. let there = found_in address_of all address given is in subst (λ a. held past a ≡ Some given) there.1 ((are.each given).0 there.0))
     (λ given is.
     let same = held_address past address given is in
-    subst (λ a. found all a ≡ Some given) same
+    subst (λ a. held_given all a ≡ Some given) same
     (is_found address_of all given (sorted_from_strictly_increasing (addresses all) are.in_order) ((are.each given).1 (subst (λ a. held past a ≡ Some given) (sym same) is))))
 
 -- a list in order whose look-ups find what is held
-pub held_as_found : (all : List Given) (past : List Moment) → IsStrictlyIncreasing (addresses all) → ((address : ℕ) → found all address ≡ held past address) → AreHeld all past
+pub held_as_found : (all : List Given) (past : List Moment) → IsStrictlyIncreasing (addresses all) → ((address : ℕ) → held_given all address ≡ held past address) → AreHeld all past
 held_as_found all past ordered same = record {
   in_order = ordered;
   each = (λ given. (

@@ -9,7 +9,7 @@ use Rattle.std.proofs.lemmas.Bool.Decides.{nat_tests}
 use Rattle.std.proofs.lemmas.List.Sums.{sum_by-cons}
 use Rattle.mtrace_replay.specs.Moment.{Given}
 use Rattle.mtrace_replay.specs.History.{unless_taken}
-use Rattle.mtrace_replay.specs.Step.{found}
+use Rattle.mtrace_replay.specs.Step.{held_given}
 use Rattle.mtrace_replay.specs.Needs.{of_one}
 use Rattle.mtrace_replay.proofs.History.SortedLemmas.{addresses}
 
@@ -27,15 +27,15 @@ abbrev pub without : ℕ → List Given → List Given
 without address [] = []
 without address (first ∷ rest) = if first.entry.addr == address then rest else first ∷ without address rest
 
-pub found-put : (e : Given) (es : List Given) (a : ℕ) → found (put e es) a ≡ cond (e.entry.addr == a) (Some e) (found es a)
-found-put e [] a = refl
-found-put e (f ∷ fs) a = by_order (found-put e fs a) (nat_lt f.entry.addr e.entry.addr) refl
+pub held_given-put : (e : Given) (es : List Given) (a : ℕ) → held_given (put e es) a ≡ cond (e.entry.addr == a) (Some e) (held_given es a)
+held_given-put e [] a = refl
+held_given-put e (f ∷ fs) a = by_order (held_given-put e fs a) (nat_lt f.entry.addr e.entry.addr) refl
   where
-    by_first : (found (put e fs) a ≡ cond (e.entry.addr == a) (Some e) (found fs a)) → f.entry.addr < e.entry.addr → (b : Bool) → (f.entry.addr == a) ≡ b → cond b (Some f) (found (put e fs) a) ≡ cond (e.entry.addr == a) (Some e) (cond b (Some f) (found fs a))
+    by_first : (held_given (put e fs) a ≡ cond (e.entry.addr == a) (Some e) (held_given fs a)) → f.entry.addr < e.entry.addr → (b : Bool) → (f.entry.addr == a) ≡ b → cond b (Some f) (held_given (put e fs) a) ≡ cond (e.entry.addr == a) (Some e) (cond b (Some f) (held_given fs a))
     by_first later lower false is = later
     by_first later lower true is = let other : (e.entry.addr == a) ≡ false = grind (arith, nat_tests) in sym (cond-false (e.entry.addr == a) (Some e) (Some f) other)
 
-    by_order : (found (put e fs) a ≡ cond (e.entry.addr == a) (Some e) (found fs a)) → (b : Bool) → nat_lt f.entry.addr e.entry.addr ≡ b → found (cond b (f ∷ put e fs) (e ∷ (f ∷ fs))) a ≡ cond (e.entry.addr == a) (Some e) (found (f ∷ fs) a)
+    by_order : (held_given (put e fs) a ≡ cond (e.entry.addr == a) (Some e) (held_given fs a)) → (b : Bool) → nat_lt f.entry.addr e.entry.addr ≡ b → held_given (cond b (f ∷ put e fs) (e ∷ (f ∷ fs))) a ≡ cond (e.entry.addr == a) (Some e) (held_given (f ∷ fs) a)
     by_order later false is = refl
     by_order later true is = by_first later (grind (arith, nat_tests)) (f.entry.addr == a) refl
 
@@ -56,14 +56,14 @@ all_above low high less (a ∷ rest) above = (by_first above.0, all_above low hi
     by_first first = grind (arith, nat_tests)
 
 -- what isn't found at the first isn't the first
-not_first : (f : Given) (fs : List Given) (a : ℕ) → found (f ∷ fs) a ≡ None → ((f.entry.addr == a) ≡ false) × (found fs a ≡ None)
+not_first : (f : Given) (fs : List Given) (a : ℕ) → held_given (f ∷ fs) a ≡ None → ((f.entry.addr == a) ≡ false) × (held_given fs a ≡ None)
 not_first f fs a none = by_first (f.entry.addr == a) none
   where
-    by_first : (b : Bool) → cond b (Some f) (found fs a) ≡ None → (b ≡ false) × (found fs a ≡ None)
+    by_first : (b : Bool) → cond b (Some f) (held_given fs a) ≡ None → (b ≡ false) × (held_given fs a ≡ None)
     by_first true is = absurd (cc)
     by_first false is = (refl, is)
 
-pub rise-put : (e : Given) (es : List Given) → Rise es → found es e.entry.addr ≡ None → Rise (put e es)
+pub rise-put : (e : Given) (es : List Given) → Rise es → held_given es e.entry.addr ≡ None → Rise (put e es)
 unfolding IsStrictlySortedBy
 rise-put e [] sorted apart = (tt, tt)
 rise-put e (f ∷ fs) sorted apart = by_order (rise-put e fs sorted.1 (not_first f fs e.entry.addr apart).1) (nat_lt f.entry.addr e.entry.addr) refl
@@ -83,11 +83,11 @@ sum-put m e (f ∷ fs) = by_order (sum-put m e fs) (nat_lt f.entry.addr e.entry.
     by_order later false = sum_by-cons m e (f ∷ fs)
     by_order later true = let first = sum_by-cons m f (put e fs) in let rest = sum_by-cons m f fs in omega (arith, later, first, rest)
 
-pub sum-without : (m : Given → ℕ) (a : ℕ) (es : List Given) → sum_by m es ≡ of_one m (found es a) + sum_by m (without a es)
+pub sum-without : (m : Given → ℕ) (a : ℕ) (es : List Given) → sum_by m es ≡ of_one m (held_given es a) + sum_by m (without a es)
 sum-without m a [] = refl
 sum-without m a (f ∷ fs) = by_first (sum-without m a fs) (f.entry.addr == a)
   where
-    by_first : sum_by m fs ≡ of_one m (found fs a) + sum_by m (without a fs) → (b : Bool) → sum_by m (f ∷ fs) ≡ of_one m (cond b (Some f) (found fs a)) + sum_by m (cond b fs (f ∷ without a fs))
+    by_first : sum_by m fs ≡ of_one m (held_given fs a) + sum_by m (without a fs) → (b : Bool) → sum_by m (f ∷ fs) ≡ of_one m (cond b (Some f) (held_given fs a)) + sum_by m (cond b fs (f ∷ without a fs))
     by_first later true = sum_by-cons m f fs
     by_first later false = let first = sum_by-cons m f fs in let rest = sum_by-cons m f (without a fs) in omega (arith, later, first, rest)
 
@@ -98,7 +98,7 @@ one_if p held = of_one (λ given. if p given then 1 else 0) held
 pub count-put : (p : Given → Bool) (e : Given) (es : List Given) → count_by p (put e es) ≡ one_if p (Some e) + count_by p es
 count-put p e es = sum-put (λ given. if p given then 1 else 0) e es
 
-pub count-without : (p : Given → Bool) (a : ℕ) (es : List Given) → count_by p es ≡ one_if p (found es a) + count_by p (without a es)
+pub count-without : (p : Given → Bool) (a : ℕ) (es : List Given) → count_by p es ≡ one_if p (held_given es a) + count_by p (without a es)
 count-without p a es = sum-without (λ given. if p given then 1 else 0) a es
 
 all-without : (P : ℕ → Type 0) (a : ℕ) (es : List Given) → AllByRecursion P (addresses es) → AllByRecursion P (addresses (without a es))
@@ -119,54 +119,54 @@ rise-without a (f ∷ fs) sorted = by_first (rise-without a fs sorted.1) (f.entr
     by_first later false = (all-without (λ (b : ℕ). nat_cmp f.entry.addr b ≡ Less) a fs sorted.0, later)
 
 -- what is below all isn't found
-none_below : (a : ℕ) (es : List Given) → AllByRecursion (λ (b : ℕ). nat_cmp a b ≡ Less) (addresses es) → found es a ≡ None
+none_below : (a : ℕ) (es : List Given) → AllByRecursion (λ (b : ℕ). nat_cmp a b ≡ Less) (addresses es) → held_given es a ≡ None
 none_below a [] all = refl
 none_below a (f ∷ fs) all =
     let other : (f.entry.addr == a) ≡ false = (let first = all.0 in grind (arith, nat_tests)) in
-    ap (λ b. cond b (Some f) (found fs a)) other ∙ none_below a fs all.1
+    ap (λ b. cond b (Some f) (held_given fs a)) other ∙ none_below a fs all.1
 
-pub found-without : (a : ℕ) (es : List Given) → Rise es → (q : ℕ) → found (without a es) q ≡ cond (a == q) None (found es q)
+pub held_given-without : (a : ℕ) (es : List Given) → Rise es → (q : ℕ) → held_given (without a es) q ≡ cond (a == q) None (held_given es q)
 unfolding IsStrictlySortedBy
-found-without a [] sorted q = by_none (a == q)
+held_given-without a [] sorted q = by_none (a == q)
   where
     by_none : (b : Bool) → (let none : Option Given = None in none ≡ cond b None none)
     by_none true = refl
     by_none false = refl
-found-without a (f ∷ fs) sorted q = by_first (found-without a fs sorted.1 q) (f.entry.addr == a) refl
+held_given-without a (f ∷ fs) sorted q = by_first (held_given-without a fs sorted.1 q) (f.entry.addr == a) refl
   where
-    apart : (f.entry.addr == a) ≡ true → (b : Bool) → (a == q) ≡ b → found fs q ≡ cond b None (cond (f.entry.addr == q) (Some f) (found fs q))
+    apart : (f.entry.addr == a) ≡ true → (b : Bool) → (a == q) ≡ b → held_given fs q ≡ cond b None (cond (f.entry.addr == q) (Some f) (held_given fs q))
     apart here true is =
         let same : f.entry.addr ≡ q = eqb-true f.entry.addr a here ∙ eqb-true a q is in
-        ap (λ b. found fs b) (sym same) ∙ none_below f.entry.addr fs sorted.0
+        ap (λ b. held_given fs b) (sym same) ∙ none_below f.entry.addr fs sorted.0
     apart here false is =
         let other : (f.entry.addr == q) ≡ false = ap (λ b. b == q) (eqb-true f.entry.addr a here) ∙ is in
-        sym (ap (λ b. cond b (Some f) (found fs q)) other)
+        sym (ap (λ b. cond b (Some f) (held_given fs q)) other)
 
-    later_on : (found (without a fs) q ≡ cond (a == q) None (found fs q)) → (f.entry.addr == a) ≡ false → (b : Bool) → (f.entry.addr == q) ≡ b
-        → cond b (Some f) (found (without a fs) q) ≡ cond (a == q) None (cond b (Some f) (found fs q))
+    later_on : (held_given (without a fs) q ≡ cond (a == q) None (held_given fs q)) → (f.entry.addr == a) ≡ false → (b : Bool) → (f.entry.addr == q) ≡ b
+        → cond b (Some f) (held_given (without a fs) q) ≡ cond (a == q) None (cond b (Some f) (held_given fs q))
     later_on later there false is = later
     later_on later there true is =
         let other : (a == q) ≡ false = grind (arith, nat_tests) in
         sym (ap (λ b. cond b None (Some f)) other)
 
-    by_first : (found (without a fs) q ≡ cond (a == q) None (found fs q)) → (b : Bool) → (f.entry.addr == a) ≡ b → found (cond b fs (f ∷ without a fs)) q ≡ cond (a == q) None (found (f ∷ fs) q)
+    by_first : (held_given (without a fs) q ≡ cond (a == q) None (held_given fs q)) → (b : Bool) → (f.entry.addr == a) ≡ b → held_given (cond b fs (f ∷ without a fs)) q ≡ cond (a == q) None (held_given (f ∷ fs) q)
     by_first later true is = apart is (a == q) refl
     by_first later false is = later_on later is (f.entry.addr == q) refl
 
 -- what was held before, but for what was released
-abbrev pub rest_of : Option ℕ → List Given → List Given
-rest_of None all = all
-rest_of (Some address) all = without address all
+abbrev pub still_held : Option ℕ → List Given → List Given
+still_held None all = all
+still_held (Some address) all = without address all
 
 -- and then perhaps one more
 abbrev pub with_given : Option Given → List Given → List Given
 with_given None all = all
 with_given (Some given) all = put given all
 
-pub rise-rest : (address : Option ℕ) (all : List Given) → Rise all → Rise (rest_of address all)
+pub rise-rest : (address : Option ℕ) (all : List Given) → Rise all → Rise (still_held address all)
 rise-rest None all rise = rise
 rise-rest (Some address) all rise = rise-without address all rise
 
-pub found-rest : (address : Option ℕ) (all : List Given) → Rise all → (q : ℕ) → found (rest_of address all) q ≡ unless_taken address q (found all q)
-found-rest None all rise q = refl
-found-rest (Some address) all rise q = found-without address all rise q
+pub held_given-rest : (address : Option ℕ) (all : List Given) → Rise all → (q : ℕ) → held_given (still_held address all) q ≡ unless_taken address q (held_given all q)
+held_given-rest None all rise q = refl
+held_given-rest (Some address) all rise q = held_given-without address all rise q

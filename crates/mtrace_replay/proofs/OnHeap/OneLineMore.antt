@@ -9,7 +9,7 @@ use Rattle.mtrace_replay.specs.Started.{Bare, started}
 use Rattle.mtrace_replay.specs.Moment.{ReadLine, Given, Moment, outcome, moment, is_new, half}
 use Rattle.mtrace_replay.specs.History.{entries_of, AreHeld, held, given_or, unless_taken, held_after, moments, content_after, pending, old_address}
 use Rattle.mtrace_replay.specs.Replay.{Replayed, StandsFor, added_diagnostics}
-use Rattle.mtrace_replay.specs.Step.{given_of, all_given, found, Comes, AreLive}
+use Rattle.mtrace_replay.specs.Step.{given_of, all_given, held_given, Comes, AreLive}
 use Rattle.mtrace_replay.proofs.History.FoundLemmas.{found_is_held, held_as_found}
 use Rattle.std.specs.List.{Contains, list_any}
 use Rattle.std.proofs.lemmas.Bool.{eq-eqb}
@@ -32,7 +32,7 @@ use Rattle.mtrace_replay.proofs.History.SortedLemmas.{addresses}
 
 module _ (old new : Replayed) (settings : Settings) (past : List ReadLine) (line : ReadLine) (diagnostics : List Diagnostic) (end : Option ℕ) (number : ℕ)
     (stands : StandsFor old settings past) (next : number ≡ old.totals.lines + 1)
-    (comes : Comes old.content new.content old.given new.given diagnostics end (outcome number line old.pending (found old.given) old.content)) where
+    (comes : Comes old.content new.content old.given new.given diagnostics end (outcome number line old.pending (held_given old.given) old.content)) where
   before : List Moment
   before = moments (started settings) past
 
@@ -43,11 +43,11 @@ module _ (old new : Replayed) (settings : Settings) (past : List ReadLine) (line
   its_outcome : Moment
   its_outcome = outcome (suc (length past)) line (pending past) (held before) (content_after (started settings) before)
 
-  outcome_is : outcome number line old.pending (found old.given) old.content ≡ its_outcome
+  outcome_is : outcome number line old.pending (held_given old.given) old.content ≡ its_outcome
   unfolding its_outcome before
   outcome_is =
-      ap (λ n. outcome n line old.pending (found old.given) old.content) (next ∙ omega (arith, stands.lines_are))
-      ∙ ap (λ p. outcome (suc (length past)) line p (found old.given) old.content) stands.pending_is
+      ap (λ n. outcome n line old.pending (held_given old.given) old.content) (next ∙ omega (arith, stands.lines_are))
+      ∙ ap (λ p. outcome (suc (length past)) line p (held_given old.given) old.content) stands.pending_is
       ∙ ap (λ look. outcome (suc (length past)) line (pending past) look old.content) (fun_ext (found_is_held old.given (moments (started settings) past) stands.held))
       ∙ ap (outcome (suc (length past)) line (pending past) (held (moments (started settings) past))) stands.content_is
 
@@ -87,11 +87,11 @@ module _ (old new : Replayed) (settings : Settings) (past : List ReadLine) (line
         → (block : Block (Unit {0})) × Contains (blocks_of (bare heap).pools) block × (is_free block ≡ false) × (block.place + block.size ≡ given.place + size_at given.place (blocks_of heap.pools))
     given_lives given is =
         let address = given.entry.addr in
-        let gave : held_after its_outcome (found old.given) address ≡ Some given =
-        ap (λ g. given_or g address (unless_taken its_outcome.taken address (found old.given address))) is
-        ∙ ap (λ b. cond b (Some given) (unless_taken its_outcome.taken address (found old.given address))) (eq-eqb address address refl) in
+        let gave : held_after its_outcome (held_given old.given) address ≡ Some given =
+        ap (λ g. given_or g address (unless_taken its_outcome.taken address (held_given old.given address))) is
+        ∙ ap (λ b. cond b (Some given) (unless_taken its_outcome.taken address (held_given old.given address))) (eq-eqb address address refl) in
         let there : option_map given_of (held_at holdings address) ≡ Some given =
-        sym (found_given holdings address) ∙ ap (λ all. found all address) (sym given_is) ∙ comes_so.held_is address ∙ gave in
+        sym (found_given holdings address) ∙ ap (λ all. held_given all address) (sym given_is) ∙ comes_so.held_is address ∙ gave in
         let held_so = given_under (held_at holdings address) given there in
         let live = are.live address held_so.0 held_so.1 in
         let P : ℕ → Type 0 = λ place. (block : Block (Unit {0})) × Contains (blocks_of (bare heap).pools) block × (is_free block ≡ false) × (block.place + block.size ≡ place + size_at place (blocks_of heap.pools)) in

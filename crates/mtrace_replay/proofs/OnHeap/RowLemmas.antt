@@ -18,7 +18,7 @@ use Rattle.mtrace_replay.specs.declared.heap.survey.Survey.{Survey}
 use Rattle.mtrace_replay.specs.declared.heap.totals.Totals.{Totals}
 use Rattle.mtrace_replay.specs.Started.{Bare}
 use Rattle.mtrace_replay.specs.Texts.{peak_lines, peak_report, pair_line, row_text, greatest, free_sizes, rows_text, pool_text, walk_report}
-use Rattle.mtrace_replay.specs.Rows.{or_none, rows_at}
+use Rattle.mtrace_replay.specs.Rows.{or_none, pool_rows}
 use Rattle.mtrace_replay.specs.Survey.{live_ends, free_size, live_end, IsSurvey, SurveysRows}
 
 max_assoc : (a b c : ℕ) → max a (max b c) ≡ max (max a b) c
@@ -53,13 +53,13 @@ rows_joined one more largest reach first second largest_is reach_is own others =
     subst P (sym (flat_map-append free_size first second)) (subst Q (sym (flat_map-append live_end first second))
     (survey_joined one more largest reach (flat_map free_size first) (flat_map free_size second) (flat_map live_end first) (flat_map live_end second) largest_is reach_is own others))
 
-few_by : (pool : Pool ℕ) (pools : List (Pool ℕ)) (base : ℕ) (same : Bool) → length (rows_at pools base) ≤ length (blocks_of pools)
+few_by : (pool : Pool ℕ) (pools : List (Pool ℕ)) (base : ℕ) (same : Bool) → length (pool_rows pools base) ≤ length (blocks_of pools)
     → length (or_none (if same then Ok (map row_of pool.blocks) else rows_from base pools)) ≤ length (blocks_of (pool ∷ pools))
 few_by pool pools base true others = omega (arith, length-map pool.blocks (row_of {A = ℕ}), length-append {A = Block ℕ})
 few_by pool pools base false others = omega (arith, others, length-append {A = Block ℕ})
 
 -- the rows of a pool are no more than all blocks
-pub rows_few : (pools : List (Pool ℕ)) (base : ℕ) → length (rows_at pools base) ≤ length (blocks_of pools)
+pub rows_few : (pools : List (Pool ℕ)) (base : ℕ) → length (pool_rows pools base) ≤ length (blocks_of pools)
 rows_few [] base = omega arith
 rows_few (pool ∷ pools) base = few_by pool pools base (pool.base == base) (rows_few pools base)
 
@@ -78,7 +78,7 @@ rows_text-is range rows = refl
 
 -- what is made of the rows of each pool, the pools found by their bases
 abbrev pub by_base : {B : Type 0} → (ℕ × ℕ → List Row → List B) → List (Pool ℕ) → ℕ × ℕ → List B
-by_base g pools range = g range (rows_at pools range.0)
+by_base g pools range = g range (pool_rows pools range.0)
 
 -- a pool in front changes nothing for those behind its end
 rows_behind : {B : Type 0} (g : ℕ × ℕ → List Row → List B) (pool : Pool ℕ) (pools : List (Pool ℕ)) (from : ℕ) (rest : List (Pool ℕ)) → pool.base < from → AreGoodPools from rest

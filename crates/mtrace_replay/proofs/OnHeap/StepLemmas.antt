@@ -16,7 +16,7 @@ use Rattle.mtrace_replay.specs.Holding.{Holding}
 use Rattle.mtrace_replay.specs.Started.{Bare}
 use Rattle.mtrace_replay.specs.Moment.{Given, give, take, move, Plan, none_for, doing, allocation, release, preceded, reallocation, renewal, one_diagnostic, asked_size, asked_block, without, answered, moved, carried_out}
 use Rattle.mtrace_replay.specs.Index.{held_at}
-use Rattle.mtrace_replay.specs.Step.{View, given_of, all_given, found, Comes, IsUnder, Replays}
+use Rattle.mtrace_replay.specs.Step.{View, given_of, all_given, held_given, Comes, IsUnder, Replays}
 
 -- at least as many bytes are asked for as the line says, and some
 pub asked_least : (size : ℕ) → (size ≤ asked_size size) × (0 < asked_size size)
@@ -32,13 +32,13 @@ asked_least size = elim (cases_Bool (size == 0)) [
 ]
 
 -- a look-up finds the same without slots
-pub found_given : (holdings : List Holding) (address : ℕ) → found (all_given holdings) address ≡ option_map given_of (held_at holdings address)
+pub found_given : (holdings : List Holding) (address : ℕ) → held_given (all_given holdings) address ≡ option_map given_of (held_at holdings address)
 found_given [] address = refl
 found_given (holding ∷ holdings) address =
     ap (cond (holding.entry.addr == address) (Some (given_of holding))) (found_given holdings address)
     ∙ sym (ap-cond (option_map given_of) (holding.entry.addr == address) (Some holding) (held_at holdings address))
 
-pub found_under : (holdings : List Holding) (address : ℕ) (held : Option Holding) → held_at holdings address ≡ held → found (all_given holdings) address ≡ option_map given_of held
+pub found_under : (holdings : List Holding) (address : ℕ) (held : Option Holding) → held_at holdings address ≡ held → held_given (all_given holdings) address ≡ option_map given_of held
 found_under holdings address held is = found_given holdings address ∙ ap (option_map given_of) is
 
 some_is : (held : Option Holding) → is_some held ≡ true → (holding : Holding) × (held ≡ Some holding)
@@ -54,7 +54,7 @@ some_given None = refl
 some_given (Some holding) = refl
 
 -- an address is found where it is held
-pub found_some : (holdings : List Holding) (address : ℕ) → is_some (found (all_given holdings) address) ≡ is_some (held_at holdings address)
+pub found_some : (holdings : List Holding) (address : ℕ) → is_some (held_given (all_given holdings) address) ≡ is_some (held_at holdings address)
 found_some holdings address = ap is_some (found_given holdings address) ∙ some_given (held_at holdings address)
 
 -- what is held, where its address is found
@@ -83,7 +83,7 @@ under_none (Some holding) is = absurd (cc)
 -- what is found after one address has changed
 found_changed : (old new : List Holding) (address : ℕ) (now : Option Holding) (before : ℕ → Option Holding)
     → ((other : ℕ) → held_at new other ≡ cond (address == other) now (before other))
-    → (other : ℕ) → found (all_given new) other ≡ cond (address == other) (option_map given_of now) (option_map given_of (before other))
+    → (other : ℕ) → held_given (all_given new) other ≡ cond (address == other) (option_map given_of now) (option_map given_of (before other))
 found_changed old new address now before changed other =
     found_given new other ∙ ap (option_map given_of) (changed other) ∙ ap-cond (option_map given_of) (address == other) now (before other)
 
@@ -95,30 +95,30 @@ replays_as {heaps = heaps} {looks = looks} {most = most} {diagnostics = diagnost
 
 -- the plans, told of what is held by its look-ups
 module _ (held : List Holding) where
-  pub allocation_held : (entry : Entry) (align : Option ℕ) → is_some (held_at held entry.addr) ≡ true → allocation entry align (found (all_given held) entry.addr) ≡ none_for entry.line (AlreadyHeld entry.addr)
+  pub allocation_held : (entry : Entry) (align : Option ℕ) → is_some (held_at held entry.addr) ≡ true → allocation entry align (held_given (all_given held) entry.addr) ≡ none_for entry.line (AlreadyHeld entry.addr)
   allocation_held entry align is = let some = some_is (held_at held entry.addr) is in ap (allocation entry align) (found_under held entry.addr (Some some.0) some.1)
 
-  pub allocation_free : (entry : Entry) (align : Option ℕ) → is_some (held_at held entry.addr) ≡ false → allocation entry align (found (all_given held) entry.addr) ≡ doing (give entry align)
+  pub allocation_free : (entry : Entry) (align : Option ℕ) → is_some (held_at held entry.addr) ≡ false → allocation entry align (held_given (all_given held) entry.addr) ≡ doing (give entry align)
   allocation_free entry align is = ap (allocation entry align) (found_under held entry.addr None (none_is (held_at held entry.addr) is))
 
-  pub release_none : (number address : ℕ) → held_at held address ≡ None → release number address (found (all_given held) address) ≡ none_for number (NotHeld address)
+  pub release_none : (number address : ℕ) → held_at held address ≡ None → release number address (held_given (all_given held) address) ≡ none_for number (NotHeld address)
   release_none number address none = ap (release number address) (found_under held address None none)
 
-  pub release_under : (number address : ℕ) (ptr : Pointer) → IsUnder ptr (held_at held address) → release number address (found (all_given held) address) ≡ doing (take address ptr.place)
+  pub release_under : (number address : ℕ) (ptr : Pointer) → IsUnder ptr (held_at held address) → release number address (held_given (all_given held) address) ≡ doing (take address ptr.place)
   release_under number address ptr under =
       ap (release number address) (found_under held address (Some under.0) under.1) ∙ ap (λ (p : Pointer). doing (take address p.place)) under.2
 
   module _ (entry : Entry) (pending : Option ℕ) (old : ℕ) (is_pending : pending ≡ Some old) where
-    renewed : (one : Option Given) → found (all_given held) old ≡ one → renewal entry pending (found (all_given held)) ≡ reallocation entry old one (found (all_given held) entry.addr)
+    renewed : (one : Option Given) → held_given (all_given held) old ≡ one → renewal entry pending (held_given (all_given held)) ≡ reallocation entry old one (held_given (all_given held) entry.addr)
     renewed one is =
-        ap (λ line. renewal entry line (found (all_given held))) is_pending ∙ ap (λ there. reallocation entry old there (found (all_given held) entry.addr)) is
+        ap (λ line. renewal entry line (held_given (all_given held))) is_pending ∙ ap (λ there. reallocation entry old there (held_given (all_given held) entry.addr)) is
 
-    pub renewal_allocates : held_at held old ≡ None → renewal entry pending (found (all_given held)) ≡ preceded (NotHeld old) entry.line (allocation entry None (found (all_given held) entry.addr))
+    pub renewal_allocates : held_at held old ≡ None → renewal entry pending (held_given (all_given held)) ≡ preceded (NotHeld old) entry.line (allocation entry None (held_given (all_given held) entry.addr))
     renewal_allocates none = renewed None (found_under held old None none)
 
     -- by whether the new address is another one that is held
     pub renewal_under : (ptr : Pointer) (test : Bool) → IsUnder ptr (held_at held old) → not (entry.addr == old) && is_some (held_at held entry.addr) ≡ test
-        → renewal entry pending (found (all_given held)) ≡ cond test (none_for entry.line (AlreadyHeld entry.addr)) (doing (move old ptr.place entry))
+        → renewal entry pending (held_given (all_given held)) ≡ cond test (none_for entry.line (AlreadyHeld entry.addr)) (doing (move old ptr.place entry))
     renewal_under ptr test under is =
         renewed (Some (given_of under.0)) (found_under held old (Some under.0) under.1)
         ∙ ap (λ some. cond (not (entry.addr == old) && some) (none_for entry.line (AlreadyHeld entry.addr)) (doing (move old under.0.ptr.place entry))) (found_some held entry.addr)

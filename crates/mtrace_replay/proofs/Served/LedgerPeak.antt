@@ -19,8 +19,8 @@ use Rattle.mtrace_replay.proofs.Served.LedgerLemmas.{all_in_order, same_view, st
 use Rattle.mtrace_replay.proofs.Served.SharesLemmas.{shared-longer, called-kept, called-longer, shared-kept, some_there, slot_there, shared-added, shared-less, in_slot-most}
 use Rattle.mtrace_replay.proofs.Served.RowsBySlot.{rows_by-same, rows_of-longer}
 
-abbrev pub state_of : List (List ℕ) → ByLocation → List (ℕ × Kept) → LedgerState
-state_of locations shares held = record {
+abbrev pub ledger_state : List (List ℕ) → ByLocation → List (ℕ × Kept) → LedgerState
+ledger_state locations shares held = record {
   all = all_in_order locations held;
   at_peak = sites_of (marked_at shares) locations;
   mark = shares.mark;
@@ -44,7 +44,7 @@ callers_stay locations new extends before after beyond same =
 -- where nothing more is held, all is as it was
 pub same_state : (locations new : List (List ℕ)) → Extends locations new → (before after : ByLocation) (held : List (ℕ × Kept)) (bytes : ℕ)
     → IsLedger locations held bytes × AreShared locations before (values_of held) × AreCalled locations before (length held)
-    → KeepsShares before after → state_of new after held ≡ state_of locations before held
+    → KeepsShares before after → ledger_state new after held ≡ ledger_state locations before held
 same_state locations new extends before after held bytes keeps kept =
     let all = same_view locations new extends held bytes keeps.0 in
     let at_peak = peak_stays locations new extends before after keeps.1.beyond kept.marked in

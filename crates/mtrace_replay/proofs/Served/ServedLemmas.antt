@@ -7,7 +7,7 @@ use Rattle.mtrace_replay.specs.Entry.{Entry}
 use Rattle.mtrace_replay.specs.declared.held.diagnostic.Diagnostic.{Diagnostic}
 use Rattle.mtrace_replay.specs.Moment.{ReadLine, Given, Moment, Plan, plan, half, is_new}
 use Rattle.mtrace_replay.specs.History.{held, held_after, pending, old_address, AreHeld, entries_of}
-use Rattle.mtrace_replay.specs.Step.{found}
+use Rattle.mtrace_replay.specs.Step.{held_given}
 use Rattle.mtrace_replay.specs.Totals.{is_served, first_moments, Measures, IsPeak, bytes_in, blocks_in}
 use Rattle.mtrace_replay.specs.Texts.{total_size}
 use Rattle.mtrace_replay.specs.Ledger.{held_at}
@@ -23,11 +23,11 @@ use Rattle.mtrace_replay.specs.Sites.{Site, AreTallied}
 use Rattle.mtrace_replay.proofs.History.SortedLemmas.{one_list}
 use Rattle.mtrace_replay.proofs.History.TotalsLemmas.{most_none, peak_goes_on, first_moments_all, first_moments_before}
 
-found_unplaced : (all : List Entry) (address : ℕ) → found (map unplaced all) address ≡ found_in all address
+found_unplaced : (all : List Entry) (address : ℕ) → held_given (map unplaced all) address ≡ found_in all address
 found_unplaced [] address = refl
 found_unplaced (entry ∷ rest) address = by (found_unplaced rest address) (entry.addr == address)
   where
-    by : found (map unplaced rest) address ≡ found_in rest address → (b : Bool) → cond b (Some (unplaced entry)) (found (map unplaced rest) address) ≡ option_map unplaced (cond b (Some entry) (held_at rest address))
+    by : held_given (map unplaced rest) address ≡ found_in rest address → (b : Bool) → cond b (Some (unplaced entry)) (held_given (map unplaced rest) address) ≡ option_map unplaced (cond b (Some entry) (held_at rest address))
     by later true = refl
     by later false = later
 

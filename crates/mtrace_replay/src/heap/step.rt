@@ -7,7 +7,7 @@ ghost use Rattle.tlsf_heap.specs.Touches.{AtMost};
 ghost use Rattle.tlsf_heap.specs.Realloc.{realloc};
 ghost use Rattle.mtrace_replay.specs.Index.{held_at, IsFound, TellsWhether};
 ghost use Rattle.mtrace_replay.specs.Moment.{asked_size, asked_block, allocation, release, doing, move, renewal, plan};
-ghost use Rattle.mtrace_replay.specs.Step.{view, found, all_given, Replays, AsksBlock, GivesBlock, Takes, IsUnder, AreLive};
+ghost use Rattle.mtrace_replay.specs.Step.{view, held_given, all_given, Replays, AsksBlock, GivesBlock, Takes, IsUnder, AreLive};
 
 use crate::heap::asked::asked_size;
 use crate::heap::holder::Holder;
@@ -90,7 +90,7 @@ fn allocate<H: Heaped>(
     requires live { AreLive holder.old.held.all (H.content holder.old.heap) }
     requires room { holder.old.held.room ≡ (H.content holder.old.heap).records }
     requires none { findings.old ≡ [] }
-    ensures { Replays (view H.content H.touches H.lacks) 2 164 (allocation entry.now align (found (all_given holder.old.held.all) entry.now.addr))
+    ensures { Replays (view H.content H.touches H.lacks) 2 164 (allocation entry.now align (held_given (all_given holder.old.held.all) entry.now.addr))
         findings.new result holder.old holder.new }
 {
     let found = holder.held.find_again(entry.addr);
@@ -144,7 +144,7 @@ fn release<H: Heaped>(
 ) -> Result<Option<u64>, AllocError>
     requires live { AreLive holder.old.held.all (H.content holder.old.heap) }
     requires none { findings.old ≡ [] }
-    ensures { Replays (view H.content H.touches H.lacks) 2 96 (release number address (found (all_given holder.old.held.all) address))
+    ensures { Replays (view H.content H.touches H.lacks) 2 96 (release number address (held_given (all_given holder.old.held.all) address))
         findings.new result holder.old holder.new }
 {
     let found = holder.held.find_again(address);
@@ -208,7 +208,7 @@ fn renew<H: Heaped>(
     requires live { AreLive holder.old.held.all (H.content holder.old.heap) }
     requires room { holder.old.held.room ≡ (H.content holder.old.heap).records }
     requires none { findings.old ≡ [] }
-    ensures { Replays (view H.content H.touches H.lacks) 3 356 (renewal entry.now pending (found (all_given holder.old.held.all)))
+    ensures { Replays (view H.content H.touches H.lacks) 3 356 (renewal entry.now pending (held_given (all_given holder.old.held.all)))
         findings.new result holder.old holder.new }
 {
     let number = entry.line;
@@ -262,7 +262,7 @@ pub(crate) fn outcome<H: Heaped>(
     requires live { AreLive holder.old.held.all (H.content holder.old.heap) }
     requires room { holder.old.held.room ≡ (H.content holder.old.heap).records }
     requires none { findings.old ≡ [] }
-    ensures { Replays (view H.content H.touches H.lacks) 3 356 (plan number event.entry pending (found (all_given holder.old.held.all)))
+    ensures { Replays (view H.content H.touches H.lacks) 3 356 (plan number event.entry pending (held_given (all_given holder.old.held.all)))
         findings.new result holder.old holder.new }
 {
     match event {

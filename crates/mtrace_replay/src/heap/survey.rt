@@ -6,7 +6,7 @@ ghost use Rattle.tlsf_heap.specs.Pools.{most_records};
 ghost use Rattle.tlsf_heap.specs.Content.{blocks_of};
 ghost use Rattle.tlsf_heap.specs.Bare.{bare};
 ghost use Rattle.mtrace_replay.specs.Texts.{free_sizes};
-ghost use Rattle.mtrace_replay.specs.Rows.{rows_at};
+ghost use Rattle.mtrace_replay.specs.Rows.{pool_rows};
 ghost use Rattle.mtrace_replay.specs.Survey.{live_ends, IsSurvey, SurveysRows, SurveysFew, ReadsRows};
 
 use tlsf_heap::{Cursor, Heaped, Row};
@@ -80,7 +80,7 @@ fn survey_rows<H: Heaped>(heap: &mut H, cursor: Cursor) -> Survey
 /// The survey of the pool that begins at the place `base`.
 fn survey_pool<H: Heaped>(heap: &mut H, base: u64) -> Survey
     requires few { length (blocks_of (H.content heap.old).pools) ≤ most_records }
-    ensures { ReadsRows H.content most_records (rows_at (H.content heap.old).pools base) result heap.old heap.new }
+    ensures { ReadsRows H.content most_records (pool_rows (H.content heap.old).pools base) result heap.old heap.new }
 {
     match heap.first(base) {
         Ok(cursor) => survey_rows(heap, cursor),

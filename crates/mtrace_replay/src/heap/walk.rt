@@ -2,7 +2,7 @@
 
 ghost use Rattle.std.specs.Prelude.{flat_map};
 ghost use Rattle.tlsf_heap.specs.Bare.{bare};
-ghost use Rattle.mtrace_replay.specs.Rows.{rows_at, PutsOf};
+ghost use Rattle.mtrace_replay.specs.Rows.{pool_rows, PutsOf};
 ghost use Rattle.mtrace_replay.specs.Texts.{row_text, rows_text, walk_report};
 
 use crate::held::line_text::{pool_text, row_text};
@@ -24,7 +24,7 @@ fn put_rows<H: Heaped, W: Sink>(writer: &mut W, heap: &mut H, cursor: Cursor) ->
 
 /// Puts the rows of the pool that begins at the place `base`.
 fn put_rows_at<H: Heaped, W: Sink>(writer: &mut W, heap: &mut H, base: u64) -> Result<(), Failed>
-    ensures { PutsOf H.content result (flat_map row_text (rows_at (H.content heap.old).pools base)) (W.shown writer.old) (W.shown writer.new) heap.old heap.new }
+    ensures { PutsOf H.content result (flat_map row_text (pool_rows (H.content heap.old).pools base)) (W.shown writer.old) (W.shown writer.new) heap.old heap.new }
 {
     match heap.first(base) {
         Ok(cursor) => put_rows(writer, heap, cursor),
@@ -38,7 +38,7 @@ fn put_pool<H: Heaped, W: Sink>(
     heap: &mut H,
     range: (u64, u64),
 ) -> Result<(), Failed>
-    ensures { PutsOf H.content result (rows_text range (rows_at (H.content heap.old).pools range.0)) (W.shown writer.old) (W.shown writer.new) heap.old heap.new }
+    ensures { PutsOf H.content result (rows_text range (pool_rows (H.content heap.old).pools range.0)) (W.shown writer.old) (W.shown writer.new) heap.old heap.new }
 {
     put_all(writer, pool_text(range.0, range.1).as_slice())?;
     put_rows_at(writer, heap, range.0)

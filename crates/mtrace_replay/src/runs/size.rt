@@ -2,7 +2,7 @@
 
 ghost use Rattle.std.specs.Prelude.{◌≡◌, ◌<◌};
 ghost use Rattle.tlsf_heap.specs.Sizing.{class_size, sure_pool};
-ghost use Rattle.mtrace_replay.specs.Size.{align_of, blocks_bytes, rounded_pool, size_text, RunsSize};
+ghost use Rattle.mtrace_replay.specs.Size.{align_of, blocks_bytes, rounded_pool, bounds_text, RunsSize};
 
 use crate::heap::asked::{asked_size, rounded_bytes};
 use crate::held::line_text::LineText;
@@ -74,8 +74,8 @@ fn rounded_of(bounds: Bounds) -> Option<u64>
 }
 
 /// The records with their table, the pool that is always enough, and the one for blocks of one size.
-fn size_text(bounds: Bounds) -> LineText
-    ensures { result.items ≡ size_text bounds }
+fn bounds_text(bounds: Bounds) -> LineText
+    ensures { result.items ≡ bounds_text bounds }
 {
     let mut text = ArrayVec::new();
     push_records(&mut text, sure_records(u64::from(bounds.blocks)));
@@ -96,6 +96,6 @@ pub fn run_size<W: Sink>(writer: &mut W, bounds: Bounds) -> Result<Status, RunFa
     if !is_alignment(align_of(bounds)) {
         return Err(RunFault::BadSettings);
     }
-    let put = put_all(writer, size_text(bounds).as_slice());
+    let put = put_all(writer, bounds_text(bounds).as_slice());
     flush_behind(writer, put, Status::Clean)
 }

@@ -16,7 +16,7 @@ use Rattle.tlsf_heap.specs.declared.image.chains.Front.{Front}
 use Rattle.tlsf_heap.specs.Images.Image.{Parts}
 use Rattle.tlsf_heap.specs.Images.Links.{follow, is_linked}
 use Rattle.tlsf_heap.specs.Images.Rules.{at, is_used, is_chain, chain_of, is_below, has_links_in, has_record_links, has_links, covers, are_merged}
-use Rattle.tlsf_heap.specs.Images.Findings.{chain_found, tally_with, both, front_of, is_before, with_block}
+use Rattle.tlsf_heap.specs.Images.Findings.{chain_found, tally_with, both, front_of, is_before, tally_and}
 use Rattle.tlsf_heap.proofs.Images.Totals.{not_or, was_found}
 use Rattle.tlsf_heap.proofs.Images.LinkLemmas.{linked_on, linked_not_on, linked_end, follow_none}
 use Rattle.tlsf_heap.specs.Inner.Entries.{entries_of}
@@ -64,7 +64,7 @@ module _ (parts : Parts) where
   and_on true b c = refl
   and_on false b c = refl
 
-  seen_on : (end : ℕ) (tally : Tally) (front : Front) (slot : ℕ) (rest : List ℕ) → seen_with end tally front (slot ∷ rest) ≡ seen_with end (with_block front (at parts slot) tally) (front_of slot (at parts slot)) rest
+  seen_on : (end : ℕ) (tally : Tally) (front : Front) (slot : ℕ) (rest : List ℕ) → seen_with end tally front (slot ∷ rest) ≡ seen_with end (tally_and front (at parts slot) tally) (front_of slot (at parts slot)) rest
   seen_on end tally front slot rest =
       let r = at parts slot in
       let blocks : tally.blocks + length (slot ∷ rest) ≡ tally.blocks + 1 + length rest = omega arith in
@@ -73,7 +73,7 @@ module _ (parts : Parts) where
       cc
 
   module _ (end : ℕ) (tally : Tally) (front : Front) (slot : ℕ) where
-    on_by : (n : ℕ) → is_before front (at parts slot) ≡ true → found_with end (suc n) tally front (Some slot) ≡ found_with end n (with_block front (at parts slot) tally) (front_of slot (at parts slot)) (next_of slot)
+    on_by : (n : ℕ) → is_before front (at parts slot) ≡ true → found_with end (suc n) tally front (Some slot) ≡ found_with end n (tally_and front (at parts slot) tally) (front_of slot (at parts slot)) (next_of slot)
     on_by n on =
         let whole = linked_on (λ slot. is_used (at parts slot).state) next_of (λ slot. (at parts slot).prev) n front.block slot on in
         let seen = seen_on end tally front slot (follow n next_of (next_of slot)) in
@@ -84,9 +84,9 @@ module _ (parts : Parts) where
     stops_by (suc n) off = rw (linked_not_on (λ slot. is_used (at parts slot).state) next_of (λ slot. (at parts slot).prev) n front.block slot off) refl
 
     -- a block behind the front
-    pub found_on : tally.blocks < length parts.records → is_before front (at parts slot) ≡ true → rest_found end tally front (Some slot) ≡ rest_found end (with_block front (at parts slot) tally) (front_of slot (at parts slot)) (next_of slot)
+    pub found_on : tally.blocks < length parts.records → is_before front (at parts slot) ≡ true → rest_found end tally front (Some slot) ≡ rest_found end (tally_and front (at parts slot) tally) (front_of slot (at parts slot)) (next_of slot)
     found_on few on =
-        let P : ℕ → Type 0 = λ left. found_with end left tally front (Some slot) ≡ found_with end (length parts.records - (tally.blocks + 1)) (with_block front (at parts slot) tally) (front_of slot (at parts slot)) (next_of slot) in
+        let P : ℕ → Type 0 = λ left. found_with end left tally front (Some slot) ≡ found_with end (length parts.records - (tally.blocks + 1)) (tally_and front (at parts slot) tally) (front_of slot (at parts slot)) (next_of slot) in
         let one : suc (length parts.records - (tally.blocks + 1)) ≡ length parts.records - tally.blocks = omega (arith, few) in
         subst P one (on_by (length parts.records - (tally.blocks + 1)) on)
 

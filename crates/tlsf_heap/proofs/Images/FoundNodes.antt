@@ -7,9 +7,9 @@ use Rattle.tlsf_store.specs.declared.records.Record.{Record}
 use Rattle.tlsf_store.specs.Records.{record_at, IsBelow}
 use Rattle.tlsf_store.specs.Cells.{Cells}
 use Rattle.tlsf_heap.specs.Good.{times}
-use Rattle.tlsf_heap.specs.Inner.Nodes.{NodeState, InUse, Listed, Loose, Node, Area, block_of, pool_of, nodes_of, nodes_in, has_slot, is_listed, is_listed_in}
+use Rattle.tlsf_heap.specs.Inner.Nodes.{NodeState, InUse, Listed, Loose, Node, Area, block_of, pool_of, nodes_of, nodes_in, has_slot, is_listed_state, is_listed_in}
 use Rattle.tlsf_heap.specs.Inner.Positions.{Position, filled, is_loose}
-use Rattle.tlsf_heap.specs.Inner.Represents.{InPool, in_pool, pool_views, state_of, first_slot, uses_in, AreChains}
+use Rattle.tlsf_heap.specs.Inner.Represents.{InPool, in_pool, pool_views, record_state, first_slot, uses_in, AreChains}
 use Rattle.tlsf_heap.specs.Inner.At.{AreCovered}
 use Rattle.tlsf_heap.specs.Inner.Following.{Stands}
 use Rattle.tlsf_heap.proofs.Counts.{one_if, count-cons}
@@ -78,12 +78,12 @@ module _ (cells : Cells) (stands : Stands cells) where
   settled_node : (test : Node → Bool) (at : FoundNode cells.records areas test) → is_loose at.node.state ≡ true → false ≡ true
   settled_node test at loose = absurd (omega (arith, stands.settled, at.among (λ node. is_loose node.state) loose))
 
-  listed_free : (node_state : NodeState) → is_listed node_state ≡ true → state_of node_state ≡ Free
+  listed_free : (node_state : NodeState) → is_listed_state node_state ≡ true → record_state node_state ≡ Free
   listed_free InUse e = absurd (both_ways false refl e)
   listed_free Listed e = refl
   listed_free Loose e = refl
 
-  free_listed : (node_state : NodeState) → state_of node_state ≡ Free → (is_loose node_state ≡ true → false ≡ true) → is_listed node_state ≡ true
+  free_listed : (node_state : NodeState) → record_state node_state ≡ Free → (is_loose node_state ≡ true → false ≡ true) → is_listed_state node_state ≡ true
   free_listed InUse e settled = absurd (cc)
   free_listed Listed e settled = refl
   free_listed Loose e settled = settled refl
@@ -95,7 +95,7 @@ module _ (cells : Cells) (stands : Stands cells) where
 
   at_listed : (number : ℕ) (test : Node → Bool) (at : FoundNode cells.records areas test) → is_listed_in number at.node ≡ true → IsListedAt number at.node.slot
   at_listed number test at listed =
-      let both = and_parts (is_listed at.node.state) (eqb (class at.node.size) number) listed in
+      let both = and_parts (is_listed_state at.node.state) (eqb (class at.node.size) number) listed in
       record {
         free = ap (λ (v : InPool). v.state) at.says ∙ listed_free at.node.state both.0;
         of_class = ap (λ (v : InPool). class v.size) at.says ∙ eqb-true (class at.node.size) number both.1;
@@ -125,9 +125,9 @@ module _ (cells : Cells) (stands : Stands cells) where
   free_stands slot free =
       let at = found (has_slot slot) (used_stands slot (let e : 1 ≤ uses_in (record_at cells.records slot).state = omega (arith, ap uses_in free) in e)) in
       let same : at.node.slot ≡ slot = eqb-true at.node.slot slot at.passes in
-      let state : state_of at.node.state ≡ Free = sym (ap (λ (v : InPool). v.state) at.says) ∙ ap (λ q. (record_at cells.records q).state) same ∙ free in
+      let state : record_state at.node.state ≡ Free = sym (ap (λ (v : InPool). v.state) at.says) ∙ ap (λ q. (record_at cells.records q).state) same ∙ free in
       let size : at.node.size ≡ (record_at cells.records slot).size = sym (ap (λ (v : InPool). v.size) at.says) ∙ ap (λ q. (record_at cells.records q).size) same in
       let number = class (record_at cells.records slot).size in
       let listed = free_listed at.node.state state (settled_node (has_slot slot) at) in
-      let in_class = and_from (is_listed at.node.state) (eqb (class at.node.size) number) listed (eq-eqb (class at.node.size) number (ap class size)) in
+      let in_class = and_from (is_listed_state at.node.state) (eqb (class at.node.size) number) listed (eq-eqb (class at.node.size) number (ap class size)) in
       omega (arith, stands.represented.agree number (has_slot slot), at.among (λ node. is_listed_in number node && has_slot slot node) (and_from (is_listed_in number at.node) (has_slot slot at.node) in_class at.passes))

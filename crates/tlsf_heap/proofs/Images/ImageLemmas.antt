@@ -11,7 +11,7 @@ use Rattle.tlsf_store.specs.Records.{blank, record_at}
 use Rattle.tlsf_store.specs.Cells.{head_at as head_of, pool_at, most_pools}
 use Rattle.tlsf_store.specs.Ranges.{can_be_pool}
 use Rattle.tlsf_heap.specs.Images.Image.{two_at, count_at, pools_at, zeros_at, are_zero, record_start, record_in, head_in, pool_in, parts_in}
-use Rattle.tlsf_heap.specs.Images.Rules.{is_pool, are_pools, has_magic, has_length, has_pools, has_unused_pools, has_states, IsReadable, first_of, rules_of_parts, first_broken}
+use Rattle.tlsf_heap.specs.Images.Rules.{is_pool, are_pools, has_magic, has_length, has_pools, has_unused_pools, has_states, IsReadable, first_unmet, rules_of_parts, first_broken}
 use Rattle.tlsf_heap.specs.declared.image.rule.Rule.{Rule}
 use Rattle.tlsf_heap.specs.declared.image.rule.Rule.TheVariants.{Magic, Length, Pools, UnusedPools, States}
 use Rattle.tlsf_heap.proofs.Images.PoolLemmas.{pools_present}
@@ -19,25 +19,25 @@ use Rattle.tlsf_heap.proofs.Images.Totals.{all_below}
 use Rattle.tlsf_heap.specs.Inner.Entries.{entries_of}
 
 all_pass : (a b c d e : Bool) (more : List (Rule × Bool)) → a ≡ true → b ≡ true → c ≡ true → d ≡ true → e ≡ true
-    → first_of ((Magic, a) ∷ (Length, b) ∷ (Pools, c) ∷ (UnusedPools, d) ∷ (States, e) ∷ more) ≡ first_of more
+    → first_unmet ((Magic, a) ∷ (Length, b) ∷ (Pools, c) ∷ (UnusedPools, d) ∷ (States, e) ∷ more) ≡ first_unmet more
 all_pass a b c d e more p q r s t = rw (p, q, r, s, t) refl
 
 -- a rule whose test says no is the first that is broken, where those in front of it hold
-at_first : (a : Bool) (more : List (Rule × Bool)) → a ≡ false → first_of ((Magic, a) ∷ more) ≡ Some Magic
+at_first : (a : Bool) (more : List (Rule × Bool)) → a ≡ false → first_unmet ((Magic, a) ∷ more) ≡ Some Magic
 at_first a more off = rw off refl
 
-at_second : (a b : Bool) (more : List (Rule × Bool)) → a ≡ true → b ≡ false → first_of ((Magic, a) ∷ (Length, b) ∷ more) ≡ Some Length
+at_second : (a b : Bool) (more : List (Rule × Bool)) → a ≡ true → b ≡ false → first_unmet ((Magic, a) ∷ (Length, b) ∷ more) ≡ Some Length
 at_second a b more p off = rw (p, off) refl
 
-at_third : (a b c : Bool) (more : List (Rule × Bool)) → a ≡ true → b ≡ true → c ≡ false → first_of ((Magic, a) ∷ (Length, b) ∷ (Pools, c) ∷ more) ≡ Some Pools
+at_third : (a b c : Bool) (more : List (Rule × Bool)) → a ≡ true → b ≡ true → c ≡ false → first_unmet ((Magic, a) ∷ (Length, b) ∷ (Pools, c) ∷ more) ≡ Some Pools
 at_third a b c more p q off = rw (p, q, off) refl
 
 at_fourth : (a b c d : Bool) (more : List (Rule × Bool)) → a ≡ true → b ≡ true → c ≡ true → d ≡ false
-    → first_of ((Magic, a) ∷ (Length, b) ∷ (Pools, c) ∷ (UnusedPools, d) ∷ more) ≡ Some UnusedPools
+    → first_unmet ((Magic, a) ∷ (Length, b) ∷ (Pools, c) ∷ (UnusedPools, d) ∷ more) ≡ Some UnusedPools
 at_fourth a b c d more p q r off = rw (p, q, r, off) refl
 
 at_fifth : (a b c d e : Bool) (more : List (Rule × Bool)) → a ≡ true → b ≡ true → c ≡ true → d ≡ true → e ≡ false
-    → first_of ((Magic, a) ∷ (Length, b) ∷ (Pools, c) ∷ (UnusedPools, d) ∷ (States, e) ∷ more) ≡ Some States
+    → first_unmet ((Magic, a) ∷ (Length, b) ∷ (Pools, c) ∷ (UnusedPools, d) ∷ (States, e) ∷ more) ≡ Some States
 at_fifth a b c d e more p q r s off = rw (p, q, r, s, off) refl
 
 module _ (bytes : List ℕ) where
@@ -92,7 +92,7 @@ module _ (bytes : List ℕ) where
       ltb-true (pool_in bytes number).first count (all_below (λ number. nat_lt (pool_in bytes number).first count) pools by_number number within)
 
   -- of readable bytes the rules of what they describe are left
-  pub first_left : IsReadable bytes → first_broken bytes ≡ first_of (rules_of_parts (parts_in bytes))
+  pub first_left : IsReadable bytes → first_broken bytes ≡ first_unmet (rules_of_parts (parts_in bytes))
   first_left readable =
       all_pass (has_magic bytes) (has_length bytes) (has_pools bytes) (has_unused_pools bytes) (has_states bytes) (rules_of_parts (parts_in bytes)) readable.magic readable.length readable.pools readable.unused readable.states
 

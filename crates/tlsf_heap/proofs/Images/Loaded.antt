@@ -12,7 +12,7 @@ use Rattle.tlsf_store.specs.Records.{blank, record_at}
 use Rattle.tlsf_store.specs.Cells.{Cells, most_pools}
 use Rattle.tlsf_heap.specs.declared.image.rule.Rule.TheVariants.{Magic, Length, Pools, UnusedPools, States}
 use Rattle.tlsf_heap.specs.Images.Image.{two_at, count_at, pools_at, size_word, pool_in as pool_of_bytes, head_in, record_in, Parts, parts_in}
-use Rattle.tlsf_heap.specs.Images.Rules.{has_magic, has_length, has_pools, has_unused_pools, has_states, are_pools, first_of, rules_of_parts, first_broken}
+use Rattle.tlsf_heap.specs.Images.Rules.{has_magic, has_length, has_pools, has_unused_pools, has_states, are_pools, first_unmet, rules_of_parts, first_broken}
 use Rattle.tlsf_heap.proofs.Images.UnbrokenRules.{holds_first}
 use Rattle.tlsf_heap.specs.Images.Described.{described}
 use Rattle.tlsf_heap.specs.Inner.Entries.{entries_of, padded}
@@ -69,16 +69,16 @@ module _ (bytes : List ℕ) where
   ]
 
   module _ (sound : first_broken bytes ≡ None) where
-    magic_holds : (has_magic bytes ≡ true) × (first_of ((Length, has_length bytes) ∷ (Pools, has_pools bytes) ∷ (UnusedPools, has_unused_pools bytes) ∷ (States, has_states bytes) ∷ rules_of_parts (parts_in bytes)) ≡ None)
+    magic_holds : (has_magic bytes ≡ true) × (first_unmet ((Length, has_length bytes) ∷ (Pools, has_pools bytes) ∷ (UnusedPools, has_unused_pools bytes) ∷ (States, has_states bytes) ∷ rules_of_parts (parts_in bytes)) ≡ None)
     magic_holds = holds_first (has_magic bytes) Magic _ sound
 
-    length_holds : (has_length bytes ≡ true) × (first_of ((Pools, has_pools bytes) ∷ (UnusedPools, has_unused_pools bytes) ∷ (States, has_states bytes) ∷ rules_of_parts (parts_in bytes)) ≡ None)
+    length_holds : (has_length bytes ≡ true) × (first_unmet ((Pools, has_pools bytes) ∷ (UnusedPools, has_unused_pools bytes) ∷ (States, has_states bytes) ∷ rules_of_parts (parts_in bytes)) ≡ None)
     length_holds = holds_first (has_length bytes) Length _ magic_holds.1
 
-    pools_hold : (has_pools bytes ≡ true) × (first_of ((UnusedPools, has_unused_pools bytes) ∷ (States, has_states bytes) ∷ rules_of_parts (parts_in bytes)) ≡ None)
+    pools_hold : (has_pools bytes ≡ true) × (first_unmet ((UnusedPools, has_unused_pools bytes) ∷ (States, has_states bytes) ∷ rules_of_parts (parts_in bytes)) ≡ None)
     pools_hold = holds_first (has_pools bytes) Pools _ length_holds.1
 
-    pub parts_hold : first_of (rules_of_parts (parts_in bytes)) ≡ None
+    pub parts_hold : first_unmet (rules_of_parts (parts_in bytes)) ≡ None
     parts_hold = (holds_first (has_states bytes) States _ (holds_first (has_unused_pools bytes) UnusedPools _ pools_hold.1).1).1
 
     pub ordered : are_pools (length (parts_in bytes).records) 0 (entries_of (parts_in bytes).pools) ≡ true
@@ -96,7 +96,7 @@ module _ (bytes : List ℕ) where
 
       pub loaded_stand : Stands cells
       loaded_stand = imaged_stand cells (record {
-        unbroken = ap (λ p. first_of (rules_of_parts p)) loaded.held ∙ parts_hold;
+        unbroken = ap (λ p. first_unmet (rules_of_parts p)) loaded.held ∙ parts_hold;
         ordered = (λ i. are_pools (length (records i)) 0 (entries_of (pools i))) ∙ ordered;
         packed = pools ∙ packed_from (pool_of_bytes bytes) (two_at pools_at bytes) 0 most_pools ∙ ap (λ ps. padded (entries_of ps)) (sym pools);
         pools_count = ap length pools ∙ length-map-range_with_len (entry (pool_of_bytes bytes) (two_at pools_at bytes)) 0 most_pools;

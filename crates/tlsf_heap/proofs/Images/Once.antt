@@ -14,7 +14,7 @@ use Rattle.tlsf_heap.proofs.Images.Counting.{one_if, times-append, any_counts}
 use Rattle.tlsf_heap.specs.Good.{times}
 use Rattle.tlsf_heap.proofs.Images.LinkLemmas.{linked_on, linked_not_on, linked_end}
 use Rattle.tlsf_heap.proofs.Images.Distinct.{same_link}
-use Rattle.tlsf_heap.proofs.Images.Totals.{all_below, not_or, among_any, is_block, used_below, chains_once, on_chain_used, is_listed, list_once, listed_here, listed_from, first_list, other_lists}
+use Rattle.tlsf_heap.proofs.Images.Totals.{all_below, not_or, among_any, is_block, used_below, chains_once, on_chain_used, is_listed_slot, list_once, listed_here, listed_from, first_list, other_lists}
 use Rattle.tlsf_heap.specs.Inner.Entries.{entries_of}
 use Rattle.tlsf_heap.proofs.Images.ChainLemmas.{free_is_used}
 
@@ -58,7 +58,7 @@ module _ (parts : Parts) where
 
   -- the list of each class is one, also of those that there aren't
   pub list_at : (from number : ℕ) (heads : List (Option ℕ)) → are_lists parts from heads ≡ true → is_list parts (from + number) (slice_index_or heads number None) ≡ true
-  list_at from number [] lists = linked_end (is_listed parts (from + number)) (λ slot. (at parts slot).next_free) (λ slot. (at parts slot).prev_free) (length parts.records) None
+  list_at from number [] lists = linked_end (is_listed_slot parts (from + number)) (λ slot. (at parts slot).next_free) (λ slot. (at parts slot).prev_free) (length parts.records) None
   list_at from zero (first ∷ heads) lists =
       let P : ℕ → Type 0 = λ number. is_list parts number first ≡ true in
       let same : from ≡ from + 0 = omega arith in
@@ -91,11 +91,11 @@ module _ (parts : Parts) where
         let same : 0 + number ≡ number = omega arith in
         subst P same (list_at 0 number parts.heads lists)
 
-    pub in_list_once : has_all_on_lists parts ≡ true → (number slot : ℕ) → times slot (slots_in_list parts (head_at parts.heads number)) ≡ one_if (is_listed parts number slot)
+    pub in_list_once : has_all_on_lists parts ≡ true → (number slot : ℕ) → times slot (slots_in_list parts (head_at parts.heads number)) ≡ one_if (is_listed_slot parts number slot)
     in_list_once all number slot =
         let first = head_at parts.heads number in
         let list = list_of_class number in
-        as_often (times slot (slots_in_list parts first)) (is_listed parts number slot) (list_once parts number first list slot)
+        as_often (times slot (slots_in_list parts first)) (is_listed_slot parts number slot) (list_once parts number first list slot)
         (λ some. let free = listed_here parts number first list slot some in and_from _ _ free.0 (eq-eqb _ _ free.1))
         (λ listed.
         let both = and_parts (is_free_state (at parts slot).state) (eqb (class (at parts slot).size) number) listed in

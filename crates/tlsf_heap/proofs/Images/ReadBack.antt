@@ -7,7 +7,7 @@ use Rattle.tlsf_store.specs.declared.records.Record.{Record}
 use Rattle.tlsf_store.specs.declared.pools.Pool.{Pool}
 use Rattle.tlsf_store.specs.Records.{blank, record_at}
 use Rattle.tlsf_store.specs.Cells.{head_at as head_of, pool_at, most_pools}
-use Rattle.tlsf_heap.specs.Images.Image.{two_at, four_at, entry_at, head_at, record_start, state_of, size_word, pool_in, head_in, record_in, Parts}
+use Rattle.tlsf_heap.specs.Images.Image.{two_at, four_at, entry_at, head_at, record_start, block_state, size_word, pool_in, head_in, record_in, Parts}
 use Rattle.tlsf_store.specs.Slots.{missing, link_of}
 use Rattle.tlsf_heap.specs.Images.Writing.{word_of, entry_bytes, head_bytes, block_bytes, record_bytes, image_of}
 use Rattle.tlsf_heap.proofs.Images.WritingLemmas.{two_back, four_back, entry_byte, head_byte, record_byte}
@@ -89,15 +89,15 @@ module _ (parts : Parts) (pools_count : length parts.pools ≡ most_pools) (head
     size_is : size_word image slot - size_word image slot % unit ≡ r.size
     size_is = omega (arith, word, whole, low, code_is)
 
-    pub block_back : LinksFit r → record_in image slot ≡ record r { state = state_of code }
+    pub block_back : LinksFit r → record_in image slot ≡ record r { state = block_state code }
     block_back links =
         let prev = link_at 8 r.prev links.prev (omega arith) (two_back (word_of r.prev)) in
         let next = link_at 10 r.next links.next (omega arith) (two_back (word_of r.next)) in
         let prev_free = link_at 12 r.prev_free links.prev_free (omega arith) (two_back (word_of r.prev_free)) in
         let next_free = link_at 14 r.next_free links.next_free (omega arith) (two_back (word_of r.next_free)) in
         let used : eqb (size_word image slot % unit) 0 ≡ false = ne_eqb (size_word image slot % unit) 0 (λ e. omega (arith, e, code_is, some)) in
-        ap (λ b. if b then blank else record { place = four_at (record_start slot) image; size = size_word image slot - size_word image slot % unit; state = state_of (size_word image slot % unit); prev = link_of (two_at (record_start slot + 8) image); next = link_of (two_at (record_start slot + 10) image); prev_free = link_of (two_at (record_start slot + 12) image); next_free = link_of (two_at (record_start slot + 14) image) }) used
-        ∙ (λ i. record { place = place i; size = size_is i; state = state_of (code_is i); prev = prev i; next = next i; prev_free = prev_free i; next_free = next_free i })
+        ap (λ b. if b then blank else record { place = four_at (record_start slot) image; size = size_word image slot - size_word image slot % unit; state = block_state (size_word image slot % unit); prev = link_of (two_at (record_start slot + 8) image); next = link_of (two_at (record_start slot + 10) image); prev_free = link_of (two_at (record_start slot + 12) image); next_free = link_of (two_at (record_start slot + 14) image) }) used
+        ∙ (λ i. record { place = place i; size = size_is i; state = block_state (code_is i); prev = prev i; next = next i; prev_free = prev_free i; next_free = next_free i })
 
   -- a vacant record
   pub zero_code : (slot : ℕ) → slot < length parts.records → record_bytes (record_at parts.records slot) ≡ replicate 16 0 → size_word image slot % unit ≡ 0
@@ -110,4 +110,4 @@ module _ (parts : Parts) (pools_count : length parts.pools ≡ most_pools) (head
   pub vacant_back : (slot : ℕ) → slot < length parts.records → record_bytes (record_at parts.records slot) ≡ replicate 16 0 → record_in image slot ≡ blank
   vacant_back slot within is =
       let code = zero_code slot within is in
-      ap (λ b. if b then blank else record { place = four_at (record_start slot) image; size = size_word image slot - size_word image slot % unit; state = state_of (size_word image slot % unit); prev = link_of (two_at (record_start slot + 8) image); next = link_of (two_at (record_start slot + 10) image); prev_free = link_of (two_at (record_start slot + 12) image); next_free = link_of (two_at (record_start slot + 14) image) }) (eq-eqb (size_word image slot % unit) 0 code)
+      ap (λ b. if b then blank else record { place = four_at (record_start slot) image; size = size_word image slot - size_word image slot % unit; state = block_state (size_word image slot % unit); prev = link_of (two_at (record_start slot + 8) image); next = link_of (two_at (record_start slot + 10) image); prev_free = link_of (two_at (record_start slot + 12) image); next_free = link_of (two_at (record_start slot + 14) image) }) (eq-eqb (size_word image slot % unit) 0 code)

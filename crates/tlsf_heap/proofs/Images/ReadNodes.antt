@@ -18,8 +18,8 @@ use Rattle.tlsf_heap.proofs.Images.Totals.{all_first, all_rest}
 use Rattle.tlsf_heap.proofs.Images.Once.{linked_step, linked_ends}
 use Rattle.tlsf_heap.specs.Images.Described.{parts_of}
 use Rattle.tlsf_heap.specs.Inner.Entries.{entries_of}
-use Rattle.tlsf_heap.specs.Inner.Nodes.{NodeState, InUse, Listed, Node, Area, Layout, nodes_of, has_slot, is_listed, owner_of}
-use Rattle.tlsf_heap.specs.Inner.Represents.{in_pool, pool_views, state_of, first_slot, AreLinked, IsChain}
+use Rattle.tlsf_heap.specs.Inner.Nodes.{NodeState, InUse, Listed, Node, Area, Layout, nodes_of, has_slot, is_listed_state, owner_of}
+use Rattle.tlsf_heap.specs.Inner.Represents.{in_pool, pool_views, record_state, first_slot, AreLinked, IsChain}
 use Rattle.tlsf_heap.proofs.Counts.{count-map}
 
 -- the state of the node of a block whose record has this state
@@ -47,12 +47,12 @@ layout_of cells = record {
   taken = [];
 }
 
-pub state_back : (state : State) → is_used state ≡ true → state_of (node_state_in state) ≡ state
+pub state_back : (state : State) → is_used state ≡ true → record_state (node_state_in state) ≡ state
 state_back Vacant used = absurd (both_ways false refl used)
 state_back Free used = refl
 state_back Live used = refl
 
-pub node_state_listed : (state : State) → is_listed (node_state_in state) ≡ is_free_state state
+pub node_state_listed : (state : State) → is_listed_state (node_state_in state) ≡ is_free_state state
 node_state_listed Vacant = refl
 node_state_listed Free = refl
 node_state_listed Live = refl

@@ -10,11 +10,11 @@ use Rattle.tlsf_store.specs.declared.records.State.TheVariants.{Vacant, Free, Li
 use Rattle.tlsf_store.specs.Cells.{Cells, head_at, most_pools}
 use Rattle.tlsf_store.specs.Records.{is_free_state, record_at}
 use Rattle.tlsf_heap.specs.Images.Image.{Parts}
-use Rattle.tlsf_heap.specs.Images.Rules.{are_pools, first_of, rules_of_parts, at, is_used, chain_of, are_lists, slots_in_list}
+use Rattle.tlsf_heap.specs.Images.Rules.{are_pools, first_unmet, rules_of_parts, at, is_used, chain_of, are_lists, slots_in_list}
 use Rattle.tlsf_heap.proofs.Images.LinkLemmas.{follow_none}
 use Rattle.tlsf_heap.proofs.Images.Counting.{one_if, same_length}
 use Rattle.tlsf_heap.specs.Good.{times}
-use Rattle.tlsf_heap.proofs.Images.Totals.{is_block, used_below, is_listed as is_listed_slot, first_list, other_lists}
+use Rattle.tlsf_heap.proofs.Images.Totals.{is_block, used_below, is_listed_slot, first_list, other_lists}
 use Rattle.tlsf_heap.proofs.Images.Once.{linked_ends, on_chain_once, list_of_class, in_list_once}
 use Rattle.tlsf_heap.proofs.Images.UnbrokenRules.{IsUnbroken, unbroken}
 use Rattle.tlsf_heap.specs.Images.Described.{parts_of}
@@ -28,7 +28,7 @@ use Rattle.tlsf_heap.proofs.Images.ChainLemmas.{free_is_used}
 
 -- their parts break no rule, and the bitmaps are those of the heads
 pub record AreImaged (cells : Cells) : Type 0 where
-  pub unbroken : first_of (rules_of_parts (parts_of cells)) ≡ None
+  pub unbroken : first_unmet (rules_of_parts (parts_of cells)) ≡ None
   pub ordered : are_pools (length cells.records) 0 (entries_of cells.pools) ≡ true
   pub packed : cells.pools ≡ padded (entries_of cells.pools)
   pub pools_count : length cells.pools ≡ most_pools

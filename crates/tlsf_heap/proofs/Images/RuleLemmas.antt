@@ -7,7 +7,7 @@ use Rattle.tlsf_heap.specs.declared.image.rule.Rule.TheVariants.{OnChains, Merge
 use Rattle.tlsf_heap.specs.declared.image.chains.Tally.{Tally}
 use Rattle.tlsf_heap.specs.declared.image.links.Blocks.{Blocks}
 use Rattle.tlsf_heap.specs.Images.Image.{Parts}
-use Rattle.tlsf_heap.specs.Images.Rules.{is_used, chain_of, slots_in_list, has_links, has_chains, has_cover, has_merged, has_lists, has_all_on_chains, has_all_on_lists, are_pools, first_of, rules_of_parts}
+use Rattle.tlsf_heap.specs.Images.Rules.{is_used, chain_of, slots_in_list, has_links, has_chains, has_cover, has_merged, has_lists, has_all_on_chains, has_all_on_lists, are_pools, first_unmet, rules_of_parts}
 use Rattle.tlsf_heap.specs.Images.Findings.{links_found, chains_found, lists_with, HasSizes}
 use Rattle.tlsf_heap.proofs.Images.Totals.{was_found, was_missed, chains_counted, lists_counted}
 use Rattle.tlsf_heap.proofs.Images.SizeLemmas.{sizes}
@@ -54,11 +54,11 @@ module _ (parts : Parts) where
         rw ((chains_are tally chained).1.0, (links_are blocks linked).1.0) refl in
         sym (chains_counted parts links chains cover ordered) ∙ same
 
-    pub not_on_chains : nat_eq tally.blocks blocks.all ≡ false → first_of (rules_of_parts parts) ≡ Some OnChains
+    pub not_on_chains : nat_eq tally.blocks blocks.all ≡ false → first_unmet (rules_of_parts parts) ≡ Some OnChains
     not_on_chains other = rw (links, chains, cover, on_chains ∙ other) refl
 
     module _ (all : nat_eq tally.blocks blocks.all ≡ true) where
-      pub not_merged : tally.is_merged ≡ false → first_of (rules_of_parts parts) ≡ Some Merged
+      pub not_merged : tally.is_merged ≡ false → first_unmet (rules_of_parts parts) ≡ Some Merged
       not_merged other = rw (links, chains, cover, on_chains ∙ all, sym (chains_are tally chained).1.1.1 ∙ other) refl
 
       pub their_sizes : HasSizes parts
@@ -68,7 +68,7 @@ module _ (parts : Parts) where
         merged : has_merged parts ≡ true
         merged = sym (chains_are tally chained).1.1.1 ∙ are_merged
 
-        pub not_lists : lists_with parts 0 0 parts.heads ≡ None → first_of (rules_of_parts parts) ≡ Some Lists
+        pub not_lists : lists_with parts 0 0 parts.heads ≡ None → first_unmet (rules_of_parts parts) ≡ Some Lists
         not_lists other = rw (links, chains, cover, on_chains ∙ all, merged, lists_arent other) refl
 
         module _ (listed : ℕ) (found : lists_with parts 0 0 parts.heads ≡ Some listed) where
@@ -81,8 +81,8 @@ module _ (parts : Parts) where
               rw ((lists_are listed found).1, (links_are blocks linked).1.1) refl in
               sym (lists_counted parts lists) ∙ same
 
-          pub not_on_lists : nat_eq listed blocks.free ≡ false → first_of (rules_of_parts parts) ≡ Some OnLists
+          pub not_on_lists : nat_eq listed blocks.free ≡ false → first_unmet (rules_of_parts parts) ≡ Some OnLists
           not_on_lists other = rw (links, chains, cover, on_chains ∙ all, merged, lists, on_lists ∙ other) refl
 
-          pub none_broken : nat_eq listed blocks.free ≡ true → first_of (rules_of_parts parts) ≡ None
+          pub none_broken : nat_eq listed blocks.free ≡ true → first_unmet (rules_of_parts parts) ≡ None
           none_broken same = rw (links, chains, cover, on_chains ∙ all, merged, lists, on_lists ∙ same) refl

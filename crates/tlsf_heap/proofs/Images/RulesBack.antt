@@ -11,7 +11,7 @@ use Rattle.tlsf_store.specs.declared.pools.Pool.{Pool}
 use Rattle.tlsf_store.specs.Records.{record_at}
 use Rattle.tlsf_store.specs.Cells.{pool_at, most_pools}
 use Rattle.tlsf_heap.specs.Images.Image.{two_at, are_zero, count_at, pools_at, zeros_at, entry_at, record_start, size_word, parts_in, Parts}
-use Rattle.tlsf_heap.specs.Images.Rules.{is_used, are_pools, has_magic, has_length, has_pools, has_unused_pools, has_state, has_states, IsReadable, first_of, rules_of_parts, first_broken}
+use Rattle.tlsf_heap.specs.Images.Rules.{is_used, are_pools, has_magic, has_length, has_pools, has_unused_pools, has_state, has_states, IsReadable, first_unmet, rules_of_parts, first_broken}
 use Rattle.tlsf_heap.specs.Images.Writing.{bytes_in, record_bytes, entry_bytes, image_of}
 use Rattle.tlsf_heap.proofs.Images.WritingLemmas.{image_long, entry_byte, record_byte}
 use Rattle.tlsf_heap.proofs.Images.ReadBack.{code_is, zero_code}
@@ -109,5 +109,5 @@ module _ (parts : Parts) (writable : AreWritable parts) (some : 0 < length parts
   written_readable = record { magic = magic; length = whole; pools = entries; unused = unused; states = states }
 
   -- so the bytes break just the rules of the parts
-  pub written_first : first_broken image ≡ first_of (rules_of_parts parts)
-  written_first = first_left image written_readable ∙ ap (λ (p : Parts). first_of (rules_of_parts p)) (parts_back parts writable)
+  pub written_first : first_broken image ≡ first_unmet (rules_of_parts parts)
+  written_first = first_left image written_readable ∙ ap (λ (p : Parts). first_unmet (rules_of_parts p)) (parts_back parts writable)

@@ -19,7 +19,7 @@ use Rattle.tlsf_heap.specs.Images.Described.{parts_of}
 use Rattle.tlsf_heap.specs.Content.{blocks_of}
 use Rattle.tlsf_heap.specs.Good.{Covers, NoFreeNeighbours, AreGoodPools, times, is_listed, AreLists, IsGood}
 use Rattle.tlsf_heap.specs.Inner.Entries.{entries_of}
-use Rattle.tlsf_heap.specs.Inner.Nodes.{Node, Area, block_of, pool_of, owner_of, content_by, nodes_of, nodes_in, has_place, is_listed as is_listed_state, is_listed_in}
+use Rattle.tlsf_heap.specs.Inner.Nodes.{Node, Area, block_of, pool_of, owner_of, content_by, nodes_of, nodes_in, has_place, is_listed_state, is_listed_in}
 use Rattle.tlsf_heap.specs.Inner.Positions.{is_loose}
 use Rattle.tlsf_heap.specs.Inner.Following.{Stands}
 use Rattle.tlsf_heap.proofs.Counts.{one_if, count-cons, count-map, count_same}

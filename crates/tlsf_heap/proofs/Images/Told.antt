@@ -7,7 +7,7 @@ use Rattle.tlsf_store.specs.declared.records.State.TheVariants.{Vacant, Free, Li
 use Rattle.tlsf_store.specs.declared.records.Record.{Record}
 use Rattle.tlsf_store.specs.Records.{blank, record_at, is_free_state}
 use Rattle.tlsf_heap.specs.Images.Rules.{is_used}
-use Rattle.tlsf_heap.specs.Images.Described.{told_in, told}
+use Rattle.tlsf_heap.specs.Images.Described.{told_in, told_record}
 use Rattle.tlsf_heap.specs.Inner.Represents.{pool_view, list_view}
 use Rattle.tlsf_heap.proofs.Images.Alike.{AreAlike, LiveAlone}
 
@@ -32,22 +32,22 @@ told_live Free r live = absurd (cc)
 told_live Live r live = refl
 
 module _ (records : List Record) where
-  pub told_at : (slot : ℕ) → record_at (map told records) slot ≡ told (record_at records slot)
+  pub told_at : (slot : ℕ) → record_at (map told_record records) slot ≡ told_record (record_at records slot)
   told_at slot = elim (cases_lt slot (length records)) [
-    | inl below ↦ get_or-map told records slot blank blank below
-    | inr past ↦ get_or_past (map told records) slot blank (omega (arith, past, length-map records told)) ∙ sym (ap told (get_or_past records slot blank past))
+    | inl below ↦ get_or-map told_record records slot blank blank below
+    | inr past ↦ get_or_past (map told_record records) slot blank (omega (arith, past, length-map records told_record)) ∙ sym (ap told_record (get_or_past records slot blank past))
   ]
 
-  pub told_states : (slot : ℕ) → (record_at records slot).state ≡ (record_at (map told records) slot).state
+  pub told_states : (slot : ℕ) → (record_at records slot).state ≡ (record_at (map told_record records) slot).state
   told_states slot = let r = record_at records slot in sym (ap (λ (q : Record). q.state) (told_at slot) ∙ told_state r.state r refl)
 
-  pub told_alike : AreAlike records (map told records)
+  pub told_alike : AreAlike records (map told_record records)
   told_alike = record {
-    count = sym (length-map records told);
+    count = sym (length-map records told_record);
     states = told_states;
     in_pool = λ slot used. let r = record_at records slot in sym (ap pool_view (told_at slot) ∙ told_in_pool r.state r used);
     in_list = λ slot free. let r = record_at records slot in sym (ap list_view (told_at slot) ∙ told_in_list r.state r free);
   }
 
-  pub told_alone : LiveAlone (map told records)
+  pub told_alone : LiveAlone (map told_record records)
   told_alone slot live = let r = record_at records slot in ap list_view (told_at slot) ∙ told_live r.state r (told_states slot ∙ live)

@@ -242,10 +242,10 @@ module _ (parts : Parts) where
 
   -- ---- lists
 
-  abbrev pub is_listed : ℕ → ℕ → Bool
-  is_listed number slot = is_free_state (at parts slot).state && (class (at parts slot).size == number)
+  abbrev pub is_listed_slot : ℕ → ℕ → Bool
+  is_listed_slot number slot = is_free_state (at parts slot).state && (class (at parts slot).size == number)
 
-  pub list_free : (number : ℕ) (first : Option ℕ) → is_list parts number first ≡ true → list_all (is_listed number) (slots_in_list parts first) ≡ true
+  pub list_free : (number : ℕ) (first : Option ℕ) → is_list parts number first ≡ true → list_all (is_listed_slot number) (slots_in_list parts first) ≡ true
   list_free number first list = (and_parts _ _ (and_parts _ _ list).1).0
 
   pub list_once : (number : ℕ) (first : Option ℕ) → is_list parts number first ≡ true → (slot : ℕ) → times slot (slots_in_list parts first) ≤ 1
@@ -254,7 +254,7 @@ module _ (parts : Parts) where
   -- a block in a list is free, and of its class
   pub listed_here : (number : ℕ) (first : Option ℕ) → is_list parts number first ≡ true → (slot : ℕ) → 1 ≤ times slot (slots_in_list parts first) → (is_free_state (at parts slot).state ≡ true) × (class (at parts slot).size ≡ number)
   listed_here number first list slot some =
-      let both = and_parts (is_free_state (at parts slot).state) (eqb (class (at parts slot).size) number) (all_among (is_listed number) (slots_in_list parts first) (list_free number first list) slot some) in
+      let both = and_parts (is_free_state (at parts slot).state) (eqb (class (at parts slot).size) number) (all_among (is_listed_slot number) (slots_in_list parts first) (list_free number first list) slot some) in
       (both.0, eqb-true (class (at parts slot).size) number both.1)
 
   module _ (number : ℕ) (first : Option ℕ) (heads : List (Option ℕ)) (lists : are_lists parts number (first ∷ heads) ≡ true) where

@@ -27,7 +27,7 @@ use Rattle.tlsf_heap.specs.Content.{is_free}
 use Rattle.tlsf_heap.specs.Good.{Covers, NoFreeNeighbours, IsGoodPool, AreGoodPools}
 use Rattle.tlsf_heap.specs.Inner.Entries.{entries_of}
 use Rattle.tlsf_heap.specs.Inner.Nodes.{NodeState, InUse, Listed, Loose, Node, Area, owner_of, block_of, pool_of, nodes_of, nodes_in, has_slot}
-use Rattle.tlsf_heap.specs.Inner.Represents.{InPool, InList, in_pool, in_list, pool_views, list_views, state_of, first_slot, AreLinked, IsChain, uses_in}
+use Rattle.tlsf_heap.specs.Inner.Represents.{InPool, InList, in_pool, in_list, pool_views, list_views, record_state, first_slot, AreLinked, IsChain, uses_in}
 use Rattle.tlsf_heap.specs.Inner.Following.{Stands}
 use Rattle.tlsf_heap.proofs.Images.Alike.{LiveAlone}
 use Rattle.tlsf_heap.proofs.Counts.{one_if, count-cons, count-plug, count-map, FirstPassing, first_passing}
@@ -63,12 +63,12 @@ linked_slots says at next back tells tells_back test (suc n) before (node ∷ no
     ∙ ap (is_linked test (λ slot. next (at slot)) (λ slot. back (at slot)) n (Some node.slot)) (ap next linked.0 ∙ tells before node (first_slot nodes))
     ∙ rest
 
-used_node_state : (node_state : NodeState) → is_used (state_of node_state) ≡ true
+used_node_state : (node_state : NodeState) → is_used (record_state node_state) ≡ true
 used_node_state InUse = refl
 used_node_state Listed = refl
 used_node_state Loose = refl
 
-free_node_state : (node_state : NodeState) (slot : ℕ) → is_none (owner_of node_state slot) ≡ is_free_state (state_of node_state)
+free_node_state : (node_state : NodeState) (slot : ℕ) → is_none (owner_of node_state slot) ≡ is_free_state (record_state node_state)
 free_node_state InUse slot = refl
 free_node_state Listed slot = refl
 free_node_state Loose slot = refl
@@ -116,7 +116,7 @@ module _ (cells : Cells) (stands : Stands cells) where
   none_vacant : (before : Option ℕ) (nodes : List Node) → AreLinked in_pool (pool_views cells.records) before nodes → count_by (λ node. not (used node.slot)) nodes ≡ 0
   none_vacant before [] linked = refl
   none_vacant before (node ∷ nodes) linked =
-      let state : (at parts node.slot).state ≡ state_of node.state = ap (λ (v : InPool). v.state) linked.0 in
+      let state : (at parts node.slot).state ≡ record_state node.state = ap (λ (v : InPool). v.state) linked.0 in
       omega (arith, count-cons (λ (other : Node). not (used other.slot)) node nodes, ap (λ s. one_if (not (is_used s))) state, ap (λ b. one_if (not b)) (used_node_state node.state), none_vacant (Some node.slot) nodes linked.1)
 
   -- what is known of an area: its nodes are linked, and not too many, and it stands for a good pool

@@ -4,7 +4,7 @@ use Rattle.std.specs.Prelude.{if◌then◌else◌}
 use Rattle.tlsf_heap.specs.declared.image.rule.Rule.{Rule}
 use Rattle.tlsf_heap.specs.declared.image.rule.Rule.TheVariants.{Links, Chains, Cover, OnChains, Merged, Lists, OnLists}
 use Rattle.tlsf_heap.specs.Images.Image.{Parts}
-use Rattle.tlsf_heap.specs.Images.Rules.{has_links, has_chains, has_cover, has_all_on_chains, has_merged, has_lists, has_all_on_lists, first_of, rules_of_parts}
+use Rattle.tlsf_heap.specs.Images.Rules.{has_links, has_chains, has_cover, has_all_on_chains, has_merged, has_lists, has_all_on_lists, first_unmet, rules_of_parts}
 
 -- the rules of parts
 pub record IsUnbroken (parts : Parts) : Type 0 where
@@ -20,7 +20,7 @@ pub holds_first : (holds : Bool) (rule : Rule) (rest : Option Rule) → (if hold
 holds_first true rule rest none = (refl, none)
 holds_first false rule rest none = absurd (cc)
 
-pub unbroken : (parts : Parts) → first_of (rules_of_parts parts) ≡ None → IsUnbroken parts
+pub unbroken : (parts : Parts) → first_unmet (rules_of_parts parts) ≡ None → IsUnbroken parts
 unbroken parts none =
     let links = holds_first (has_links parts) Links _ none in
     let chains = holds_first (has_chains parts) Chains _ links.1 in
@@ -35,7 +35,7 @@ first_on : (holds : Bool) (rule : Rule) (rest : Option Rule) → holds ≡ true 
 first_on true rule rest is none = none
 first_on false rule rest is none = absurd (cc)
 
-pub none_broken : (parts : Parts) → IsUnbroken parts → first_of (rules_of_parts parts) ≡ None
+pub none_broken : (parts : Parts) → IsUnbroken parts → first_unmet (rules_of_parts parts) ≡ None
 none_broken parts is =
     first_on (has_links parts) Links _ is.links (
     first_on (has_chains parts) Chains _ is.chains (

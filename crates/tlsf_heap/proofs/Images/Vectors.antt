@@ -10,7 +10,7 @@ use Rattle.tlsf_store.specs.declared.records.State.TheVariants.{Free, Live}
 use Rattle.tlsf_store.specs.declared.records.Record.{Record}
 use Rattle.tlsf_store.specs.Records.{blank}
 use Rattle.tlsf_heap.specs.Images.Image.{Parts, parts_in}
-use Rattle.tlsf_heap.specs.Images.Rules.{first_of, first_broken, rules, rules_of_parts}
+use Rattle.tlsf_heap.specs.Images.Rules.{first_unmet, first_broken, rules, rules_of_parts}
 use Rattle.tlsf_heap.specs.Images.Writing.{record_bytes, image_of}
 
 -- all rules whose test says no
@@ -111,7 +111,7 @@ unfolding class low
 part_rows-broken = refl
 
 -- a ring; of two that are broken the one that stands first is named
-first_named : map (λ parts. first_of (rules_of_parts parts)) (parts_of 64 4 (Some 0) (block 0 64 Free None (Some 0) ∷ []) ∷ parts_of 64 4 (Some 65280) (block 16 64 Free None None ∷ []) ∷ []) ≡ Some Chains ∷ Some Links ∷ []
+first_named : map (λ parts. first_unmet (rules_of_parts parts)) (parts_of 64 4 (Some 0) (block 0 64 Free None (Some 0) ∷ []) ∷ parts_of 64 4 (Some 65280) (block 16 64 Free None None ∷ []) ∷ []) ≡ Some Chains ∷ Some Links ∷ []
 unfolding class low
 first_named = refl
 

@@ -19,7 +19,7 @@ use Rattle.tlsf_heap.proofs.Images.Writable.{below_written, block_written}
 use Rattle.tlsf_heap.proofs.Images.ImageBack.{AreWritable, parts_back}
 use Rattle.tlsf_heap.proofs.Images.RulesBack.{written_first}
 use Rattle.tlsf_store.specs.declared.pools.Pool.{Pool as StoredPool}
-use Rattle.tlsf_heap.specs.Images.Described.{described, told, told_in, told_parts}
+use Rattle.tlsf_heap.specs.Images.Described.{described, told_record, told_in, told_parts}
 use Rattle.tlsf_heap.specs.Inner.Entries.{entries_of}
 use Rattle.tlsf_heap.specs.Inner.Nodes.{has_slot}
 use Rattle.tlsf_heap.specs.Inner.Represents.{InPool, pool_views, first_slot}
@@ -47,7 +47,7 @@ module _ (cells : Cells) (stands : Stands cells) (few : length cells.records ≤
   rules = unbroken parts (told_unbroken cells stands)
 
   count : length parts.records ≡ length cells.records
-  count = length-map cells.records told
+  count = length-map cells.records told_record
 
   heads_count : length cells.heads ≡ classes
   heads_count = ap length stands.represented.index.heads_are ∙ length-map stands.layout.lists first_slot ∙ stands.represented.index.lists_count

@@ -10,8 +10,8 @@ use Rattle.tlsf_store.specs.Cells.{Cells, with_taken}
 use Rattle.tlsf_heap.specs.Good.{Covers}
 use Rattle.tlsf_heap.specs.declared.span.Span.{Span}
 use Rattle.tlsf_heap.specs.Inner.Edits.{IsUsed, unlinked_by}
-use Rattle.tlsf_heap.specs.Inner.Spans.{IsRead, span_at, rest_of, split_by}
-use Rattle.tlsf_heap.specs.Inner.Nodes.{NodeState, InUse, Listed, Loose, Node, turned, rest_node, block_of, is_listed, Layout, pool_of, nodes_of}
+use Rattle.tlsf_heap.specs.Inner.Spans.{IsRead, span_at, rest_record, split_by}
+use Rattle.tlsf_heap.specs.Inner.Nodes.{NodeState, InUse, Listed, Loose, Node, turned, rest_node, block_of, is_listed_state, Layout, pool_of, nodes_of}
 use Rattle.tlsf_heap.specs.Inner.Represents.{Represents}
 use Rattle.tlsf_heap.specs.Inner.At.{At, layout_at, StandsAt, at_unlisted, with_slot, at_turned, at_split, AreCovered, at_split_off, at_split_rest}
 use Rattle.tlsf_heap.proofs.Counts.{one_if, count-cons}
@@ -84,7 +84,7 @@ module _ (cells : Cells) (slot rest : ℕ) (node_state : NodeState) (at : At) (s
   rest_used = stands_used cells (layout_at (with_slot rest at)) rest stands.0 (omega (arith, times-cons rest rest at.taken, ap one_if (eq-eqb rest rest refl)))
 
 -- a block that was read, and was split into one in use and a loose one
-pub span_splits : (old new : Cells) (span : Span) (node_state : NodeState) (rest : ℕ) (second : Option ℕ) (bytes : ℕ) (at : At) → is_listed node_state ≡ false → StandsAt span.slot node_state old (with_slot rest at) → IsRead span old.records → 0 < bytes → bytes < span.size → bytes % unit ≡ 0
+pub span_splits : (old new : Cells) (span : Span) (node_state : NodeState) (rest : ℕ) (second : Option ℕ) (bytes : ℕ) (at : At) → is_listed_state node_state ≡ false → StandsAt span.slot node_state old (with_slot rest at) → IsRead span old.records → 0 < bytes → bytes < span.size → bytes % unit ≡ 0
     → new ≡ split_by span rest Free second bytes old → StandsAt rest Loose new (at_split rest bytes (at_turned InUse at))
 span_splits old new span node_state rest second bytes at unlisted stands read some less whole is =
     let loose : Node → Bool = λ n. is_loose n.state in
@@ -92,7 +92,7 @@ span_splits old new span node_state rest second bytes at unlisted stands read so
     let known : span ≡ span_at at = span_is old node_state (with_slot rest at) span stands read in
     let size = ap (λ (s : Span). s.size) known in (
       subst (λ c. Represents c (layout_at (at_split rest bytes (at_turned InUse at)))) (sym (is ∙ ap (λ s. split_by s rest Free second bytes old) known))
-          (split_laid old at.count at.position at.node at.nodes at.lists rest Loose second at.taken bytes stands.0 (ap is_listed stands.1.node_state_is ∙ unlisted) refl),
+          (split_laid old at.count at.position at.node at.nodes at.lists rest Loose second at.taken bytes stands.0 (ap is_listed_state stands.1.node_state_is ∙ unlisted) refl),
       record {
         slot_is = refl;
         node_state_is = refl;
@@ -108,13 +108,13 @@ span_splits old new span node_state rest second bytes at unlisted stands read so
     )
 
 -- the record of the rest
-pub span_rest : (old new : Cells) (span : Span) (node_state : NodeState) (rest : ℕ) (second : Option ℕ) (bytes : ℕ) (at : At) → is_listed node_state ≡ false → StandsAt span.slot node_state old (with_slot rest at) → IsRead span old.records
-    → new ≡ split_by span rest Free second bytes old → record_at new.records rest ≡ rest_of Free span second bytes
+pub span_rest : (old new : Cells) (span : Span) (node_state : NodeState) (rest : ℕ) (second : Option ℕ) (bytes : ℕ) (at : At) → is_listed_state node_state ≡ false → StandsAt span.slot node_state old (with_slot rest at) → IsRead span old.records
+    → new ≡ split_by span rest Free second bytes old → record_at new.records rest ≡ rest_record Free span second bytes
 span_rest old new span node_state rest second bytes at unlisted stands read is =
     let known : span ≡ span_at at = span_is old node_state (with_slot rest at) span stands read in
     ap (λ (c : Cells). record_at c.records rest) (is ∙ ap (λ s. split_by s rest Free second bytes old) known)
-    ∙ at_rest old at.count at.position at.node at.nodes at.lists rest Loose second at.taken bytes stands.0 (ap is_listed stands.1.node_state_is ∙ unlisted) refl
-    ∙ ap (λ s. rest_of Free s second bytes) (sym known)
+    ∙ at_rest old at.count at.position at.node at.nodes at.lists rest Loose second at.taken bytes stands.0 (ap is_listed_state stands.1.node_state_is ∙ unlisted) refl
+    ∙ ap (λ s. rest_record Free s second bytes) (sym known)
 
 -- the node keeps its first bytes, and a live one of what is left stands behind it
 abbrev pub at_front : ℕ → ℕ → At → At
@@ -129,7 +129,7 @@ span_gaps old new span live bytes at stands read some less whole is =
     let known : span ≡ span_at at = span_is old InUse (with_slot live at) span stands read in
     let size = ap (λ (s : Span). s.size) known in (
       subst (λ c. Represents c (layout_at (at_front live bytes (at_turned InUse at)))) (sym (is ∙ ap (λ s. split_by s live Live None bytes old) known))
-          (split_laid old at.count at.position at.node at.nodes at.lists live InUse None at.taken bytes stands.0 (ap is_listed stands.1.node_state_is) refl),
+          (split_laid old at.count at.position at.node at.nodes at.lists live InUse None at.taken bytes stands.0 (ap is_listed_state stands.1.node_state_is) refl),
       record {
         slot_is = stands.1.slot_is;
         node_state_is = refl;

@@ -10,7 +10,7 @@ use Rattle.tlsf_heap.specs.Content.{Block, is_free}
 use Rattle.tlsf_heap.specs.Pools.{is_unused}
 use Rattle.tlsf_heap.specs.Inner.Nodes.{NodeState, InUse, Listed, Loose, Node, Area, block_of, pool_of, entries_in}
 use Rattle.tlsf_heap.specs.Inner.Positions.{plug}
-use Rattle.tlsf_heap.specs.Inner.Represents.{InPool, state_of, pool_views, first_slot, IsChain}
+use Rattle.tlsf_heap.specs.Inner.Represents.{InPool, record_state, pool_views, first_slot, IsChain}
 
 -- one more in front of all
 plug-first : {X : Type 0} (front : List X) (x : X) (behind : List X) → plug (front ++ x ∷ []) behind ≡ x ∷ plug front behind
@@ -53,7 +53,7 @@ area_at (suc number) (first ∷ areas) within =
       others = ap (λ entries. first.entry ∷ entries) rest.others ∙ ap entries_in (sym (plug-first rest.front first rest.behind));
     }
 
-state_free : (node_state : NodeState) (node : Node) → (is_free (block_of (record node { state = node_state })) && true) ≡ (is_free_state (state_of node_state) && true)
+state_free : (node_state : NodeState) (node : Node) → (is_free (block_of (record node { state = node_state })) && true) ≡ (is_free_state (record_state node_state) && true)
 state_free InUse node = refl
 state_free Listed node = refl
 state_free Loose node = refl
@@ -68,7 +68,7 @@ pub record FirstNode (records : List Record) (area : Area) : Type 0 where
   pub nodes : List Node
   pub whole : area.nodes ≡ node ∷ nodes
   pub slot_is : node.slot ≡ area.entry.first
-  pub state_is : (record_at records node.slot).state ≡ state_of node.state
+  pub state_is : (record_at records node.slot).state ≡ record_state node.state
   pub next_is : (record_at records node.slot).next ≡ first_slot nodes
   -- the pool is one free block
   pub unused : is_unused (pool_of area) ≡ (is_free_state (record_at records node.slot).state && is_none (record_at records node.slot).next)
@@ -93,8 +93,8 @@ first_node records area chain = of area.nodes refl
           unused = rw (is, state, next) (alone nodes);
         }
       where
-        alone : (ns : List Node) → is_unused (pool_of (record area { nodes = node ∷ ns })) ≡ (is_free_state (state_of node.state) && is_none (first_slot ns))
+        alone : (ns : List Node) → is_unused (pool_of (record area { nodes = node ∷ ns })) ≡ (is_free_state (record_state node.state) && is_none (first_slot ns))
         alone [] = state_free node.state node
         alone (n ∷ ns) =
             let blocks : List (Block ℕ) = map block_of (node ∷ n ∷ ns) in
-            ap (λ b. b && list_all is_free blocks) (ne_eqb (length blocks) 1 (λ e. absurd (omega (arith, e)))) ∙ sym (never_alone (is_free_state (state_of node.state)))
+            ap (λ b. b && list_all is_free blocks) (ne_eqb (length blocks) 1 (λ e. absurd (omega (arith, e)))) ∙ sym (never_alone (is_free_state (record_state node.state)))

@@ -11,9 +11,9 @@ use Rattle.tlsf_class.specs.Classes.{class}
 use Rattle.tlsf_store.specs.Cells.{Cells}
 use Rattle.tlsf_heap.specs.Inner.Entries.{padded}
 use Rattle.tlsf_heap.specs.Good.{times}
-use Rattle.tlsf_heap.specs.Inner.Nodes.{NodeState, InUse, Listed, Loose, Node, Area, nodes_of, nodes_in, has_slot, is_listed, is_listed_in}
+use Rattle.tlsf_heap.specs.Inner.Nodes.{NodeState, InUse, Listed, Loose, Node, Area, nodes_of, nodes_in, has_slot, is_listed_state, is_listed_in}
 use Rattle.tlsf_heap.specs.Inner.Positions.{plug, Position, filled, laid}
-use Rattle.tlsf_heap.specs.Inner.Represents.{InPool, InList, in_pool, in_list, pool_view, pool_views, list_views, state_of, first_slot, AreLinked, IsChain, uses_in, AreChains, IsIndex, Agree, Represented, Represents}
+use Rattle.tlsf_heap.specs.Inner.Represents.{InPool, InList, in_pool, in_list, pool_view, pool_views, list_views, record_state, first_slot, AreLinked, IsChain, uses_in, AreChains, IsIndex, Agree, Represented, Represents}
 use Rattle.tlsf_heap.proofs.Counts.{one_if, count-cons, count_and}
 use Rattle.tlsf_heap.proofs.Content.FreeLists.{times-cons}
 use Rattle.tlsf_heap.proofs.Inner.Plugs.{map-plug, all_parts, all_plugged, count-nodes, around, count-filled}
@@ -95,7 +95,7 @@ agree_refilled position olds news lists agree same number test =
     omega (arith, agree number test, same number test, count-filled listed position olds, count-filled listed position news)
 
 -- a node that is in no list counts in none
-pub unlisted : (number : ℕ) (test : Node → Bool) (node : Node) → is_listed node.state ≡ false → one_if (is_listed_in number node && test node) ≡ 0
+pub unlisted : (number : ℕ) (test : Node → Bool) (node : Node) → is_listed_state node.state ≡ false → one_if (is_listed_in number node && test node) ≡ 0
 unlisted number test node not_listed = ap (λ b. one_if ((b && eqb (class node.size) number) && test node)) not_listed
 
 -- the index where no listed slot reads otherwise
@@ -116,7 +116,7 @@ module _ (areas : List Area) (lists : List (List Node)) (agree : Agree areas lis
 
 -- the slot of a node that is in no list stands in none
 pub unlisted_nowhere : (at : ℕ → InPool) (position : Position) (node : Node) (nodes : List Node) (lists : List (List Node)) (taken : List ℕ)
-    → AreChains at (filled position (node ∷ nodes)) taken → Agree (filled position (node ∷ nodes)) lists → is_listed node.state ≡ false → (number : ℕ) → count_by (has_slot node.slot) (nodes_in number lists) ≡ 0
+    → AreChains at (filled position (node ∷ nodes)) taken → Agree (filled position (node ∷ nodes)) lists → is_listed_state node.state ≡ false → (number : ℕ) → count_by (has_slot node.slot) (nodes_in number lists) ≡ 0
 unlisted_nowhere at position node nodes lists taken chains agree not_listed number =
     let listed : Node → Bool = λ other. is_listed_in number other && has_slot node.slot other in
     omega (
@@ -135,7 +135,7 @@ unlisted_nowhere at position node nodes lists taken chains agree not_listed numb
     )
 
 -- the record of a node is in use
-pub uses_node : (node_state : NodeState) → uses_in (state_of node_state) ≡ 1
+pub uses_node : (node_state : NodeState) → uses_in (record_state node_state) ≡ 1
 uses_node InUse = refl
 uses_node Listed = refl
 uses_node Loose = refl

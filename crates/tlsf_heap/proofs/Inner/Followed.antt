@@ -11,7 +11,7 @@ use Rattle.tlsf_store.specs.Cells.{Cells}
 use Rattle.tlsf_heap.specs.Inner.Entries.{entries_of}
 use Rattle.tlsf_heap.proofs.Inner.EntryLists.{entries_of-padded}
 use Rattle.tlsf_heap.specs.Inner.Nodes.{NodeState, InUse, Listed, Loose, Node, Area, Layout, owner_of, block_of, pool_of, content_by, nodes_of, nodes_in, is_listed_in}
-use Rattle.tlsf_heap.specs.Inner.Represents.{InPool, in_pool, in_list, pool_views, list_views, state_of, first_slot, AreLinked, IsChain, Represents}
+use Rattle.tlsf_heap.specs.Inner.Represents.{InPool, in_pool, in_list, pool_views, list_views, record_state, first_slot, AreLinked, IsChain, Represents}
 use Rattle.tlsf_heap.specs.Inner.Following.{follow, owner_in, block_at, pool_from, list_from, content_of, Stands}
 use Rattle.tlsf_heap.proofs.Counts.{one_if, count-cons, count_and, count_all}
 use Rattle.tlsf_heap.proofs.Inner.Plugs.{count-nodes}
@@ -27,7 +27,7 @@ follow_linked says at next tells (suc n) before (node ∷ nodes) few l =
     ap (λ first. node.slot ∷ follow n (λ slot. next (at slot)) first) (ap next l.0 ∙ tells before node (first_slot nodes))
     ∙ ap (λ slots. node.slot ∷ slots) (follow_linked says at next tells n (Some node.slot) nodes (omega (arith, few)) l.1)
 
-owner_is : (node_state : NodeState) (slot : ℕ) → owner_in (state_of node_state) slot ≡ owner_of node_state slot
+owner_is : (node_state : NodeState) (slot : ℕ) → owner_in (record_state node_state) slot ≡ owner_of node_state slot
 owner_is InUse slot = refl
 owner_is Listed slot = refl
 owner_is Loose slot = refl

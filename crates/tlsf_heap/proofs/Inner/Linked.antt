@@ -11,7 +11,7 @@ use Rattle.tlsf_heap.specs.Inner.Entries.{padded}
 use Rattle.tlsf_heap.specs.Inner.Edits.{edited_in, with_prev_free, with_free_links, with_bit_before, linked}
 use Rattle.tlsf_heap.specs.Inner.Nodes.{NodeState, Node, Area, Listed, Loose, turned, nodes_of, has_slot, nodes_in, is_listed_in, entered}
 use Rattle.tlsf_heap.specs.Inner.Positions.{Position, laid, filled}
-use Rattle.tlsf_heap.specs.Inner.Represents.{InPool, pool_view, list_view, pool_views, list_views, state_of, in_pool, in_list, first_slot, AreLinked, AreChains, Agree, Represented, Represents}
+use Rattle.tlsf_heap.specs.Inner.Represents.{InPool, pool_view, list_view, pool_views, list_views, record_state, in_pool, in_list, first_slot, AreLinked, AreChains, Agree, Represented, Represents}
 use Rattle.tlsf_heap.proofs.Bits.Edits.{bits_set, bits_kept}
 use Rattle.tlsf_heap.proofs.Counts.{count-cons}
 use Rattle.tlsf_heap.proofs.Inner.Plugs.{count-filled}
@@ -22,7 +22,7 @@ use Rattle.tlsf_heap.proofs.Inner.Chains.{chains_refilled, linked_at, uses_most,
 use Rattle.tlsf_heap.proofs.Inner.Taken.{counted_apart}
 
 -- a node at a position enters or leaves its list: its pool doesn't see it
-pub chains_turned : (at new : ℕ → InPool) (position : Position) (node : Node) (nodes : List Node) (old node_state : NodeState) (taken : List ℕ) → state_of node_state ≡ state_of old → new ≡ at
+pub chains_turned : (at new : ℕ → InPool) (position : Position) (node : Node) (nodes : List Node) (old node_state : NodeState) (taken : List ℕ) → record_state node_state ≡ record_state old → new ≡ at
     → AreChains at (filled position (turned old node ∷ nodes)) taken → AreChains new (filled position (turned node_state node ∷ nodes)) taken
 chains_turned at new position node nodes old node_state taken alike same were =
     let P : (ℕ → InPool) → Type 0 = λ views. AreChains views (filled position (turned node_state node ∷ nodes)) taken in

@@ -4,7 +4,7 @@ use Rattle.std.proofs.lemmas.Bool.{cases_eq, eq-eqb, ne_eqb, eqb-true, false≢t
 use Rattle.std.proofs.lemmas.List.{get_or-set_same, get_or-set_other, length-set, map-set, get_or-map}
 use Rattle.tlsf_class.specs.Classes.{classes, class}
 use Rattle.tlsf_class.proofs.ClassLaws.{class-lt}
-use Rattle.tlsf_heap.specs.Inner.Nodes.{Node, Area, nodes_of, nodes_in, has_slot, is_listed, is_listed_in, without_slot, left, entered}
+use Rattle.tlsf_heap.specs.Inner.Nodes.{Node, Area, nodes_of, nodes_in, has_slot, is_listed_state, is_listed_in, without_slot, left, entered}
 use Rattle.tlsf_heap.specs.Inner.Represents.{first_slot, Agree}
 use Rattle.tlsf_heap.proofs.Counts.{one_if, count-cons, count-filter, count_apart}
 
@@ -18,7 +18,7 @@ lists_apart areas lists number other q agree apart =
       arith,
       agree number (has_slot q),
       agree other (has_slot q),
-      count_apart in_one in_other (has_slot q) (λ node. both (is_listed node.state) (eqb (class node.size) number) (eqb (class node.size) other) (has_slot q node)
+      count_apart in_one in_other (has_slot q) (λ node. both (is_listed_state node.state) (eqb (class node.size) number) (eqb (class node.size) other) (has_slot q node)
           (λ e. ne_eqb (class node.size) other (λ f. apart (sym (eqb-true (class node.size) number e) ∙ f)))) (nodes_of areas),
     )
   where

@@ -11,7 +11,7 @@ use Rattle.tlsf_heap.specs.Good.{times, IsGood}
 use Rattle.tlsf_heap.specs.Free.{is_owned_by, is_live, after_free}
 use Rattle.tlsf_heap.specs.Inner.Nodes.{NodeState, InUse, Listed, Loose, Node, Layout, turned, owner_of, block_of, pool_of, content_by, nodes_of, has_slot, has_place}
 use Rattle.tlsf_heap.specs.Inner.Positions.{filled, is_loose}
-use Rattle.tlsf_heap.specs.Inner.Represents.{state_of, uses_in, Represents}
+use Rattle.tlsf_heap.specs.Inner.Represents.{record_state, uses_in, Represents}
 use Rattle.tlsf_heap.specs.Inner.Following.{content_of, Stands}
 use Rattle.tlsf_heap.specs.Inner.At.{At, areas_at, layout_at, StandsAt, at_freed}
 use Rattle.tlsf_heap.proofs.Counts.{one_if, count-cons, any_counts, counts_any, any-map}
@@ -36,7 +36,7 @@ owned_in_use slot q InUse owned = (refl, eqb-true q slot owned)
 owned_in_use slot q Listed owned = absurd (false≢true owned)
 owned_in_use slot q Loose owned = absurd (false≢true owned)
 
-live_in_use : (node_state : NodeState) → state_of node_state ≡ Live → node_state ≡ InUse
+live_in_use : (node_state : NodeState) → record_state node_state ≡ Live → node_state ≡ InUse
 live_in_use InUse live = refl
 live_in_use Listed live = absurd (cc)
 live_in_use Loose live = absurd (cc)
@@ -82,7 +82,7 @@ module _ (cells : Cells) (stands : Stands cells) (place slot : ℕ) (node_state 
   pub node_taken : by.at.taken ≡ []
   node_taken = ap (λ (l : Layout). l.taken) (sym by.layout_is) ∙ stands.none_taken
 
-settled_free : (node_state : NodeState) → is_loose node_state ≡ false → state_of node_state ≡ Free → node_state ≡ Listed
+settled_free : (node_state : NodeState) → is_loose node_state ≡ false → record_state node_state ≡ Free → node_state ≡ Listed
 settled_free InUse settled free = absurd (cc)
 settled_free Listed settled free = refl
 settled_free Loose settled free = absurd (false≢true (sym settled))

@@ -8,7 +8,7 @@ use Rattle.tlsf_store.specs.Cells.{Cells}
 use Rattle.tlsf_store.proofs.RecordLaws.{record_at-set_same, record_at-set_other}
 use Rattle.tlsf_heap.specs.Inner.Edits.{edited_in}
 use Rattle.tlsf_store.specs.declared.records.State.TheVariants.{Live}
-use Rattle.tlsf_heap.specs.Inner.Nodes.{InUse, Node, has_slot, nodes_in, is_listed, is_listed_in}
+use Rattle.tlsf_heap.specs.Inner.Nodes.{InUse, Node, has_slot, nodes_in, is_listed_state, is_listed_in}
 use Rattle.tlsf_heap.specs.Inner.Positions.{Position, laid}
 use Rattle.tlsf_heap.specs.Inner.Represents.{InPool, pool_view, list_view, pool_views, list_views, in_pool, first_slot, uses_in, Represents}
 use Rattle.tlsf_heap.proofs.Counts.{one_if, count-cons}
@@ -17,7 +17,7 @@ use Rattle.tlsf_heap.proofs.Inner.Reads.{length-edited, edited_here, edited_apar
 use Rattle.tlsf_heap.proofs.Inner.Chains.{uses_node, unlisted, unlisted_nowhere, AtNode, at_node, refilled}
 
 module _ (cells : Cells) (count : ℕ) (position : Position) (node behind : Node) (nodes : List Node) (lists : List (List Node)) (taken : List ℕ)
-    (was : Represents cells (laid count position (node ∷ behind ∷ nodes) lists taken)) (was_not : is_listed node.state ≡ false) (behind_not : is_listed behind.state ≡ false) where
+    (was : Represents cells (laid count position (node ∷ behind ∷ nodes) lists taken)) (was_not : is_listed_state node.state ≡ false) (behind_not : is_listed_state behind.state ≡ false) where
   abbrev both : Node
   both = record node { size = node.size + behind.size; state = InUse }
 

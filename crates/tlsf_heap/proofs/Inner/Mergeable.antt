@@ -9,9 +9,9 @@ use Rattle.tlsf_store.specs.Cells.{Cells}
 use Rattle.tlsf_heap.specs.declared.span.Span.{Span}
 use Rattle.tlsf_heap.specs.Inner.Edits.{IsUsed, unlinked_by}
 use Rattle.tlsf_heap.specs.Inner.Spans.{IsRead, node_span, span_at, merged_by, CanMerge}
-use Rattle.tlsf_heap.specs.Inner.Nodes.{NodeState, InUse, Listed, Loose, Node, Area, nodes_of, turned, block_of, pool_of, is_listed, left}
+use Rattle.tlsf_heap.specs.Inner.Nodes.{NodeState, InUse, Listed, Loose, Node, Area, nodes_of, turned, block_of, pool_of, is_listed_state, left}
 use Rattle.tlsf_heap.specs.Inner.Positions.{Position, laid, filled, is_loose, past, listed_first, left_by, merged_with_front, merged_with_behind}
-use Rattle.tlsf_heap.specs.Inner.Represents.{InPool, in_pool, pool_views, state_of, first_slot, AreChains, Represents}
+use Rattle.tlsf_heap.specs.Inner.Represents.{InPool, in_pool, pool_views, record_state, first_slot, AreChains, Represents}
 use Rattle.tlsf_heap.specs.Inner.At.{At, StandsAt, AreCovered, previous_merged, next_merged}
 use Rattle.tlsf_heap.proofs.Good.MallocIsGood.{IsWholeBlock}
 use Rattle.tlsf_heap.proofs.Counts.{one_if, count-cons}
@@ -35,7 +35,7 @@ pub record Merges (span : Span) (behind : ℕ) (listed : Record) (cells : Cells)
 -- two nodes side by side, of which one was listed and leaves its list
 module _ (cells : Cells) (count : ℕ) (listed_position : Position) (listed : Node) (listed_nodes : List Node) (position : Position) (front behind : Node) (nodes : List Node) (lists : List (List Node)) (taken : List ℕ)
     (was : Represents cells (laid count listed_position (turned Listed listed ∷ listed_nodes) lists taken)) (covered : AreCovered 0 (map pool_of (filled listed_position (turned Listed listed ∷ listed_nodes))))
-    (side_by_side : filled listed_position (turned Loose listed ∷ listed_nodes) ≡ filled position (front ∷ behind ∷ nodes)) (front_unlisted : is_listed front.state ≡ false) (behind_unlisted : is_listed behind.state ≡ false)
+    (side_by_side : filled listed_position (turned Loose listed ∷ listed_nodes) ≡ filled position (front ∷ behind ∷ nodes)) (front_unlisted : is_listed_state front.state ≡ false) (behind_unlisted : is_listed_state behind.state ≡ false)
     (covered_after : AreCovered 0 (map pool_of (filled position (record front { size = front.size + behind.size; state = InUse } ∷ nodes)))) where
   abbrev block : Record
   block = record_at cells.records listed.slot
@@ -99,7 +99,7 @@ module _ (cells : Cells) (at : At) (front : Node) (before : List Node) where
       let loose : Node → Bool = λ node. is_loose node.state in
       let covered_after = covered_refilled position (turned Listed front ∷ at.node ∷ at.nodes) (record front { size = front.size + at.node.size; state = InUse } ∷ at.nodes) (λ from to c. covers_both InUse (turned Listed front) at.node at.nodes from to c) stands.1.covered in
       let settled : count_by loose (nodes_of (filled position at.nodes)) ≡ 0 = omega (arith, stands.1.others_settled, count-filled loose (record position { before = turned Listed front ∷ before }) at.nodes, count-filled loose position at.nodes, count-cons loose (turned Listed front) before) in
-      merges_sides cells at.count position front (at.node ∷ at.nodes) position (turned Loose front) at.node at.nodes at.lists at.taken stands.0 stands.1.covered refl refl (ap is_listed stands.1.node_state_is) covered_after settled
+      merges_sides cells at.count position front (at.node ∷ at.nodes) position (turned Loose front) at.node at.nodes at.lists at.taken stands.0 stands.1.covered refl refl (ap is_listed_state stands.1.node_state_is) covered_after settled
 
 -- the node behind is free
 module _ (cells : Cells) (at : At) (behind : Node) (nodes : List Node) where
@@ -109,7 +109,7 @@ module _ (cells : Cells) (at : At) (behind : Node) (nodes : List Node) where
       let loose : Node → Bool = λ node. is_loose node.state in
       let covered_after = covered_refilled at.position (at.node ∷ turned Listed behind ∷ nodes) (record at.node { size = at.node.size + behind.size; state = InUse } ∷ nodes) (λ from to c. covers_both InUse at.node (turned Listed behind) nodes from to c) stands.1.covered in
       let settled : count_by loose (nodes_of (filled at.position nodes)) ≡ 0 = omega (arith, stands.1.others_settled, count-filled loose at.position (turned Listed behind ∷ nodes), count-filled loose at.position nodes, count-cons loose (turned Listed behind) nodes) in
-      merges_sides cells at.count (record at.position { before = at.node ∷ at.position.before }) behind nodes at.position at.node (turned Loose behind) nodes at.lists at.taken stands.0 stands.1.covered refl (ap is_listed stands.1.node_state_is) refl covered_after settled
+      merges_sides cells at.count (record at.position { before = at.node ∷ at.position.before }) behind nodes at.position at.node (turned Loose behind) nodes at.lists at.taken stands.0 stands.1.covered refl (ap is_listed_state stands.1.node_state_is) refl covered_after settled
 
 -- the first of some nodes, which has this slot, and what its record says
 pub record Neighbour (records : List Record) (slot : ℕ) (nodes : List Node) (prev next : List Node → Option ℕ) : Type 0 where
@@ -126,12 +126,12 @@ settled_first node nodes none = elim (cases_Bool (is_loose node.state)) [
   | inr settled ↦ settled
 ]
 
-node_state_free : (s : NodeState) → is_loose s ≡ false → is_free_state (state_of s) ≡ true → s ≡ Listed
+node_state_free : (s : NodeState) → is_loose s ≡ false → is_free_state (record_state s) ≡ true → s ≡ Listed
 node_state_free InUse settled free = absurd (false≢true free)
 node_state_free Listed settled free = refl
 node_state_free Loose settled free = absurd (false≢true (sym settled))
 
-node_state_live : (s : NodeState) → is_free_state (state_of s) ≡ false → is_listed s ≡ false
+node_state_live : (s : NodeState) → is_free_state (record_state s) ≡ false → is_listed_state s ≡ false
 node_state_live InUse live = refl
 node_state_live Listed live = absurd (false≢true (sym live))
 node_state_live Loose live = refl
@@ -164,7 +164,7 @@ module _ (cells : Cells) (at : At) (slot : ℕ) (node_state : NodeState) (stands
           record { node = b; others = nodes; is = refl; slot_is = own; says = ap (pool_views cells.records) (sym own) ∙ says; settled = settled_first b nodes none }
 
 module _ {prev next : List Node → Option ℕ} (records : List Record) (slot : ℕ) (nodes : List Node) (by : Neighbour records slot nodes prev next) where
-  by_state : (record_at records slot).state ≡ state_of by.node.state
+  by_state : (record_at records slot).state ≡ record_state by.node.state
   by_state = ap (λ (v : InPool). v.state) by.says
 
   by_free : is_free_state (record_at records slot).state ≡ true → by.node.state ≡ Listed
@@ -178,7 +178,7 @@ module _ {prev next : List Node → Option ℕ} (records : List Record) (slot : 
   past_live : is_free_state (record_at records slot).state ≡ false → (past nodes ≡ nodes) × (listed_first nodes ≡ None)
   past_live live =
       let P : List Node → Type 0 = λ ns. (past ns ≡ ns) × (listed_first ns ≡ None) in
-      let is_not : is_listed by.node.state ≡ false = node_state_live by.node.state (ap is_free_state (sym by_state) ∙ live) in
+      let is_not : is_listed_state by.node.state ≡ false = node_state_live by.node.state (ap is_free_state (sym by_state) ∙ live) in
       subst P (sym by.is) (ap (λ b. cond b by.others (by.node ∷ by.others)) is_not, ap (λ b. cond b (Some by.node) None) is_not)
 
 past_none : (nodes : List Node) → first_slot nodes ≡ None → (past nodes ≡ nodes) × (listed_first nodes ≡ None)

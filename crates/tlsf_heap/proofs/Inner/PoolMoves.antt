@@ -8,7 +8,7 @@ use Rattle.tlsf_store.specs.Cells.{Cells, with_record}
 use Rattle.tlsf_store.proofs.RecordLaws.{record_at-set_same, record_at-set_other}
 use Rattle.tlsf_store.specs.declared.pools.Pool.{Pool as StoredPool}
 use Rattle.tlsf_heap.specs.Good.{times}
-use Rattle.tlsf_heap.specs.Inner.Nodes.{Node, Area, has_slot, nodes_of, nodes_in, is_listed, is_listed_in, pool_node, area_of_one, entries_in}
+use Rattle.tlsf_heap.specs.Inner.Nodes.{Node, Area, has_slot, nodes_of, nodes_in, is_listed_state, is_listed_in, pool_node, area_of_one, entries_in}
 use Rattle.tlsf_heap.specs.Inner.Positions.{plug, Position}
 use Rattle.tlsf_heap.specs.Inner.Represents.{pool_view, list_view, pool_views, list_views, IsChain, uses_in, Represents}
 use Rattle.tlsf_heap.proofs.Counts.{one_if, count-cons}
@@ -101,7 +101,7 @@ module _ (cells : Cells) (count : ℕ) (front behind : List Area) (lists : List 
       }
 
 module _ (cells : Cells) (count : ℕ) (front behind : List Area) (lists : List (List Node)) (entry : StoredPool) (node : Node) (taken : List ℕ)
-    (was : Represents cells (record { count = count; areas = plug front (area_of_one entry node ∷ behind); lists = lists; taken = taken })) (was_not : is_listed node.state ≡ false) where
+    (was : Represents cells (record { count = count; areas = plug front (area_of_one entry node ∷ behind); lists = lists; taken = taken })) (was_not : is_listed_state node.state ≡ false) where
   abbrev emptied : List Record
   emptied = set cells.records node.slot blank
 

@@ -9,7 +9,7 @@ use Rattle.tlsf_store.specs.Cells.{Cells}
 use Rattle.tlsf_heap.specs.Content.{Block, Content, blocks_of, size_at, used_records}
 use Rattle.tlsf_heap.specs.Free.{is_live, if_free, free_next, size_of}
 use Rattle.tlsf_heap.specs.Realloc.{fits_in_place, resized}
-use Rattle.tlsf_heap.specs.Inner.Nodes.{InUse, Node, Layout, turned, block_of, content_by, nodes_of, is_listed}
+use Rattle.tlsf_heap.specs.Inner.Nodes.{InUse, Node, Layout, turned, block_of, content_by, nodes_of, is_listed_state}
 use Rattle.tlsf_heap.specs.Inner.Positions.{filled, is_loose, listed_first, past, merged_with_behind}
 use Rattle.tlsf_heap.specs.Inner.Following.{content_of, Stands}
 use Rattle.tlsf_heap.specs.Inner.At.{areas_at, layout_at, StandsAt, next_merged, at_split_rest}
@@ -77,7 +77,7 @@ module _ (cells : Cells) (stands : Stands cells) (place slot : ℕ) (by : NodeAt
 
   past_length : (nodes : List Node) → length (past nodes) + cond {A = ℕ} (is_some (listed_first nodes)) 1 0 ≡ length nodes
   past_length [] = refl
-  past_length (node ∷ nodes) = elim (is_listed node.state) as (λ b. length (cond b nodes (node ∷ nodes)) + cond {A = ℕ} (is_some (cond b (Some node) None)) 1 0 ≡ length (node ∷ nodes)) [ true ↦ omega arith | false ↦ omega arith ]
+  past_length (node ∷ nodes) = elim (is_listed_state node.state) as (λ b. length (cond b nodes (node ∷ nodes)) + cond {A = ℕ} (is_some (cond b (Some node) None)) 1 0 ≡ length (node ∷ nodes)) [ true ↦ omega arith | false ↦ omega arith ]
 
   -- after the merge there are the bytes asked for, and a record for what is left
   pub merged_holds : (new : Cells) (m : ℕ) → fits_in_place place m (content_of cells) ≡ true → StandsAt slot InUse new (next_merged by.at) → (m ≤ (next_merged by.at).node.size) × (m < (record_at new.records slot).size → 0 < vacant_count new.records)

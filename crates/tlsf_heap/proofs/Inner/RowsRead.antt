@@ -17,7 +17,7 @@ use Rattle.tlsf_heap.specs.Content.{Pool, Content, is_free}
 use Rattle.tlsf_heap.specs.Good.{times, AreGoodPools}
 use Rattle.tlsf_heap.specs.Inner.Edits.{IsUsed}
 use Rattle.tlsf_heap.specs.Rows.{row_of, rows_from}
-use Rattle.tlsf_heap.specs.Cursors.{rows_at, rows_by, rest_of, stands_at, slot_for, begins_below, slot_if, AreInOrder, IsNarrowed}
+use Rattle.tlsf_heap.specs.Cursors.{rows_at, rows_by, rows_left, stands_at, slot_for, begins_below, slot_if, AreInOrder, IsNarrowed}
 use Rattle.tlsf_heap.specs.Inner.Entries.{padded, padded_at, entries_of}
 use Rattle.tlsf_heap.proofs.Inner.EntryLists.{padded_at_is, length-padded, entries_of-padded}
 use Rattle.tlsf_heap.specs.Inner.Nodes.{Node, Area, Layout, block_of, pool_of, nodes_of, has_slot}
@@ -102,7 +102,7 @@ module _ (records : List Record) where
   abbrev fore : ℕ → Option ℕ
   fore q = (record_at records q).next
 
-  rows_used : (slot : ℕ) → (record_at records slot).state ≢ Vacant → rest_of (rows_by records) (Some slot) ≡ map row_at (follow (length records) fore (Some slot))
+  rows_used : (slot : ℕ) → (record_at records slot).state ≢ Vacant → rows_left (rows_by records) (Some slot) ≡ map row_at (follow (length records) fore (Some slot))
   rows_used slot used = rows_get records slot ∙ ap (λ b. cond b [] (map row_at (follow (length records) fore (Some slot)))) (used_state (record_at records slot).state used)
 
   rows_map : (slots : List ℕ) → map row_of (map (block_at records) slots) ≡ map row_at slots
@@ -115,7 +115,7 @@ module _ (records : List Record) where
 
   -- from the first of linked nodes on, the rows are theirs
   rows_linked : (before : Option ℕ) (node : Node) (nodes : List Node) → length (node ∷ nodes) ≤ length records → AreLinked in_pool (pool_views records) before (node ∷ nodes) → (record_at records node.slot).state ≢ Vacant
-      → rest_of (rows_by records) (Some node.slot) ≡ map row_at (map (λ n. n.slot) (node ∷ nodes))
+      → rows_left (rows_by records) (Some node.slot) ≡ map row_at (map (λ n. n.slot) (node ∷ nodes))
   rows_linked before node nodes fits l used =
       rows_used node.slot used ∙ ap (map row_at) (follow_linked in_pool (pool_views records) (λ v. v.next) (λ prev n after. refl) (length records) before (node ∷ nodes) fits l)
 
@@ -194,7 +194,7 @@ module _ (cells : Cells) (stands : Stands cells) where
 
   -- the rows behind a node are those of the nodes behind it
   rows_behind : (position : Position) (node : Node) (nodes : List Node) → AreChains (pool_views cells.records) (filled position (node ∷ nodes)) stands.layout.taken → length nodes ≤ length cells.records
-      → rest_of (rows_by cells.records) (first_slot nodes) ≡ map (row_at cells.records) (map (λ n. n.slot) nodes)
+      → rows_left (rows_by cells.records) (first_slot nodes) ≡ map (row_at cells.records) (map (λ n. n.slot) nodes)
   rows_behind position node [] was fits = refl
   rows_behind position node (next ∷ nodes) was fits =
       let beyond : Position = record position { before = node ∷ position.before } in
@@ -202,7 +202,7 @@ module _ (cells : Cells) (stands : Stands cells) where
       rows_linked cells.records (Some node.slot) next nodes fits (linked_at (pool_views cells.records) beyond (next ∷ nodes) stands.layout.taken was) (node_is_used cells.records beyond next nodes stands.layout.taken here).1
 
   -- the rows from a slot on are its own and those behind it
-  pub row_then_rest : (slot : ℕ) → IsUsed cells.records (Some slot) → rest_of (rows_by cells.records) (Some slot) ≡ row_at cells.records slot ∷ rest_of (rows_by cells.records) (record_at cells.records slot).next
+  pub row_then_rest : (slot : ℕ) → IsUsed cells.records (Some slot) → rows_left (rows_by cells.records) (Some slot) ≡ row_at cells.records slot ∷ rows_left (rows_by cells.records) (record_at cells.records slot).next
   row_then_rest slot used =
       let of : OfNode slot = of_node slot (used_one (record_at cells.records slot).state used.1) in
       let here : AtNode cells.records of.position of.node of.nodes stands.layout.taken = at_node cells.records of.position of.node of.nodes stands.layout.taken of.was.chains in
@@ -210,8 +210,8 @@ module _ (cells : Cells) (stands : Stands cells) where
       (node_is_used cells.records of.position of.node of.nodes stands.layout.taken here).1 in
       let behind = rows_behind of.position of.node of.nodes of.was.chains (omega (arith, of.fits)) in
       let next : first_slot of.nodes ≡ (record_at cells.records of.node.slot).next = sym (ap (λ (v : InPool). v.next) here.says) in
-      let P : ℕ → Type 0 = λ q. rest_of (rows_by cells.records) (Some q) ≡ row_at cells.records q ∷ rest_of (rows_by cells.records) (record_at cells.records q).next in
-      subst P of.slot_is (rows ∙ ap (λ rs. row_at cells.records of.node.slot ∷ rs) (sym behind) ∙ ap (λ o. row_at cells.records of.node.slot ∷ rest_of (rows_by cells.records) o) next)
+      let P : ℕ → Type 0 = λ q. rows_left (rows_by cells.records) (Some q) ≡ row_at cells.records q ∷ rows_left (rows_by cells.records) (record_at cells.records q).next in
+      subst P of.slot_is (rows ∙ ap (λ rs. row_at cells.records of.node.slot ∷ rs) (sym behind) ∙ ap (λ o. row_at cells.records of.node.slot ∷ rows_left (rows_by cells.records) o) next)
 
   used_stands : (o : Option ℕ) → IsUsed cells.records o → stands_at (rows_by cells.records) o
   used_stands None used = tt
@@ -271,7 +271,7 @@ module _ (cells : Cells) (stands : Stands cells) where
   first_used : (base slot : ℕ) → slot_for base (entries_of cells.pools) ≡ Some slot → IsUsed cells.records (Some slot)
   first_used base slot is = slot_used cells stands.layout slot stands.represented (omega (arith, (first_found base slot is).1))
 
-  pub first_rows : (base slot : ℕ) → slot_for base (entries_of cells.pools) ≡ Some slot → rows_from base (content_of cells).pools ≡ Ok (rest_of (rows_by cells.records) (Some slot))
+  pub first_rows : (base slot : ℕ) → slot_for base (entries_of cells.pools) ≡ Some slot → rows_from base (content_of cells).pools ≡ Ok (rows_left (rows_by cells.records) (Some slot))
   first_rows base slot is =
       ap (λ (x : Content ℕ). rows_from base x.pools) (stood_for cells stands) ∙ (first_found base slot is).0 ∙ ap Ok (sym (rows_used cells.records slot (first_used base slot is).1))
 
@@ -287,6 +287,6 @@ live_is_used Free slot place size = refl
 live_is_used Live slot place size = refl
 
 -- behind the table stands nothing
-pub past_rest : (records : List Record) (slot : ℕ) → length records ≤ slot → rest_of (rows_by records) (Some slot) ≡ []
+pub past_rest : (records : List Record) (slot : ℕ) → length records ≤ slot → rows_left (rows_by records) (Some slot) ≡ []
 past_rest records slot past =
     get_or_past (rows_by records) slot [] (omega (arith, past, length-map {A = ℕ} {B = List Row} (range_with_len 0 (length records)) (rows_at records), length-range_with_len 0 (length records)))

@@ -8,11 +8,11 @@ use Rattle.tlsf_store.specs.Records.{record_at}
 use Rattle.tlsf_store.specs.Cells.{Cells}
 use Rattle.tlsf_store.proofs.RecordLaws.{record_at-set_same, record_at-set_other}
 use Rattle.tlsf_heap.specs.Inner.Edits.{edited_in}
-use Rattle.tlsf_heap.specs.Inner.Spans.{node_span, rest_of, split_by}
+use Rattle.tlsf_heap.specs.Inner.Spans.{node_span, rest_record, split_by}
 use Rattle.tlsf_heap.specs.Good.{times}
-use Rattle.tlsf_heap.specs.Inner.Nodes.{NodeState, InUse, Node, turned, rest_node, has_slot, nodes_in, is_listed, is_listed_in}
+use Rattle.tlsf_heap.specs.Inner.Nodes.{NodeState, InUse, Node, turned, rest_node, has_slot, nodes_in, is_listed_state, is_listed_in}
 use Rattle.tlsf_heap.specs.Inner.Positions.{Position, laid, filled}
-use Rattle.tlsf_heap.specs.Inner.Represents.{InPool, pool_view, list_view, pool_views, list_views, in_pool, first_slot, state_of, uses_in, Represents}
+use Rattle.tlsf_heap.specs.Inner.Represents.{InPool, pool_view, list_view, pool_views, list_views, in_pool, first_slot, record_state, uses_in, Represents}
 use Rattle.tlsf_heap.proofs.Counts.{one_if, count-cons}
 use Rattle.tlsf_heap.proofs.Inner.Plugs.{around}
 use Rattle.tlsf_heap.proofs.Inner.Links.{linked_moved, first_stands}
@@ -21,9 +21,9 @@ use Rattle.tlsf_heap.proofs.Content.FreeLists.{times-cons}
 use Rattle.tlsf_heap.proofs.Inner.Chains.{uses_node, not_taken, unlisted, listed_within, AtNode, at_node, refilled}
 
 module _ (cells : Cells) (count : ℕ) (position : Position) (node : Node) (nodes : List Node) (lists : List (List Node)) (rest : ℕ) (back : NodeState) (second : Option ℕ) (taken : List ℕ) (bytes : ℕ)
-    (was : Represents cells (laid count position (node ∷ nodes) lists (rest ∷ taken))) (was_not : is_listed node.state ≡ false) (back_not : is_listed back ≡ false) where
+    (was : Represents cells (laid count position (node ∷ nodes) lists (rest ∷ taken))) (was_not : is_listed_state node.state ≡ false) (back_not : is_listed_state back ≡ false) where
   abbrev left : Record
-  left = rest_of (state_of back) (node_span node nodes) second bytes
+  left = rest_record (record_state back) (node_span node nodes) second bytes
 
   abbrev kept : Record → Record
   kept r = record r { size = bytes; state = Live; next = Some rest }
@@ -84,7 +84,7 @@ module _ (cells : Cells) (count : ℕ) (position : Position) (node : Node) (node
   in_use : (q : ℕ) → uses_in (record_at new q).state ≡ uses_in (record_at cells.records q).state
   in_use q =
       let view : Record → ℕ = λ r. uses_in r.state in
-      let rest_used : uses_in (state_of back) ≡ uses_in (record_at cells.records rest).state = omega (arith, uses_node back, here.once rest, rest_counts, here.most rest) in
+      let rest_used : uses_in (record_state back) ≡ uses_in (record_at cells.records rest).state = omega (arith, uses_node back, here.once rest, rest_counts, here.most rest) in
       seen view (λ r. refl) (uses_node InUse ∙ sym (ap view still ∙ here.used)) q (set_kept view cells.records rest left rest_used q)
 
   listed_same : (number q : ℕ) → 1 ≤ count_by (has_slot q) (nodes_in number lists) → list_views new q ≡ list_views cells.records q
@@ -92,7 +92,7 @@ module _ (cells : Cells) (count : ℕ) (position : Position) (node : Node) (node
       seen list_view (λ r. refl) refl q (ap list_view (record_at-set_other cells.records rest q left
       (not_taken q rest taken (omega (arith, h, listed_within (filled position (node ∷ nodes)) lists was.agree number q, was.chains.once q, here.most q, here.once q))).0))
 
-  pub split_laid : Represents (split_by (node_span node nodes) rest (state_of back) second bytes cells) (laid count position (record node { size = bytes; state = InUse } ∷ turned back (rest_node rest bytes node) ∷ nodes) lists taken)
+  pub split_laid : Represents (split_by (node_span node nodes) rest (record_state back) second bytes cells) (laid count position (record node { size = bytes; state = InUse } ∷ turned back (rest_node rest bytes node) ∷ nodes) lists taken)
   split_laid =
       let first : Node = record node { size = bytes; state = InUse } in
       let second : Node = turned back (rest_node rest bytes node) in

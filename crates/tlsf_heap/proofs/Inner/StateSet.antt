@@ -5,19 +5,19 @@ use Rattle.tlsf_store.specs.declared.records.Record.{Record}
 use Rattle.tlsf_store.specs.Records.{record_at}
 use Rattle.tlsf_store.specs.Cells.{Cells}
 use Rattle.tlsf_heap.specs.Inner.Edits.{edited_in, with_state}
-use Rattle.tlsf_heap.specs.Inner.Nodes.{NodeState, Node, turned, has_slot, is_listed, is_listed_in}
+use Rattle.tlsf_heap.specs.Inner.Nodes.{NodeState, Node, turned, has_slot, is_listed_state, is_listed_in}
 use Rattle.tlsf_heap.specs.Inner.Positions.{Position, laid}
-use Rattle.tlsf_heap.specs.Inner.Represents.{InPool, pool_view, list_view, pool_views, state_of, in_pool, uses_in, Represents}
+use Rattle.tlsf_heap.specs.Inner.Represents.{InPool, pool_view, list_view, pool_views, record_state, in_pool, uses_in, Represents}
 use Rattle.tlsf_heap.proofs.Counts.{count-cons}
 use Rattle.tlsf_heap.proofs.Inner.Links.{Some-same, linked_same}
 use Rattle.tlsf_heap.proofs.Inner.Reads.{length-edited, edited_here, edited_apart, edited_kept}
 use Rattle.tlsf_heap.proofs.Inner.Chains.{uses_node, unlisted, AtNode, at_node, refilled}
 
 module _ (cells : Cells) (count : ℕ) (position : Position) (node : Node) (nodes : List Node) (lists : List (List Node)) (taken : List ℕ) (was : Represents cells (laid count position (node ∷ nodes) lists taken)) where
-  pub state_set : (node_state : NodeState) → is_listed node.state ≡ false → is_listed node_state ≡ false
-      → Represents (with_state node.slot (state_of node_state) cells) (laid count position (turned node_state node ∷ nodes) lists taken)
+  pub state_set : (node_state : NodeState) → is_listed_state node.state ≡ false → is_listed_state node_state ≡ false
+      → Represents (with_state node.slot (record_state node_state) cells) (laid count position (turned node_state node ∷ nodes) lists taken)
   state_set node_state was_not is_not =
-      let edit : Record → Record = λ r. record r { state = state_of node_state } in
+      let edit : Record → Record = λ r. record r { state = record_state node_state } in
       let new : List Record = edited_in edit (Some node.slot) cells.records in
       let after : Node = turned node_state node in
       let here : AtNode cells.records position node nodes taken = at_node cells.records position node nodes taken was.chains in
@@ -30,7 +30,7 @@ module _ (cells : Cells) (count : ℕ) (position : Position) (node : Node) (node
         | inr apart ↦ ap (λ (r : Record). uses_in r.state) (others q apart)
       ]) in
       refilled cells count position (node ∷ nodes) (after ∷ nodes) lists taken taken new was (length-edited edit (Some node.slot) cells.records) (λ q h. others q (here.outside_apart q h)) refl (
-        ap pool_view at_slot ∙ ap (λ (v : InPool). record v { state = state_of node_state }) here.says,
+        ap pool_view at_slot ∙ ap (λ (v : InPool). record v { state = record_state node_state }) here.says,
         linked_same in_pool (pool_views cells.records) (pool_views new) (Some node.slot) nodes (λ q h. ap pool_view (others q (here.behind_apart q h))) here.linked,
       )
       (λ q. omega (arith, in_use q, count-cons (has_slot q) node nodes, count-cons (has_slot q) after nodes))

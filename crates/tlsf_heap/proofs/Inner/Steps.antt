@@ -6,8 +6,8 @@ use Rattle.tlsf_store.specs.Records.{record_at}
 use Rattle.tlsf_store.specs.Cells.{Cells, head_at}
 use Rattle.tlsf_heap.specs.Inner.Edits.{IsUsed, linked, with_state}
 use Rattle.tlsf_heap.specs.Inner.At.{AreCovered, At, areas_at, layout_at, StandsAt, at_turned, at_listed}
-use Rattle.tlsf_heap.specs.Inner.Nodes.{NodeState, InUse, Listed, Loose, Node, turned, block_of, pool_of, is_listed}
-use Rattle.tlsf_heap.specs.Inner.Represents.{InPool, state_of, first_slot, Represents}
+use Rattle.tlsf_heap.specs.Inner.Nodes.{NodeState, InUse, Listed, Loose, Node, turned, block_of, pool_of, is_listed_state}
+use Rattle.tlsf_heap.specs.Inner.Represents.{InPool, record_state, first_slot, Represents}
 use Rattle.tlsf_heap.proofs.Good.MallocIsGood.{IsWholeBlock}
 use Rattle.tlsf_heap.proofs.Inner.Chains.{AtNode, at_node}
 use Rattle.tlsf_heap.proofs.Inner.Used.{node_is_used, head_used}
@@ -37,8 +37,8 @@ module _ (cells : Cells) (slot : ℕ) (node_state : NodeState) (at : At) (stands
   next_is = ap (λ q. (record_at cells.records q).next) (sym stands.1.slot_is) ∙ ap (λ (v : InPool). v.next) here.says
 
   -- the state that its record says
-  pub state_read : (record_at cells.records slot).state ≡ state_of node_state
-  state_read = ap (λ q. (record_at cells.records q).state) (sym stands.1.slot_is) ∙ ap (λ (v : InPool). v.state) here.says ∙ ap state_of stands.1.node_state_is
+  pub state_read : (record_at cells.records slot).state ≡ record_state node_state
+  state_read = ap (λ q. (record_at cells.records q).state) (sym stands.1.slot_is) ∙ ap (λ (v : InPool). v.state) here.says ∙ ap record_state stands.1.node_state_is
 
   pub whole_at : IsWholeBlock (block_of at.node)
   whole_at = node_whole at.position at.node at.nodes stands.1.covered
@@ -50,10 +50,10 @@ module _ (cells : Cells) (slot : ℕ) (node_state : NodeState) (at : At) (stands
   pub covered_turned : (new : NodeState) → AreCovered 0 (map pool_of (areas_at (at_turned new at)))
   covered_turned new = covered_refilled at.position (at.node ∷ at.nodes) (turned new at.node ∷ at.nodes) (λ from to c. c) stands.1.covered
 
-  pub turned_stands : (new : NodeState) → is_listed node_state ≡ false → is_listed new ≡ false → StandsAt slot new (with_state slot (state_of new) cells) (at_turned new at)
+  pub turned_stands : (new : NodeState) → is_listed_state node_state ≡ false → is_listed_state new ≡ false → StandsAt slot new (with_state slot (record_state new) cells) (at_turned new at)
   turned_stands new was_not is_not =
-      let P : ℕ → Type 0 = λ q. Represents (with_state q (state_of new) cells) (layout_at (at_turned new at)) in (
-        subst P stands.1.slot_is (state_set cells at.count at.position at.node at.nodes at.lists at.taken stands.0 new (ap is_listed stands.1.node_state_is ∙ was_not) is_not),
+      let P : ℕ → Type 0 = λ q. Represents (with_state q (record_state new) cells) (layout_at (at_turned new at)) in (
+        subst P stands.1.slot_is (state_set cells at.count at.position at.node at.nodes at.lists at.taken stands.0 new (ap is_listed_state stands.1.node_state_is ∙ was_not) is_not),
         record { slot_is = stands.1.slot_is; node_state_is = refl; others_settled = stands.1.others_settled; covered = covered_turned new },
       )
 

@@ -23,9 +23,9 @@ pub record BlockPosition (A : Type 0) : Type 0 where
   pub pools_behind : List (Pool A)
 
 -- the first of the blocks
-abbrev pub first_of : {A : Type 0} → List (Block A) → Option (Block A)
-first_of [] = None
-first_of (block ∷ blocks) = Some block
+abbrev pub leading_block : {A : Type 0} → List (Block A) → Option (Block A)
+leading_block [] = None
+leading_block (block ∷ blocks) = Some block
 
 module _ {A : Type 0} where
   abbrev pub pool_at : BlockPosition A → List (Block A) → Pool A
@@ -195,18 +195,18 @@ module _ {A : Type 0} where
         ∙ option_or-None (tell (plug position.before (block ∷ blocks)))
 
     -- the block in front of it is the nearest
-    pub front_at : first_in_pools (previous_of block.place) (filled_pools position (block ∷ blocks)) ≡ first_of position.before
+    pub front_at : first_in_pools (previous_of block.place) (filled_pools position (block ∷ blocks)) ≡ leading_block position.before
     front_at = told (previous_of block.place) (none_at_all block.place) ∙ nearest position.before (omega (arith, alone.outside))
       where
-        nearest : (front : List (Block A)) → count_by (is_at block.place) front ≡ 0 → previous_of block.place (plug front (block ∷ blocks)) ≡ first_of front
+        nearest : (front : List (Block A)) → count_by (is_at block.place) front ≡ 0 → previous_of block.place (plug front (block ∷ blocks)) ≡ leading_block front
         nearest [] none = none_in_front block.place block blocks alone.behind
         nearest (f ∷ front) none = in_front_plug block.place front f (block ∷ blocks) (later block.place f front none) (apart_first block.place f front none) ∙ rw (eq-eqb block.place block.place refl) refl
 
     -- and the one behind it the next
-    pub back_at : first_in_pools (next_of block.place) (filled_pools position (block ∷ blocks)) ≡ first_of blocks
+    pub back_at : first_in_pools (next_of block.place) (filled_pools position (block ∷ blocks)) ≡ leading_block blocks
     back_at = told (next_of block.place) (none_behind block.place) ∙ behind_plug block.place position.before block blocks (omega (arith, alone.outside)) ∙ next blocks
       where
-        next : (others : List (Block A)) → next_of block.place (block ∷ others) ≡ first_of others
+        next : (others : List (Block A)) → next_of block.place (block ∷ others) ≡ leading_block others
         next [] = refl
         next (n ∷ others) = rw (eq-eqb block.place block.place refl) refl
 

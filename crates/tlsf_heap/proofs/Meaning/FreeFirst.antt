@@ -10,7 +10,7 @@ use Rattle.tlsf_heap.specs.Free.{if_free, unlink_block, size_of, start_of, witho
 use Rattle.tlsf_heap.specs.Inner.Positions.{plug}
 use Rattle.tlsf_heap.proofs.Content.FreeLists.{listed_at, times-unlink, length-unlink}
 use Rattle.tlsf_heap.proofs.Counts.{one_if, count-cons}
-use Rattle.tlsf_heap.proofs.Meaning.BlockPositions.{first_of, BlockPosition, filled_pools, count-filled_pools, at_most_one, block_alone, replaced_at}
+use Rattle.tlsf_heap.proofs.Meaning.BlockPositions.{leading_block, BlockPosition, filled_pools, count-filled_pools, at_most_one, block_alone, replaced_at}
 use Rattle.tlsf_heap.proofs.Meaning.Gaps.{FailsOnFree}
 use Rattle.tlsf_class.proofs.ClassLaws.{class-lt}
 use Rattle.tlsf_heap.proofs.Content.Blocks.{Ascends-pools}
@@ -26,7 +26,7 @@ module _ {A : Type 0} where
   past_free (block ∷ blocks) = if is_free block then blocks else block ∷ blocks
 
   abbrev pub free_first : List (Block A) → Option (Block A)
-  free_first blocks = if_free (first_of blocks)
+  free_first blocks = if_free (leading_block blocks)
 
   -- whether the first is free
   abbrev pub is_first_free : List (Block A) → Bool

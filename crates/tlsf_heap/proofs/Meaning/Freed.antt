@@ -7,7 +7,7 @@ use Rattle.tlsf_heap.specs.Content.{Block, Pool, Content}
 use Rattle.tlsf_heap.specs.Lists.{link}
 use Rattle.tlsf_heap.specs.Free.{if_free, unlink_block, size_of, start_of, free_block, after_free}
 use Rattle.tlsf_heap.specs.Good.{IsGood}
-use Rattle.tlsf_heap.specs.Inner.Nodes.{NodeState, InUse, Listed, Loose, Node, turned, owner_of, block_of, pool_of, content_by, is_listed, Layout, entered}
+use Rattle.tlsf_heap.specs.Inner.Nodes.{NodeState, InUse, Listed, Loose, Node, turned, owner_of, block_of, pool_of, content_by, is_listed_state, Layout, entered}
 use Rattle.tlsf_heap.specs.Inner.Positions.{Position, filled, laid, is_loose, listed_first, past, left_by, merged_with_front, merged_with_behind, position_past}
 use Rattle.tlsf_heap.proofs.Counts.{one_if, count-cons}
 use Rattle.tlsf_heap.proofs.Inner.Lists.{length-left}
@@ -32,13 +32,13 @@ abbrev pub NoneLoose : List Node → Type 0
 NoneLoose nodes = count_by (λ node. is_loose node.state) nodes ≡ 0
 
 -- where no node is loose, the free ones are listed
-free_is : (node : Node) (nodes : List Node) → NoneLoose (node ∷ nodes) → is_none (owner_of node.state node.slot) ≡ is_listed node.state
+free_is : (node : Node) (nodes : List Node) → NoneLoose (node ∷ nodes) → is_none (owner_of node.state node.slot) ≡ is_listed_state node.state
 free_is node nodes none = by_node_state node.state (elim (cases_Bool (is_loose node.state)) [
   | inl loose ↦ absurd (omega (arith, none, count-cons (λ n. is_loose n.state) node nodes, ap one_if loose))
   | inr settled ↦ settled
 ])
   where
-    by_node_state : (node_state : NodeState) → is_loose node_state ≡ false → is_none (owner_of node_state node.slot) ≡ is_listed node_state
+    by_node_state : (node_state : NodeState) → is_loose node_state ≡ false → is_none (owner_of node_state node.slot) ≡ is_listed_state node_state
     by_node_state InUse settled = refl
     by_node_state Listed settled = refl
     by_node_state Loose settled = absurd (cc)
@@ -47,14 +47,14 @@ pub listed_is_free : (nodes : List Node) → NoneLoose nodes → if_free (first_
 listed_is_free [] none = refl
 listed_is_free (node ∷ nodes) none =
     ap (λ b. cond b (Some (block_of node)) None) (free_is node nodes none)
-    ∙ elim (is_listed node.state) as (λ b. cond b (Some (block_of node)) None ≡ option_map block_of (cond b (Some node) None)) [ true ↦ refl | false ↦ refl ]
+    ∙ elim (is_listed_state node.state) as (λ b. cond b (Some (block_of node)) None ≡ option_map block_of (cond b (Some node) None)) [ true ↦ refl | false ↦ refl ]
 
 -- and what is behind the first is the same
 pub past_is : (nodes : List Node) → NoneLoose nodes → past_free (map block_of nodes) ≡ map block_of (past nodes)
 past_is [] none = refl
 past_is (node ∷ nodes) none =
     ap (λ b. cond b (map block_of nodes) (block_of node ∷ map block_of nodes)) (free_is node nodes none)
-    ∙ elim (is_listed node.state) as (λ b. cond b (map block_of nodes) (block_of node ∷ map block_of nodes) ≡ map block_of (cond b nodes (node ∷ nodes))) [ true ↦ refl | false ↦ refl ]
+    ∙ elim (is_listed_state node.state) as (λ b. cond b (map block_of nodes) (block_of node ∷ map block_of nodes) ≡ map block_of (cond b nodes (node ∷ nodes))) [ true ↦ refl | false ↦ refl ]
 
 module _ (position : Position) (node : Node) (nodes : List Node) (lists : List (List Node)) (agreed : AgreeOnce (filled position (node ∷ nodes)) lists) where
   abbrev front : Option Node
@@ -77,8 +77,8 @@ module _ (position : Position) (node : Node) (nodes : List Node) (lists : List (
 
   -- a listed neighbour leaves its list, also where the other left
   neighbour_left : (at : Position) (n : Node) (others : List Node) (o : Option Node) → AgreeOnce (filled at (n ∷ others)) lists
-      → by_places (left_by (cond (is_listed n.state) (Some n) None) (left_by o lists)) ≡ unlink_block (option_map block_of (cond (is_listed n.state) (Some n) None)) (by_places (left_by o lists))
-  neighbour_left at n others o there = elim (is_listed n.state) as (λ b. by_places (left_by (cond b (Some n) None) (left_by o lists)) ≡ unlink_block (option_map block_of (cond b (Some n) None)) (by_places (left_by o lists))) [
+      → by_places (left_by (cond (is_listed_state n.state) (Some n) None) (left_by o lists)) ≡ unlink_block (option_map block_of (cond (is_listed_state n.state) (Some n) None)) (by_places (left_by o lists))
+  neighbour_left at n others o there = elim (is_listed_state n.state) as (λ b. by_places (left_by (cond b (Some n) None) (left_by o lists)) ≡ unlink_block (option_map block_of (cond b (Some n) None)) (by_places (left_by o lists))) [
     | true ↦ places-left n (left_by o lists) (full_front o) (still_alike n o (alike n lists at n others refl refl there))
     | false ↦ refl
   ]

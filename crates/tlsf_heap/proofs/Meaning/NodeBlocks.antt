@@ -6,12 +6,12 @@ use Rattle.tlsf_heap.specs.Malloc.{replaced_in}
 use Rattle.tlsf_heap.specs.Free.{next_of, first_in_pools}
 use Rattle.tlsf_heap.specs.Inner.Nodes.{Node, block_of, pool_of}
 use Rattle.tlsf_heap.specs.Inner.Positions.{Position, filled}
-use Rattle.tlsf_heap.proofs.Meaning.BlockPositions.{first_of, filled_pools, IsAlone, replaced_at, back_at, size_here}
+use Rattle.tlsf_heap.proofs.Meaning.BlockPositions.{leading_block, filled_pools, IsAlone, replaced_at, back_at, size_here}
 use Rattle.tlsf_heap.proofs.Meaning.Places.{block_position, pools_are}
 
 -- the block of the first node
 abbrev pub first_block : List Node → Option (Block ℕ)
-first_block nodes = first_of (map block_of nodes)
+first_block nodes = leading_block (map block_of nodes)
 
 module _ (position : Position) (node : Node) (nodes : List Node) (alone : IsAlone (block_position position) (block_of node) (map block_of nodes)) where
   -- the node gives way to other nodes

@@ -8,7 +8,7 @@ use Rattle.tlsf_heap.specs.declared.refusal.Refusal.TheVariants.{NoPool}
 use Rattle.tlsf_heap.specs.Content.{Block, Pool, blocks_of}
 use Rattle.tlsf_heap.specs.Good.{Covers, AreGoodPools}
 use Rattle.tlsf_heap.specs.Rows.{row_of, rows_from}
-use Rattle.tlsf_heap.specs.PlainHeap.{blocks_from, first_of, rows_at}
+use Rattle.tlsf_heap.specs.PlainHeap.{blocks_from, blocks_in_front, rows_from_number}
 
 -- a block that is found so has that many in front of it
 pub number_within : (number : ℕ) (pools : List (Pool ℕ)) (block : Block ℕ) (behind : List (Block ℕ)) → blocks_from number pools ≡ block ∷ behind → number < length (blocks_of pools)
@@ -45,15 +45,15 @@ blocks_behind number (pool ∷ pools) block next behind is = elim (cases_Bool (n
 
 -- the rows from a block on are its own, and those from the one behind it on
 pub rows_next : (number : ℕ) (pools : List (Pool ℕ)) (start next : Option ℕ) (block : Block ℕ) (behind : List (Block ℕ)) → start ≡ Some number → blocks_from number pools ≡ block ∷ behind
-    → ((length behind ≡ 0) × (next ≡ None)) ⊎ ((0 < length behind) × (next ≡ Some (number + 1))) → rows_at start pools ≡ row_of block ∷ rows_at next pools
+    → ((length behind ≡ 0) × (next ≡ None)) ⊎ ((0 < length behind) × (next ≡ Some (number + 1))) → rows_from_number start pools ≡ row_of block ∷ rows_from_number next pools
 rows_next number pools start next block behind is found which =
-    ap (λ o. rows_at o pools) is ∙ ap (map row_of) found ∙ ap (λ rows. row_of block ∷ rows) (rest behind found which)
+    ap (λ o. rows_from_number o pools) is ∙ ap (map row_of) found ∙ ap (λ rows. row_of block ∷ rows) (rest behind found which)
   where
-    rest : (others : List (Block ℕ)) → blocks_from number pools ≡ block ∷ others → ((length others ≡ 0) × (next ≡ None)) ⊎ ((0 < length others) × (next ≡ Some (number + 1))) → map row_of others ≡ rows_at next pools
-    rest [] at (inl last) = sym (ap (λ o. rows_at o pools) last.1)
+    rest : (others : List (Block ℕ)) → blocks_from number pools ≡ block ∷ others → ((length others ≡ 0) × (next ≡ None)) ⊎ ((0 < length others) × (next ≡ Some (number + 1))) → map row_of others ≡ rows_from_number next pools
+    rest [] at (inl last) = sym (ap (λ o. rows_from_number o pools) last.1)
     rest [] at (inr more) = absurd (omega (arith, more.0))
     rest (other ∷ others) at (inl last) = absurd (omega (arith, last.0))
-    rest (other ∷ others) at (inr more) = sym (ap (λ o. rows_at o pools) more.1 ∙ ap (map row_of) (blocks_behind number pools block other others at))
+    rest (other ∷ others) at (inr more) = sym (ap (λ o. rows_from_number o pools) more.1 ∙ ap (map row_of) (blocks_behind number pools block other others at))
 
 -- the rows from a number on, or why there are none
 abbrev pub rows_by : List (Pool ℕ) → Option ℕ → Result (List Row) Refusal
@@ -72,10 +72,10 @@ some_blocks from to [] h c = absurd (omega (arith, h, c))
 some_blocks from to (block ∷ blocks) h c = omega arith
 
 -- the rows of the first pool that begins at the base
-pub first_rows : (base from : ℕ) (pools : List (Pool ℕ)) → AreGoodPools from pools → rows_from base pools ≡ rows_by pools (first_of base pools)
+pub first_rows : (base from : ℕ) (pools : List (Pool ℕ)) → AreGoodPools from pools → rows_from base pools ≡ rows_by pools (blocks_in_front base pools)
 first_rows base from [] g = refl
 first_rows base from (pool ∷ pools) g = elim (cases_Bool (pool.base == base)) [
   | inl here ↦
       rw (here, lt-ltb 0 (length pool.blocks) (some_blocks pool.base (pool.base + pool.bytes) pool.blocks (omega (arith, g.1.least_bytes)) g.1.covered)) refl
-  | inr later ↦ rw later (first_rows base (pool.base + pool.bytes) pools g.2 ∙ pool_passed pool pools (first_of base pools))
+  | inr later ↦ rw later (first_rows base (pool.base + pool.bytes) pools g.2 ∙ pool_passed pool pools (blocks_in_front base pools))
 ]

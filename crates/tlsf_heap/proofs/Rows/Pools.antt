@@ -4,7 +4,7 @@ use Rattle.tlsf_class.specs.Classes.{class, low}
 use Rattle.tlsf_store.specs.Cells.{Cells, empty_cells, with_taken}
 use Rattle.tlsf_store.specs.declared.pools.Pool.{Pool as StoredPool}
 use Rattle.tlsf_heap.specs.Pools.{created, with_pool}
-use Rattle.tlsf_heap.specs.Cursors.{rows_by, rest_of}
+use Rattle.tlsf_heap.specs.Cursors.{rows_by, rows_left}
 use Rattle.tlsf_heap.specs.Inner.Nodes.{Layout, content_by, entered, pool_node, entries_in, pool_laid}
 use Rattle.tlsf_heap.specs.Inner.Represents.{pool_views, in_pool, AreLinked}
 use Rattle.tlsf_heap.proofs.Inner.Empty.{empty}
@@ -21,7 +21,7 @@ one_pool = refl
 abbrev one_pool_in : Cells
 one_pool_in = pool_entered (pool 0 1024 0) (with_taken (empty_cells 4) (Some 0))
 
-its_rows : rest_of (rows_by one_pool_in.records) (Some 0) ≡ record { place = 0; size = 1024; used = false } ∷ []
+its_rows : rows_left (rows_by one_pool_in.records) (Some 0) ≡ record { place = 0; size = 1024; used = false } ∷ []
 unfolding class low
 its_rows = refl
 

@@ -4,7 +4,7 @@ use Rattle.mtrace_log.specs.Shown.{WriterState}
 use Rattle.mtrace_log.specs.Output.{Puts}
 use Rattle.tlsf_store.specs.Cells.{Cells}
 use Rattle.tlsf_heap.specs.Images.Image.{Parts, parts_in}
-use Rattle.tlsf_heap.specs.Images.Rules.{first_broken, first_of, rules_of_table}
+use Rattle.tlsf_heap.specs.Images.Rules.{first_broken, first_unmet, rules_of_table}
 use Rattle.tlsf_heap.specs.Content.{Content}
 use Rattle.tlsf_heap.specs.Inner.Entries.{entries_of}
 use Rattle.tlsf_heap.specs.Inner.Following.{content_from}
@@ -39,14 +39,14 @@ told_in Vacant r = blank
 told_in Free r = r
 told_in Live r = record r { prev_free = None; next_free = None }
 
-abbrev pub told : Record → Record
-told r = told_in r.state r
+abbrev pub told_record : Record → Record
+told_record r = told_in r.state r
 
 -- the parts that the image of a store's cells is to have
 abbrev pub told_parts : Cells → Parts
-told_parts cells = record { pools = cells.pools; heads = cells.heads; records = map told cells.records }
+told_parts cells = record { pools = cells.pools; heads = cells.heads; records = map told_record cells.records }
 
 -- the cells' image would break no rule, and the bitmaps agree with the heads
 pub record IsWholeStore (cells : Cells) : Type 0 where
-  pub rules : first_of (rules_of_table (told_parts cells)) ≡ None
+  pub rules : first_unmet (rules_of_table (told_parts cells)) ≡ None
   pub bitmaps : AreBitmapsOf cells.heads cells.step_words cells.level_word

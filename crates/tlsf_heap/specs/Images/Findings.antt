@@ -60,8 +60,8 @@ abbrev pub front_of : ℕ → Record → Front
 front_of slot block = record { block = Some slot; end = block.place + block.size; is_free = is_free_state block.state }
 
 -- the tally with a block behind a front
-abbrev pub with_block : Front → Record → Tally → Tally
-with_block front block tally = record {
+abbrev pub tally_and : Front → Record → Tally → Tally
+tally_and front block tally = record {
   blocks = tally.blocks + 1;
   covers = tally.covers && (block.place == front.end);
   is_merged = tally.is_merged && not (front.is_free && is_free_state block.state);

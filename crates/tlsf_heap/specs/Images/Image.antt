@@ -49,8 +49,8 @@ abbrev pub record_start : ℕ → ℕ
 record_start slot = head_at classes + 16 * slot
 
 -- the state of a block's code
-abbrev pub state_of : ℕ → State
-state_of code = if code == 1 then Free else Live
+abbrev pub block_state : ℕ → State
+block_state code = if code == 1 then Free else Live
 
 abbrev pub pool_in : List ℕ → ℕ → Pool
 pool_in bytes number = record {
@@ -73,7 +73,7 @@ record_in bytes slot =
     else record {
       place = four_at (record_start slot) bytes;
       size = size_word bytes slot - size_word bytes slot % unit;
-      state = state_of (size_word bytes slot % unit);
+      state = block_state (size_word bytes slot % unit);
       prev = link_of (two_at (record_start slot + 8) bytes);
       next = link_of (two_at (record_start slot + 10) bytes);
       prev_free = link_of (two_at (record_start slot + 12) bytes);

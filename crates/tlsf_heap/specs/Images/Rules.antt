@@ -169,16 +169,16 @@ has_all_on_lists parts =
 -- ---- all of them
 
 -- the first rule whose test says no
-abbrev pub first_of : List (Rule × Bool) → Option Rule
-first_of [] = None
-first_of (rule ∷ rules) = if rule.1 then first_of rules else Some rule.0
+abbrev pub first_unmet : List (Rule × Bool) → Option Rule
+first_unmet [] = None
+first_unmet (rule ∷ rules) = if rule.1 then first_unmet rules else Some rule.0
 
 abbrev pub rules_of_parts : Parts → List (Rule × Bool)
 rules_of_parts parts =
     (Links, has_links parts) ∷ (Chains, has_chains parts) ∷ (Cover, has_cover parts) ∷ (OnChains, has_all_on_chains parts)
     ∷ (Merged, has_merged parts) ∷ (Lists, has_lists parts) ∷ (OnLists, has_all_on_lists parts) ∷ []
 
--- the rules of parts that stand in no bytes: that on their pools comes first
+-- the rules of parts that were not read from bytes, of which the rule on the pools comes first
 abbrev pub rules_of_table : Parts → List (Rule × Bool)
 rules_of_table parts = (Pools, has_packed_pools parts) ∷ rules_of_parts parts
 
@@ -189,4 +189,4 @@ rules bytes =
 
 -- the first rule that the bytes break
 abbrev pub first_broken : List ℕ → Option Rule
-first_broken bytes = first_of (rules bytes)
+first_broken bytes = first_unmet (rules bytes)

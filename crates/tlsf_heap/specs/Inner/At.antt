@@ -61,7 +61,7 @@ at_listed at = record at { node = turned Listed at.node; lists = entered (turned
 abbrev pub at_unlisted : At → At
 at_unlisted at = record at { node = turned Loose at.node; lists = left (turned Listed at.node) at.lists }
 
--- and is in use
+-- the node left its list, and is in use
 abbrev pub at_taken : At → At
 at_taken at = record at { node = turned InUse at.node; lists = left (turned Listed at.node) at.lists }
 
@@ -73,7 +73,7 @@ with_slot slot at = record at { taken = slot ∷ at.taken }
 abbrev pub at_split : ℕ → ℕ → At → At
 at_split rest bytes at = record at { position = record at.position { before = record at.node { size = bytes } ∷ at.position.before }; node = rest_node rest bytes at.node }
 
--- and it entered its list
+-- the node of what is left behind the first bytes entered its list
 abbrev pub at_split_off : ℕ → ℕ → At → At
 at_split_off rest bytes at = at_listed (at_split rest bytes at)
 
@@ -93,7 +93,7 @@ at_gapped live bytes at = record at {
   lists = entered_gap at.node.slot at.node.place bytes at.lists;
 }
 
--- a node in use became free, one with the free ones beside it, and listed
+-- a node in use became free, was merged with the free ones beside it, and entered its list
 abbrev pub at_freed : At → At
 at_freed at = at_listed (next_merged (previous_merged at))
 

@@ -15,23 +15,23 @@ abbrev pub edited_in : (Record → Record) → Option ℕ → List Record → Li
 edited_in edit None records = records
 edited_in edit (Some slot) records = slice_set records slot (edit (record_at records slot))
 
--- the same in the cells
+-- the cells with that record edited
 abbrev pub edited : (Record → Record) → Option ℕ → Cells → Cells
 edited edit slot cells = record cells { records = edited_in edit slot cells.records }
 
--- the block in front of the slot in its pool
+-- the cells with another block in front of the slot's in its pool
 abbrev pub with_prev : Option ℕ → Option ℕ → Cells → Cells
 with_prev slot prev cells = edited (λ r. record r { prev = prev }) slot cells
 
--- whether the slot's block is live
+-- the cells with this state of the slot's block
 abbrev pub with_state : ℕ → State → Cells → Cells
 with_state slot state cells = edited (λ r. record r { state = state }) (Some slot) cells
 
--- the block in front of the slot in its class's list
+-- the cells with another block in front of the slot's in its class's list
 abbrev pub with_prev_free : Option ℕ → Option ℕ → Cells → Cells
 with_prev_free slot prev cells = edited (λ r. record r { prev_free = prev }) slot cells
 
--- both neighbours of the slot in its class's list
+-- the cells with other neighbours of the slot's block in its class's list
 abbrev pub with_free_links : ℕ → Option ℕ → Option ℕ → Cells → Cells
 with_free_links slot prev next cells = edited (λ r. record r { prev_free = prev; next_free = next }) (Some slot) cells
 

@@ -74,13 +74,13 @@ has_slot slot node = node.slot == slot
 abbrev pub has_place : ℕ → Node → Bool
 has_place place node = node.place == place
 
-abbrev pub is_listed : NodeState → Bool
-is_listed Listed = true
-is_listed other = false
+abbrev pub is_listed_state : NodeState → Bool
+is_listed_state Listed = true
+is_listed_state other = false
 
 -- whether the node is to stand in the list of the class
 abbrev pub is_listed_in : ℕ → Node → Bool
-is_listed_in number node = is_listed node.state && (class node.size == number)
+is_listed_in number node = is_listed_state node.state && (class node.size == number)
 
 -- the nodes but that of the slot, in order
 abbrev pub without_slot : ℕ → List Node → List Node
@@ -98,7 +98,7 @@ entered node lists = slice_set lists (class node.size) (node ∷ nodes_in (class
 abbrev pub gap_nodes : (slot place size : ℕ) → List Node
 gap_nodes slot place size = if size == 0 then [] else record { slot = slot; place = place; size = size; state = Listed } ∷ []
 
--- it enters its class's list
+-- a node of these bytes, where there are any, enters its class's list
 abbrev pub entered_gap : (slot place size : ℕ) → List (List Node) → List (List Node)
 entered_gap slot place size lists = if size == 0 then lists else entered (record { slot = slot; place = place; size = size; state = Listed }) lists
 

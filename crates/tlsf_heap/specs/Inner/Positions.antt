@@ -2,7 +2,7 @@
 -- it, merged.
 use Rattle.std.specs.Prelude.{ℕ, List, [], ◌∷◌, ◌+◌, Bool, true, false, Option, Some, None, if◌then◌else◌}
 use Rattle.tlsf_store.specs.declared.pools.Pool.{Pool as StoredPool}
-use Rattle.tlsf_heap.specs.Inner.Nodes.{Node, Area, Layout, NodeState, InUse, Loose, is_listed, left}
+use Rattle.tlsf_heap.specs.Inner.Nodes.{Node, Area, Layout, NodeState, InUse, Loose, is_listed_state, left}
 
 -- the items in front, nearest first, and then those behind
 abbrev pub plug : {A : Type 0} → List A → List A → List A
@@ -35,12 +35,12 @@ is_loose other = false
 -- the first of the nodes, where it is listed
 abbrev pub listed_first : List Node → Option Node
 listed_first [] = None
-listed_first (node ∷ nodes) = if is_listed node.state then Some node else None
+listed_first (node ∷ nodes) = if is_listed_state node.state then Some node else None
 
--- the nodes without it
+-- the nodes without the first, where that one is listed
 abbrev pub past : List Node → List Node
 past [] = []
-past (node ∷ nodes) = if is_listed node.state then nodes else node ∷ nodes
+past (node ∷ nodes) = if is_listed_state node.state then nodes else node ∷ nodes
 
 -- a node, where there is one, leaves its list
 abbrev pub left_by : Option Node → List (List Node) → List (List Node)

@@ -41,13 +41,13 @@ abbrev pub list_views : List Record → ℕ → InList
 list_views records slot = list_view (record_at records slot)
 
 -- the state of a node's record
-abbrev pub state_of : NodeState → State
-state_of InUse = Live
-state_of other = Free
+abbrev pub record_state : NodeState → State
+record_state InUse = Live
+record_state other = Free
 
 -- what a node's record is to say between these neighbours
 abbrev pub in_pool : Option ℕ → Node → Option ℕ → InPool
-in_pool prev node next = record { place = node.place; size = node.size; state = state_of node.state; prev = prev; next = next }
+in_pool prev node next = record { place = node.place; size = node.size; state = record_state node.state; prev = prev; next = next }
 
 abbrev pub in_list : Option ℕ → Node → Option ℕ → InList
 in_list prev node next = record { prev = prev; next = next }
@@ -58,7 +58,7 @@ first_slot [] = None
 first_slot (node ∷ nodes) = Some node.slot
 
 module _ {V : Type 0} (says : Option ℕ → Node → Option ℕ → V) (at : ℕ → V) where
-  -- what is at each node's slot says the node, between what is in front of it and the next one
+  -- at each node's slot stands what `says` gives for it, between the slot in front of it and the one behind
   abbrev pub AreLinked : Option ℕ → List Node → Type 0
   AreLinked prev [] = ⊤
   AreLinked prev (node ∷ nodes) = (at node.slot ≡ says prev node (first_slot nodes)) × AreLinked (Some node.slot) nodes

@@ -48,23 +48,23 @@ abbrev pub span_at : At → Span
 span_at at = node_span at.node at.nodes
 
 -- the slot's block has this size and state, and this one behind it
-abbrev pub with_block : ℕ → ℕ → State → Option ℕ → Cells → Cells
-with_block slot size state next cells = edited (λ r. record r { size = size; state = state; next = next }) (Some slot) cells
+abbrev pub reshaped : ℕ → ℕ → State → Option ℕ → Cells → Cells
+reshaped slot size state next cells = edited (λ r. record r { size = size; state = state; next = next }) (Some slot) cells
 
 -- what is left of the block behind its first bytes, in this state, in front of this one in a list
-abbrev pub rest_of : State → Span → Option ℕ → ℕ → Record
-rest_of state span second bytes = record { place = span.place + bytes; size = span.size - bytes; state = state; prev = Some span.slot; next = span.next; prev_free = None; next_free = second }
+abbrev pub rest_record : State → Span → Option ℕ → ℕ → Record
+rest_record state span second bytes = record { place = span.place + bytes; size = span.size - bytes; state = state; prev = Some span.slot; next = span.next; prev_free = None; next_free = second }
 
 -- the block keeps its first bytes, and is live; the rest is a block of the other slot, behind it, in this state
 abbrev pub split_by : Span → ℕ → State → Option ℕ → ℕ → Cells → Cells
 split_by span rest back second bytes cells =
-    with_prev span.next (Some rest) (with_block span.slot bytes Live (Some rest) (with_record cells rest (rest_of back span second bytes)))
+    with_prev span.next (Some rest) (reshaped span.slot bytes Live (Some rest) (with_record cells rest (rest_record back span second bytes)))
 
 -- One of two neighbours, of this record, left its list. The first, which is live, is merged with the one behind it, whose slot
 -- becomes vacant; the span says what it is then.
 abbrev pub merged_by : Span → ℕ → Record → Cells → Cells
 merged_by span behind listed cells =
-    with_record (with_prev span.next (Some span.slot) (with_block span.slot span.size Live span.next (unlinked_by (class listed.size) listed cells))) behind blank
+    with_record (with_prev span.next (Some span.slot) (reshaped span.slot span.size Live span.next (unlinked_by (class listed.size) listed cells))) behind blank
 
 -- one of two neighbours, the listed one of this record, can leave its list. The two can then be merged.
 -- out: the records once the listed one left

@@ -3,7 +3,7 @@
 ghost use Rattle.std.specs.Prelude.{true, ◌≡◌, ◌<◌, ◌≤◌, IsTrue, length, IfSome, ◌+◌, ◌^◌};
 ghost use Rattle.tlsf_store.specs.Records.{most_records};
 ghost use Rattle.tlsf_heap.specs.Images.Rules.{has_links};
-ghost use Rattle.tlsf_heap.specs.Images.Findings.{chain_found, chains_found, both, front_of, is_before, with_block, OnlyReads, Finds};
+ghost use Rattle.tlsf_heap.specs.Images.Findings.{chain_found, chains_found, both, front_of, is_before, tally_and, OnlyReads, Finds};
 
 use super::HasParts;
 use tlsf_store::{MOST_POOLS, Pool, Record, Slot, State};
@@ -75,7 +75,7 @@ impl Tally {
     /// The tally with a block behind this front.
     fn with(self, front: Front, block: &Record) -> Tally
         requires { self.blocks < most_records }
-        ensures { result ≡ with_block front block.now self }
+        ensures { result ≡ tally_and front block.now self }
     {
         Tally {
             blocks: self.blocks + 1,

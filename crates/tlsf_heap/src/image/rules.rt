@@ -1,7 +1,7 @@
 //! The rules of what a table describes.
 
 ghost use Rattle.std.specs.Prelude.{◌≡◌, true};
-ghost use Rattle.tlsf_heap.specs.Images.Rules.{first_of, has_ordered_pools, rules_of_parts, rules_of_table};
+ghost use Rattle.tlsf_heap.specs.Images.Rules.{first_unmet, has_ordered_pools, rules_of_parts, rules_of_table};
 ghost use Rattle.tlsf_heap.specs.Images.Findings.{OnlyReads, Finds};
 
 use super::chains::look_at_chains;
@@ -13,7 +13,7 @@ use super::{HasParts, Rule};
 /// The first rule, of those on pools, records, chains and lists, that a table breaks: `None` where it is that of a heap.
 /// Its time is linear in the records.
 pub fn first_broken<T: HasParts>(table: &mut T) -> Option<Rule>
-    ensures value { result ≡ first_of (rules_of_table (T.parts table.old)) }
+    ensures value { result ≡ first_unmet (rules_of_table (T.parts table.old)) }
     ensures read { OnlyReads T.parts T.cells T.touches table.old table.new }
 {
     if has_packed_pools(table) {
@@ -26,7 +26,7 @@ pub fn first_broken<T: HasParts>(table: &mut T) -> Option<Rule>
 /// The first rule, of those on records, chains and lists, that a table breaks, whose pools are where pools can be.
 pub(crate) fn first_behind_pools<T: HasParts>(table: &mut T) -> Option<Rule>
     requires { has_ordered_pools (T.parts table.old) ≡ true }
-    ensures { Finds result (first_of (rules_of_parts (T.parts table.old))) T.parts T.cells T.touches table.old table.new }
+    ensures { Finds result (first_unmet (rules_of_parts (T.parts table.old))) T.parts T.cells T.touches table.old table.new }
 {
     let Some(blocks) = look_at_links(table) else {
         return Some(Rule::Links);

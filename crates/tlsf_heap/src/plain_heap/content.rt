@@ -35,7 +35,7 @@ impl Content {
     ghost use Rattle.tlsf_heap.specs.Free.{is_live, free_previous, free_next, unlink_block, without_block};
     ghost use Rattle.tlsf_heap.specs.Pools.{created, with_pool, is_apart, end_of_places, is_based, is_unused};
     ghost use Rattle.tlsf_heap.specs.GoodSlots.{is_slot, slot_times};
-    ghost use Rattle.tlsf_heap.specs.PlainHeap.{link_block, blocks_among, blocks_from, first_of};
+    ghost use Rattle.tlsf_heap.specs.PlainHeap.{link_block, blocks_among, blocks_from, blocks_in_front};
 
     /// The content of this many records, with no pool.
     pub fn create(alloc: Global, records: u16) -> Result<Self, AllocError>
@@ -286,9 +286,9 @@ impl Content {
     }
 
     /// How many blocks stand in front of those of the first pool that begins at `base`.
-    pub fn first_of(&self, base: u64) -> Option<u32>
+    pub fn blocks_in_front(&self, base: u64) -> Option<u32>
         requires { used_records self.now < 2 ^ 32 }
-        ensures { result ≡ first_of base self.now.pools }
+        ensures { result ≡ blocks_in_front base self.now.pools }
     {
         let mut number = 0;
         for pool in &self.pools {

@@ -35,7 +35,7 @@ impl Model for PlainHeap {
 /// It has no table to touch. Each call that changes it may lack memory.
 impl Heaped for PlainHeap {
     ghost use Rattle.std.specs.Prelude.{⊤};
-    ghost use Rattle.tlsf_heap.specs.PlainHeap.{rows_at};
+    ghost use Rattle.tlsf_heap.specs.PlainHeap.{rows_from_number};
 
     ghost content = { λ heap. heap };
 
@@ -45,7 +45,7 @@ impl Heaped for PlainHeap {
 
     ghost stands = { λ heap cursor. ⊤ };
 
-    ghost rest = { λ heap cursor. rows_at cursor.next heap.pools };
+    ghost rest = { λ heap cursor. rows_from_number cursor.next heap.pools };
 
     fn create(alloc: Global, records: u32) -> Result<Self, StoreError> {
         if records == 0 || records > MOST_RECORDS {
@@ -152,7 +152,7 @@ impl Heaped for PlainHeap {
     }
 
     fn first(&mut self, base: u64) -> Result<Cursor, Refusal> {
-        let Some(number) = self.content.first_of(base) else {
+        let Some(number) = self.content.blocks_in_front(base) else {
             return Err(Refusal::NoPool);
         };
         Ok(Cursor { next: Some(number) })

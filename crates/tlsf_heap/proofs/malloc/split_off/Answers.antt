@@ -6,7 +6,7 @@ use Rattle.tlsf_store.specs.declared.records.Record.{Record}
 use Rattle.tlsf_store.specs.declared.records.State.TheVariants.{Free}
 use Rattle.tlsf_heap.specs.declared.span.Span.{Span}
 use Rattle.tlsf_heap.specs.Inner.Edits.{IsUsed, put_first, linked}
-use Rattle.tlsf_heap.specs.Inner.Nodes.{NodeState, InUse, Loose, is_listed}
+use Rattle.tlsf_heap.specs.Inner.Nodes.{NodeState, InUse, Loose, is_listed_state}
 use Rattle.tlsf_heap.specs.Inner.At.{At, StandsAt, with_slot, at_turned, at_split}
 use Rattle.tlsf_heap.specs.Inner.Spans.{IsRead, split_by}
 use Rattle.tlsf_heap.proofs.Inner.Steps.{slot_used, size_read, place_read, whole_at, first_used, listed_stands}
@@ -54,7 +54,7 @@ split-requires-clause-ends c =
     omega (arith, (whole_at c.args.store.now.cells c.args.block.now.slot c.requires.stands.0 (with_slot c.args.rest c.requires.stands.1) c.requires.stands.3).ends, w.3)
 
 -- what stands once the block was split, with the links of the rest
-module _ (old read new : Cells) (span : Span) (node_state : NodeState) (rest bytes number : ℕ) (first : Option ℕ) (at : At) (unlisted : is_listed node_state ≡ false) (stands : StandsAt span.slot node_state old (with_slot rest at)) (known : IsRead span old.records)
+module _ (old read new : Cells) (span : Span) (node_state : NodeState) (rest bytes number : ℕ) (first : Option ℕ) (at : At) (unlisted : is_listed_state node_state ≡ false) (stands : StandsAt span.slot node_state old (with_slot rest at)) (known : IsRead span old.records)
     (some : 0 < bytes) (less : bytes < span.size) (in_units : bytes % unit ≡ 0) (same : read ≡ old) (class_is : number ≡ class (span.size - bytes)) (first_is : first ≡ head_at old.heads number) (is : new ≡ split_by span rest Free first bytes read) where
   abbrev after : At
   after = at_split rest bytes (at_turned InUse at)

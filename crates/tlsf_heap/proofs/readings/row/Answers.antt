@@ -4,7 +4,7 @@ use Rattle.tlsf_store.specs.declared.records.Record.{Record}
 use Rattle.tlsf_store.specs.Records.{record_at}
 use Rattle.tlsf_heap.specs.Inner.Edits.{IsUsed}
 use Rattle.tlsf_heap.specs.Rows.{row_of}
-use Rattle.tlsf_heap.specs.Cursors.{rows_by, rest_of}
+use Rattle.tlsf_heap.specs.Cursors.{rows_by, rows_left}
 use Rattle.tlsf_heap.specs.Inner.Following.{block_at}
 use Rattle.tlsf_heap.proofs.Inner.RowsRead.{stands_used, row_then_rest, rest_stands, live_is_used, past_rest}
 use Rattle.tlsf_heap.proofs.readings.row.Goals as goal
@@ -23,7 +23,7 @@ row_is c =
 pub returns-clause-given : goal.returns-clause-given
 returns-clause-given c = record {
   some = rw (c.in_ok-next.was, next_is c) (row_then_rest c.args.store.now.cells c.requires.stands c.in_ok-next.next (used c)
-      ∙ ap (λ row. row ∷ rest_of (rows_by c.args.store.now.cells.records) (record_at c.args.store.now.cells.records c.in_ok-next.next).next) (row_is c));
+      ∙ ap (λ row. row ∷ rows_left (rows_by c.args.store.now.cells.records) (record_at c.args.store.now.cells.records c.in_ok-next.next).next) (row_is c));
   next_stands = rw (next_is c) (rest_stands c.args.store.now.cells c.requires.stands c.in_ok-next.next (used c));
   none = search rules;
 }

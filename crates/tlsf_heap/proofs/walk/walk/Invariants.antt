@@ -1,6 +1,6 @@
 use Rattle.std.proofs.Common.{◌≡◌, ◌+◌, ◌≤◌, length}
 use Rattle.std.specs.List.{FoldsTo}
-use Rattle.tlsf_heap.specs.Cursors.{rows_by, rest_of, stands_at}
+use Rattle.tlsf_heap.specs.Cursors.{rows_by, rows_left, stands_at}
 use Rattle.tlsf_heap.proofs.walk.walk.Given as goal
 
 -- visits of the rows that are left end visits of all
@@ -11,10 +11,10 @@ invariant-loop-row g l =
       callable : goal.F-IsAlwaysCallable g l.visit;
       cells : l.store.cells ≡ l.fn.store.cells;
       stands : stands_at rows l.cursor.next;
-      visited : (last : _) → FoldsTo (λ p x q. goal.F-step g p x tt q) l.visit (rest_of rows l.cursor.next) last → FoldsTo (λ p x q. goal.F-step g p x tt q) l.fn.visit (rest_of rows l.initial.cursor.next) last;
+      visited : (last : _) → FoldsTo (λ p x q. goal.F-step g p x tt q) l.visit (rows_left rows l.cursor.next) last → FoldsTo (λ p x q. goal.F-step g p x tt q) l.fn.visit (rows_left rows l.initial.cursor.next) last;
       floor : l.fn.store.touches ≤ l.store.touches;
-      bound : l.store.touches + length (rest_of rows l.cursor.next) ≤ l.fn.store.touches + 4 + length (rest_of rows l.initial.cursor.next);
+      bound : l.store.touches + length (rows_left rows l.cursor.next) ≤ l.fn.store.touches + 4 + length (rows_left rows l.initial.cursor.next);
     }
 
 abbrev pub decreases-loop-row : goal.decreases-loop-row
-decreases-loop-row g l = length (rest_of (rows_by l.fn.store.cells.records) l.cursor.next)
+decreases-loop-row g l = length (rows_left (rows_by l.fn.store.cells.records) l.cursor.next)

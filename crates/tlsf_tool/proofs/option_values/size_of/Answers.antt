@@ -6,4 +6,4 @@ use Rattle.tlsf_tool.proofs.option_values.size_of.Goals as goal
 
 pub returns : goal.returns
 returns c = number_read (λ bs r. ParsesUnsigned 64 10 bs r × ExplainsUnsignedError 10 bs r × HasUnsignedDigitsIfOk bs r)
-    (found_of c.args.found.now) c.args.id.now 64 c.get_one.result (λ t x g. g.0) c.get_one.ensures.none c.get_one.ensures.value
+    (found_of c.args.matches.now) c.args.id.now 64 c.get_one.result (λ t x g. g.0) c.get_one.ensures.none c.get_one.ensures.value

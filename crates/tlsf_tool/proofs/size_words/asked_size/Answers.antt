@@ -11,11 +11,11 @@ abbrev all_said : Option (Bor (List (Bor Text))) → Option (List Text)
 all_said = option_map (λ texts. said texts.now)
 
 pub asked_size_parts-requires : goal.asked_size_parts-requires
-asked_size_parts-requires c = record { told = sym (raw_values-rows (found_of c.args.found.now) (codes "part")) ∙ sym c.get_strs.ensures ∙ ap all_said c.in-Some.is }
+asked_size_parts-requires c = record { told = sym (raw_values-rows (found_of c.args.matches.now) (codes "part")) ∙ sym c.get_strs.ensures ∙ ap all_said c.in-Some.is }
 
 pub returns-in_default-bounds_of : goal.returns-in_default-bounds_of
 returns-in_default-bounds_of c =
-    let found = found_of c.args.found.now in
+    let found = found_of c.args.matches.now in
     let none = sym (raw_values-rows found (codes "part")) ∙ sym c.get_strs.ensures ∙ ap all_said c.in_default.is in
     record {
       asked = tt;
@@ -24,5 +24,5 @@ returns-in_default-bounds_of c =
 
 pub returns : goal.returns
 returns c =
-    let none = sym (raw_values-rows (found_of c.args.found.now) (codes "part")) ∙ sym c.get_strs.ensures ∙ ap all_said c.in_default.is in
+    let none = sym (raw_values-rows (found_of c.args.matches.now) (codes "part")) ∙ sym c.get_strs.ensures ∙ ap all_said c.in_default.is in
     record { asked = (refl, c.in-Some-bounds_of.ensures.given, none); faults = tt }

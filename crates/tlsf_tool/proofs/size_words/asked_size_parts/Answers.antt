@@ -6,7 +6,7 @@ use Rattle.tlsf_tool.proofs.size_words.asked_size_parts.Goals as goal
 
 pub returns-then-has_bound : goal.returns-then-has_bound
 returns-then-has_bound c =
-    let rows = rows_of (found_of c.args.found.now) in
+    let rows = rows_of (found_of c.args.matches.now) in
     record {
       asked = tt;
       faults = refuses c.usage.result c.usage.ensures (size_asks_nothing rows (beside_bounds rows c.args.texts.now c.requires.told c.if-has_bound.ensures));
@@ -14,7 +14,7 @@ returns-then-has_bound c =
 
 pub returns-then-texts-gt8 : goal.returns-then-texts-gt8
 returns-then-texts-gt8 c =
-    let rows = rows_of (found_of c.args.found.now) in
+    let rows = rows_of (found_of c.args.matches.now) in
     record {
       asked = tt;
       faults = refuses c.usage-then-texts-gt8.result c.usage-then-texts-gt8.ensures (size_asks_nothing rows (too_many rows c.args.texts.now c.requires.told c.if-texts-gt8.true));
@@ -22,5 +22,5 @@ returns-then-texts-gt8 c =
 
 pub returns-in_err-parts : goal.returns-in_err-parts
 returns-in_err-parts c =
-    let rows = rows_of (found_of c.args.found.now) in
+    let rows = rows_of (found_of c.args.matches.now) in
     asks_exit c.from_residual.result _ c.from_residual.ensures.1 (λ never. size_asks_nothing rows (unread_parts rows c.args.texts.now c.requires.told never)) c.in_err-parts.ensures.faults

@@ -6,11 +6,11 @@ use Rattle.tlsf_tool.proofs.words.asked_ledger.Goals as goal
 
 pub returns-in_err-settings : goal.returns-in_err-settings
 returns-in_err-settings c =
-    asks_exit c.from_residual.result _ c.from_residual.ensures.1 (report_asks_nothing (rows_of (found_of c.args.found.now)) c.args.name) c.in_err-settings.ensures.faults
+    asks_exit c.from_residual.result _ c.from_residual.ensures.1 (report_asks_nothing (rows_of (found_of c.args.matches.now)) c.args.name) c.in_err-settings.ensures.faults
 
 pub returns-then-ne : goal.returns-then-ne
 returns-then-ne c = record {
   asked = tt;
   faults = refuses c.usage.result c.usage.ensures
-      (follow_asks_nothing (rows_of (found_of c.args.found.now)) c.args.name c.in_ok-settings.settings c.requires.none c.in_ok-settings.ensures.asked.0 (λ is. search rules));
+      (follow_asks_nothing (rows_of (found_of c.args.matches.now)) c.args.name c.in_ok-settings.settings c.requires.none c.in_ok-settings.ensures.asked.0 (λ is. search rules));
 }

@@ -6,4 +6,4 @@ use Rattle.tlsf_tool.proofs.words.asked_sites.Goals as goal
 
 pub returns-in_err-log : goal.returns-in_err-log
 returns-in_err-log c =
-    asks_exit c.from_residual.result _ c.from_residual.ensures.1 (λ none. sites_asks_nothing (rows_of (found_of c.args.found.now)) (inl none)) c.in_err-log.ensures.faults
+    asks_exit c.from_residual.result _ c.from_residual.ensures.1 (λ none. sites_asks_nothing (rows_of (found_of c.args.matches.now)) (inl none)) c.in_err-log.ensures.faults

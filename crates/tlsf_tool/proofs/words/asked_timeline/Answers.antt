@@ -7,9 +7,9 @@ use Rattle.tlsf_tool.proofs.words.asked_timeline.Goals as goal
 pub returns-in_default : goal.returns-in_default
 returns-in_default c = record {
   asked = tt;
-  faults = refuses c.usage.result c.usage.ensures (timeline_asks_nothing (rows_of (found_of c.args.found.now)) (inl c.in_default.ensures.other));
+  faults = refuses c.usage.result c.usage.ensures (timeline_asks_nothing (rows_of (found_of c.args.matches.now)) (inl c.in_default.ensures.other));
 }
 
 pub returns-in_err-log : goal.returns-in_err-log
 returns-in_err-log c =
-    asks_exit c.from_residual.result _ c.from_residual.ensures.1 (λ missing. timeline_asks_nothing (rows_of (found_of c.args.found.now)) (inr missing)) c.in_err-log.ensures.faults
+    asks_exit c.from_residual.result _ c.from_residual.ensures.1 (λ missing. timeline_asks_nothing (rows_of (found_of c.args.matches.now)) (inr missing)) c.in_err-log.ensures.faults

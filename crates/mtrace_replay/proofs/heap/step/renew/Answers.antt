@@ -7,7 +7,7 @@ use Rattle.mtrace_replay.specs.Holding.{Holding}
 use Rattle.mtrace_replay.specs.declared.held.diagnostic.Kind.TheVariants.{NotHeld, AlreadyHeld}
 use Rattle.mtrace_replay.specs.Moment.{Plan, move, none_for, doing, allocation, preceded, acts, carried_out}
 use Rattle.mtrace_replay.specs.Index.{held_at}
-use Rattle.mtrace_replay.specs.Step.{all_given, found, Comes, AreLive}
+use Rattle.mtrace_replay.specs.Step.{all_given, held_given, Comes, AreLive}
 use Rattle.std.proofs.lemmas.Result.{on_err_weaker}
 use Rattle.mtrace_replay.proofs.Index.LookLemmas.{look_on, looks_up_fewer}
 use Rattle.mtrace_replay.proofs.OnHeap.StepLemmas.{replays_as, comes_unserved, comes_after_diagnostic, under_none, under_some, seen_block, renewal_allocates, renewal_under}
@@ -22,7 +22,7 @@ returns-in_default-block g c =
     let entry = c.args.entry.now in
     let old = c.in-Some.old in
     let none = under_none (held_at held old) (sym (seen_block c.find-found.new.self.all c.args.holder.now.held.all c.find-found.result.address c.in-Some.old c.block.result c.block.ensures.value c.find-found.ensures.unchanged c.find-found.ensures.address) ∙ c.in_default-block.is) in
-    let by : List Holding → Plan = λ all. allocation entry None (found (all_given all) entry.addr) in
+    let by : List Holding → Plan = λ all. allocation entry None (held_given (all_given all) entry.addr) in
     let C : List Holding → Type 0 = λ all. Comes content after (all_given all) (all_given new) c.allocate.new.findings c.in_ok-end.end (carried_out (by all) content) in
     let P : List Diagnostic → Type 0 = λ diagnostics. Comes content after (all_given held) (all_given new) diagnostics c.in_ok-end.end (carried_out (preceded (NotHeld old) entry.line (by held)) content) in
     replays_as (renewal_allocates held entry c.args.pending old c.in-Some.is none) (record {

@@ -4,7 +4,7 @@ use Rattle.std.proofs.Math.ListN.{get_or}
 use Rattle.std.proofs.lemmas.List.{append-nil, drop_all}
 use Rattle.tlsf_heap.specs.Content.{Content}
 use Rattle.tlsf_heap.specs.Counted.{range_of}
-use Rattle.mtrace_replay.specs.Rows.{rows_at}
+use Rattle.mtrace_replay.specs.Rows.{pool_rows}
 use Rattle.mtrace_replay.specs.Survey.{SurveysRows}
 use Rattle.mtrace_replay.proofs.OnHeap.RowLemmas.{by_base, just_rows, next_of, survey_is}
 use Rattle.mtrace_replay.proofs.heap.survey.survey_heap.Goals as goal
@@ -18,7 +18,7 @@ loop-range-preserved g c =
     let index = c.loop-range.range-index in
     let item = get_or items index (0, 0) in
     let f = by_base just_rows pools in
-    let P : Content ℕ → Type 0 = λ content. SurveysRows (rows_at content.pools item.0) c.survey_pool.result in
+    let P : Content ℕ → Type 0 = λ content. SurveysRows (pool_rows content.pools item.0) c.survey_pool.result in
     let next = next_of f items all index (0, 0) (c.as_slice-range-items.ensures.value ∙ c.pools-pools.ensures.value) c.loop-range-test.true in
     record {
       past = kept.past ++ f item;

@@ -3,7 +3,7 @@ use Rattle.std.proofs.Common.{ℕ, List, subst, ◌∙◌, flat_map, codes, refl
 use Rattle.mtrace_log.specs.Output.{PutsAll, PutsPart, Puts}
 use Rattle.mtrace_log.proofs.Writing.{puts_then, fails_early, puts_exit}
 use Rattle.mtrace_replay.specs.Texts.{pair_line, row_text}
-use Rattle.mtrace_replay.specs.Rows.{rows_at}
+use Rattle.mtrace_replay.specs.Rows.{pool_rows}
 use Rattle.mtrace_replay.proofs.OnHeap.RowLemmas.{rows_text-is}
 use Rattle.mtrace_replay.proofs.heap.walk.put_pool.Goals as goal
 
@@ -12,7 +12,7 @@ returns-in_err-put_all g c =
     record {
       puts =
           let writes = g.W.Sink.shown in
-          let rows = rows_at (g.H.Heaped.content c.args.heap.now).pools c.args.range.0 in
+          let rows = pool_rows (g.H.Heaped.content c.args.heap.now).pools c.args.range.0 in
           let line = pair_line (codes "pool ") c.args.range.0 (codes ": ") c.args.range.1 (codes " bytes") in
           let P : List ℕ → Type 0 = λ text. PutsPart text (writes c.args.writer.now) (writes c.put_all.new.writer) in
           puts_exit c.from_residual.result _ c.from_residual.ensures.1 _ (writes c.args.writer.now) (writes c.put_all.new.writer)
@@ -26,7 +26,7 @@ returns g c =
     record {
       puts =
           let writes = g.W.Sink.shown in
-          let rows = rows_at (g.H.Heaped.content c.args.heap.now).pools c.args.range.0 in
+          let rows = pool_rows (g.H.Heaped.content c.args.heap.now).pools c.args.range.0 in
           let line = pair_line (codes "pool ") c.args.range.0 (codes ": ") c.args.range.1 (codes " bytes") in
           let P : List ℕ → Type 0 = λ text. PutsAll text (writes c.args.writer.now) (writes c.put_all.new.writer) in
           let Q : List ℕ → Type 0 = λ text. Puts c.put_rows_at.result text (writes c.args.writer.now) (writes c.put_rows_at.new.writer) in

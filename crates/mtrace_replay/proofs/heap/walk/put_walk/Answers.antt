@@ -7,7 +7,7 @@ use Rattle.mtrace_log.proofs.Writing.{putting_more, putting_fails, putting_ends,
 use Rattle.tlsf_heap.specs.Content.{Content}
 use Rattle.tlsf_heap.specs.Counted.{range_of}
 use Rattle.mtrace_replay.specs.Texts.{rows_text}
-use Rattle.mtrace_replay.specs.Rows.{rows_at}
+use Rattle.mtrace_replay.specs.Rows.{pool_rows}
 use Rattle.mtrace_replay.proofs.OnHeap.RowLemmas.{by_base, next_of, walk_is}
 use Rattle.mtrace_replay.proofs.heap.walk.put_walk.Goals as goal
 
@@ -21,7 +21,7 @@ loop-range-preserved g c =
     let index = c.loop-range.range-index in
     let item = get_or items index (0, 0) in
     let f = by_base rows_text pools in
-    let P : Content ℕ → Type 0 = λ content. PutsAll (rows_text item (rows_at content.pools item.0)) (writes c.loop-range.writer) (writes c.put_pool.new.writer) in
+    let P : Content ℕ → Type 0 = λ content. PutsAll (rows_text item (pool_rows content.pools item.0)) (writes c.loop-range.writer) (writes c.put_pool.new.writer) in
     let next = next_of f items all index (0, 0) (c.as_slice-range-items.ensures.value ∙ c.pools-pools.ensures.value) c.loop-range-test.true in
     record {
       put = putting_more (writes c.args.writer.now) (writes c.loop-range.writer) (writes c.put_pool.new.writer) (flat_map f all) (flat_map f (drop index all)) (f item) (flat_map f (drop (index + 1) all))
@@ -41,7 +41,7 @@ returns-in_err-put_pool g c =
           let index = c.loop-range.range-index in
           let item = get_or items index (0, 0) in
           let f = by_base rows_text content.pools in
-          let P : Content ℕ → Type 0 = λ content. PutsPart (rows_text item (rows_at content.pools item.0)) (writes c.loop-range.writer) (writes c.put_pool.new.writer) in
+          let P : Content ℕ → Type 0 = λ content. PutsPart (rows_text item (pool_rows content.pools item.0)) (writes c.loop-range.writer) (writes c.put_pool.new.writer) in
           let Q : List ℕ → Type 0 = λ text. PutsPart text (writes c.args.writer.now) (writes c.put_pool.new.writer) in
           let next = next_of f items all index (0, 0) (c.as_slice-range-items.ensures.value ∙ c.pools-pools.ensures.value) c.loop-range-test.true in
           puts_exit c.from_residual.result _ c.from_residual.ensures.1 _ (writes c.args.writer.now) (writes c.put_pool.new.writer) (subst Q (walk_is content c.keeps_good.ensures.good)

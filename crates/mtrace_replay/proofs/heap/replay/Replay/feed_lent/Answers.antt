@@ -8,7 +8,7 @@ use Rattle.mtrace_replay.specs.declared.held.diagnostic.Diagnostic.{Diagnostic}
 use Rattle.mtrace_replay.specs.declared.heap.settings.Settings.{Settings}
 use Rattle.mtrace_replay.specs.Moment.{ReadLine}
 use Rattle.mtrace_replay.specs.Replay.{Replayed, StandsFor, added_diagnostics}
-use Rattle.mtrace_replay.specs.Step.{given_of, all_given, found}
+use Rattle.mtrace_replay.specs.Step.{given_of, all_given, held_given}
 use Rattle.mtrace_replay.specs.Totals.{is_refusal}
 use Rattle.mtrace_replay.proofs.History.FoundLemmas.{addresses_given, sizes_given}
 use Rattle.mtrace_replay.proofs.Told.DiagnosticLemmas.{diagnostics_few}
@@ -36,7 +36,7 @@ put_half-requires g c =
       arith,
       ap (length {A = Diagnostic}) c.half_before-half.ensures,
       ap (length {A = Diagnostic}) c.in-Ok.ensures.comes.diagnostics_are,
-      diagnostics_few inside.totals.lines c.args.number c.args.event inside.pending (found (all_given inside.holder.held.all)) (bare (g.H.Heaped.content inside.holder.heap)),
+      diagnostics_few inside.totals.lines c.args.number c.args.event inside.pending (held_given (all_given inside.holder.held.all)) (bare (g.H.Heaped.content inside.holder.heap)),
     )
 
 pub returns-in-Ok : goal.returns-in-Ok

@@ -8,7 +8,7 @@ use Rattle.mtrace_replay.specs.Calls.{count_more}
 use Rattle.mtrace_replay.specs.Shares.{ByLocation, amount_more, now_at, count_at, Changes, Counts}
 use Rattle.mtrace_replay.specs.Ledger.{LedgerState, IsLedger, AreShared, AreCalled, Forgets, held_at, slot_of}
 use Rattle.mtrace_replay.proofs.Served.LedgerLemmas.{changes_at, still_keeps, same_view, on_err}
-use Rattle.mtrace_replay.proofs.Served.LedgerPeak.{IsRest, state_of, same_state, keeps_now, shared_now, called_now, few_more, peak_stays, rest_of, counted_there, counted, few_blocks, few_bytes}
+use Rattle.mtrace_replay.proofs.Served.LedgerPeak.{IsRest, ledger_state, same_state, keeps_now, shared_now, called_now, few_more, peak_stays, rest_of, counted_there, counted, few_blocks, few_bytes}
 use Rattle.mtrace_replay.proofs.Served.SharesLemmas.{shared-longer, called-longer}
 use Rattle.mtrace_replay.proofs.Served.CallersBySlot.{called-more, more_called}
 use Rattle.mtrace_replay.proofs.no_heap.ledger.Ledger.hold.Goals as goal
@@ -53,7 +53,7 @@ invariant_of-self-in_err-before c =
 pub returns-in_err-before-clause-unchanged : goal.returns-in_err-before-clause-unchanged
 returns-in_err-before-clause-unchanged c =
     on_err c.from_residual-in_err-before.result _
-    (ap (state_of c.number_at.new.self c.cover.new.self) c.in_err-before.ensures.err
+    (ap (ledger_state c.number_at.new.self c.cover.new.self) c.in_err-before.ensures.err
     ∙ same_state c.self.inside.locations c.number_at.new.self c.number_at.ensures.others c.self.inside.shares c.cover.new.self c.self.inside.held.entries c.self.inside.bytes c.self.invariant c.cover.ensures.kept
     ∙ c.self.view_is)
 

@@ -4,7 +4,7 @@ use Rattle.std.specs.Map.{values_of}
 use Rattle.mtrace_replay.specs.Ledger.{LedgerState}
 use Rattle.mtrace_replay.specs.Sites.{AreTallied}
 use Rattle.mtrace_replay.specs.Shares.{marked_at, now_at, origins, has_no_block, site_at, sites_of}
-use Rattle.mtrace_replay.proofs.Served.LedgerPeak.{state_of, callers_stay}
+use Rattle.mtrace_replay.proofs.Served.LedgerPeak.{ledger_state, callers_stay}
 use Rattle.mtrace_replay.proofs.Served.CallersBySlot.{called_of}
 use Rattle.mtrace_replay.proofs.Served.SharesLemmas.{shared-marked, called-kept}
 use Rattle.mtrace_replay.proofs.Served.RowsBySlot.{rows_by-same}
@@ -24,7 +24,7 @@ returns-clause-at_peak c =
     let held = c.self.inside.held.entries in
     let now = tallied c.self.inside.locations c.self.inside.shares held c.keep_apart.ensures (λ k d within. (c.self.invariant.0.kept k d within).location) c.self.invariant.1 in
     let same = rows_by-same has_no_block site_at (marked_at c.set_mark.new.self) (now_at c.self.inside.shares) c.set_mark.ensures.marked (origins c.self.inside.locations) 0 in
-    subst (λ (state : LedgerState). AreTallied state.all (sites_of (marked_at c.set_mark.new.self) c.self.inside.locations)) c.self.view_is (subst (AreTallied (state_of c.self.inside.locations c.self.inside.shares held).all) (sym same) now)
+    subst (λ (state : LedgerState). AreTallied state.all (sites_of (marked_at c.set_mark.new.self) c.self.inside.locations)) c.self.view_is (subst (AreTallied (ledger_state c.self.inside.locations c.self.inside.shares held).all) (sym same) now)
 
 pub returns-clause-called : goal.returns-clause-called
 returns-clause-called c =

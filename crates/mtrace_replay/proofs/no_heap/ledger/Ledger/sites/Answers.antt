@@ -8,7 +8,7 @@ use Rattle.mtrace_replay.specs.declared.no_heap.shares.When.{When}
 use Rattle.mtrace_replay.specs.declared.no_heap.shares.When.TheVariants.{Peak, End}
 use Rattle.mtrace_replay.specs.Shares.{ByLocation, amount_at, origins, sites_of}
 use Rattle.mtrace_replay.specs.Ledger.{LedgerState, AreEntries}
-use Rattle.mtrace_replay.proofs.Served.LedgerPeak.{state_of}
+use Rattle.mtrace_replay.proofs.Served.LedgerPeak.{ledger_state}
 use Rattle.mtrace_replay.proofs.Told.SiteLemmas.Exact.{are_sites}
 use Rattle.mtrace_replay.proofs.Served.SitesBySlot.{sites_by-some, tallied}
 use Rattle.mtrace_replay.proofs.no_heap.ledger.Ledger.sites.Goals as goal
@@ -30,7 +30,7 @@ returns c = λ entries are.
     let sorted = c.sort_sites.new.sites.items in
     let back = IsPermutation-sym sites (reverse sites) (IsPermutation-reverse sites) in
     let arranged = subst (λ (ss : List Site). IsPermutation ss sorted) c.in_ok-sites.ensures (IsPermutation-trans (reverse sites) sites sorted back c.sort_sites.ensures.moved) in
-    let state : LedgerState = state_of locations shares held in
+    let state : LedgerState = ledger_state locations shares held in
     are_sites entries by_slot sorted
     (by_moment c.args.when entries state shares locations refl now (subst (AreEntries c.args.when entries) (sym c.self.view_is) are))
     (sites_by-some (amount_at c.args.when shares) (origins locations) 0) arranged c.sort_sites.ensures.sorted

@@ -1,8 +1,8 @@
 use Rattle.std.proofs.Common.{◌+◌, ◌<◌, ◌^◌, arith, ap, length}
 use Rattle.tlsf_heap.specs.Content.{blocks_of}
 use Rattle.tlsf_heap.proofs.Plain.Pools.{blocks_so_far}
-use Rattle.tlsf_heap.proofs.plain_heap.content.Content.first_of.Goals as goal
-use Rattle.tlsf_heap.proofs.plain_heap.content.Content.first_of.Goals.{After-len}
+use Rattle.tlsf_heap.proofs.plain_heap.content.Content.blocks_in_front.Goals as goal
+use Rattle.tlsf_heap.proofs.plain_heap.content.Content.blocks_in_front.Goals.{After-len}
 
 -- the blocks counted, with those of one pool more
 few : (c : After-len) → c.loop-pool.number + c.len.result < 2 ^ 32

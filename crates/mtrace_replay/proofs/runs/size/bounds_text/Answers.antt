@@ -4,7 +4,7 @@ use Rattle.std.specs.Prelude.{codes}
 use Rattle.tlsf_heap.specs.Sizing.{class_size, sure_pool}
 use Rattle.mtrace_replay.specs.Size.{align_of, blocks_bytes}
 use Rattle.mtrace_replay.specs.Texts.{record_lines, size_line}
-use Rattle.mtrace_replay.proofs.runs.size.size_text.Goals as goal
+use Rattle.mtrace_replay.proofs.runs.size.bounds_text.Goals as goal
 
 pub returns : goal.returns
 returns c =
