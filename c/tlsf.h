@@ -196,7 +196,7 @@ void tlsf_walk_pool(pool_t pool, tlsf_walker walker, void *user);
 
 /* Checks what the heap keeps at its start, its table, and the 8 bytes in front of each live block, of
  * all pools or of one. Answers 0 where all is whole, else less than 0. At the heap's start each byte
- * that is changed is told. tlsf_check_pool doesn't tell the figures of live blocks. */
+ * that is changed is told. */
 int tlsf_check(tlsf_t tlsf);
 int tlsf_check_pool(pool_t pool);
 

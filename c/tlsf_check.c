@@ -101,22 +101,12 @@ int lost_fronts(struct control *control, uint32_t entry, uint64_t began, bool mo
     return lost;
 }
 
-/* Whether the control part and the table are whole, and agree on what is live. */
-static bool is_whole(const struct control *control)
-{
-    const struct live *live = &control->at.live;
-    return control->mark == mark_of(control) && control->most == live->most_bytes
-           && tlsf_placed_check(&control->at, live->blocks, live->bytes);
-}
-
 /* How many live blocks of an entry's pool have lost their front; 1 where the table has no such pool. */
 static int lost_in(struct control *control, uint32_t entry)
 {
     const struct pool *pool = &control->at.pools[entry];
-    if (pool->reach != 0u && !tlsf_placed_has_pool(&control->at, pool->place, pool->reach + FRONT)) {
-        return 1;
-    }
-    return lost_fronts(control, entry, pool->first, false);
+    bool is = pool->reach == 0u || tlsf_placed_has_pool(&control->at, pool->place, pool->reach + FRONT);
+    return is ? lost_fronts(control, entry, pool->first, false) : 1;
 }
 
 /* Of one pool, or of all. The table is read where the control part is whole, and the fronts where the
@@ -124,7 +114,9 @@ static int lost_in(struct control *control, uint32_t entry)
 static int check(struct control *control, uint32_t entry)
 {
     int lost = 0;
-    if (control == NULL || !is_whole(control)) {
+    if (control == NULL || control->mark != mark_of(control)
+        || control->most != control->at.live.most_bytes
+        || !tlsf_placed_check(&control->at, control->at.live.blocks, control->at.live.bytes)) {
         return -1;
     }
     for (uint32_t k = 0; k < POOLS; k++) {

@@ -963,8 +963,7 @@ static void forgotten_pools(void)
 /* The bytes of the control part, without what is in front of the table. */
 static size_t control_part(void) { return tlsf_size_records(0) - 8 - 1696; }
 
-/* Each byte of the control part in turn, with each other value. The check of one pool doesn't tell
- * two numbers of the control part, the live blocks and their bytes. */
+/* Each byte of the control part in turn, with each other value. */
 static void each_byte_of_control(tlsf_t tlsf, const pool_t pools[3])
 {
     size_t told = 0, of_pool[3] = {0}, changes = 255 * control_part();
@@ -978,8 +977,7 @@ static void each_byte_of_control(tlsf_t tlsf, const pool_t pools[3])
         *at ^= change;
     }
     expect(told == changes, "each byte of the control part, changed to each other value, is told");
-    expect(of_pool[0] == changes - 255 * 2 * sizeof(uint64_t) && of_pool[1] == of_pool[0] && of_pool[2] == of_pool[0],
-           "and by the check of a pool, but for two figures");
+    expect(of_pool[0] == changes && of_pool[1] == changes && of_pool[2] == changes, "and by the check of a pool");
 }
 
 /* Pieces of the control part are overwritten, or copied over others. */
@@ -1044,7 +1042,7 @@ static void table_of_before(void)
     one = tlsf_malloc(tlsf, 100);
     expect(one != NULL && tlsf_check(tlsf) == 0, "a block is live");
     memcpy(table, kept, bytes);
-    expect(tlsf_check(tlsf) < 0 && tlsf_check_pool(first) == 0, "one that isn't there is missed");
+    expect(tlsf_check(tlsf) < 0 && tlsf_check_pool(first) < 0, "one that isn't there is missed");
 }
 
 static void spoiled_control(void)
