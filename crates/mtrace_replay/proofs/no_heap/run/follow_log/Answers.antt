@@ -12,7 +12,7 @@ use Rattle.mtrace_replay.proofs.no_heap.run.follow_log.Goals as goal
 
 -- all lines were followed
 done : (g : Over) (c : In-Ok g) → HasServed c.follow_lines.new.replay c.in-Ok.has_diagnostics
-        (g.R.Source.shown c.args.reader.now) (g.R.Source.shown c.follow_lines.new.reader) (g.W.Sink.shown c.args.writer.now) (g.W.Sink.shown c.follow_lines.new.writer)
+    (g.R.Source.shown c.args.reader.now) (g.R.Source.shown c.follow_lines.new.reader) (g.W.Sink.shown c.args.writer.now) (g.W.Sink.shown c.follow_lines.new.writer)
 done g c = has_served _ _ _ _ (IsServed c.follow_lines.new.replay) c.follow_lines.new.replay c.in-Ok.has_diagnostics (λ past stands. stands) (c.in-Ok.ensures.done tt c.new-replay.ensures)
 
 -- the log has ended, and all was written

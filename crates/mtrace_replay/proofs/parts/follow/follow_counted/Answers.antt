@@ -14,7 +14,7 @@ use Rattle.mtrace_replay.proofs.parts.follow.follow_counted.Goals as goal
 
 -- all lines were followed, and their blocks counted
 done : (g : Over) (c : In-Ok g) → HasCounted c.follow_lines.new.replay c.in-Ok.has_diagnostics
-        (g.R.Source.shown c.args.reader.now) (g.R.Source.shown c.follow_lines.new.reader) (g.W.Sink.shown c.args.writer.now) (g.W.Sink.shown c.follow_lines.new.writer)
+    (g.R.Source.shown c.args.reader.now) (g.R.Source.shown c.follow_lines.new.reader) (g.W.Sink.shown c.args.writer.now) (g.W.Sink.shown c.follow_lines.new.writer)
 done g c = has_counted c.follow_lines.new.replay c.in-Ok.has_diagnostics _ _ _ _ (c.in-Ok.ensures.done tt (c.requires.start.stands, c.requires.start.counted))
 
 -- the log has ended, and all was written

@@ -13,7 +13,7 @@ use Rattle.mtrace_replay.proofs.runs.needs.replay_needs.Goals as goal
 
 -- the lines were followed with what they need
 followed : (g : Over) (c : In-Ok-follow_lines g) → HasFollowed (needs_rules.Stands c.args.settings c.follow_lines.new.replay) (added_diagnostics c.args.settings) c.in-Ok-follow_lines.has_diagnostics
-        (g.R.Source.shown c.args.reader.now) (g.R.Source.shown c.follow_lines.new.reader) (g.W.Sink.shown c.args.writer.now) (g.W.Sink.shown c.follow_lines.new.writer)
+    (g.R.Source.shown c.args.reader.now) (g.R.Source.shown c.follow_lines.new.reader) (g.W.Sink.shown c.args.writer.now) (g.W.Sink.shown c.follow_lines.new.writer)
 followed g c = c.in-Ok-follow_lines.ensures.done c.args.settings (c.in-Ok.ensures.made, c.none.ensures c.args.settings)
 
 -- memory was never refused

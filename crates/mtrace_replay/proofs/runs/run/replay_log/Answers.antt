@@ -11,7 +11,7 @@ use Rattle.mtrace_replay.proofs.runs.run.replay_log.Goals as goal
 
 -- all lines were replayed
 done : (g : Over) (c : In-Ok-follow_lines g) → HasReplayed c.args.settings c.follow_lines.new.replay c.in-Ok-follow_lines.has_diagnostics
-        (g.R.Source.shown c.args.reader.now) (g.R.Source.shown c.follow_lines.new.reader) (g.W.Sink.shown c.args.writer.now) (g.W.Sink.shown c.follow_lines.new.writer)
+    (g.R.Source.shown c.args.reader.now) (g.R.Source.shown c.follow_lines.new.reader) (g.W.Sink.shown c.args.writer.now) (g.W.Sink.shown c.follow_lines.new.writer)
 done g c = has_replayed c.args.settings _ _ _ _ _ _ (c.in-Ok-follow_lines.ensures.done c.args.settings c.in-Ok.ensures.made)
 
 -- the log has ended, and all was written
