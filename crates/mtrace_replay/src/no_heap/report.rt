@@ -6,7 +6,7 @@ ghost use Rattle.arrayvec.specs.ArrayVec.{array_vec_len};
 ghost use Rattle.mtrace_log.specs.Address.{address_text};
 ghost use Rattle.mtrace_log.specs.Output.{Puts};
 ghost use Rattle.mtrace_replay.specs.Appends.{Appends};
-ghost use Rattle.mtrace_replay.specs.Texts.{at_text, entry_text, leaks_report, ledger_peak_report, callers_text};
+ghost use Rattle.mtrace_replay.specs.Texts.{entry_text, leaks_report, ledger_peak_report, callers_text};
 ghost use Rattle.mtrace_replay.specs.Prepared.{HasNamed, held_text, prepared_text};
 
 use super::ledger::{Ledger, Seen};
