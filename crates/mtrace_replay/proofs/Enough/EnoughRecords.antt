@@ -16,7 +16,7 @@ use Rattle.mtrace_replay.specs.declared.held.diagnostic.Kind.TheVariants.{Refuse
 use Rattle.mtrace_replay.specs.declared.heap.settings.Settings.{Settings}
 use Rattle.mtrace_replay.specs.Started.{Bare, left_by, with_pools, started}
 use Rattle.mtrace_replay.specs.History.{AreHeld, held, held_after, given_or, unless_taken, moments, pending, content_after}
-use Rattle.mtrace_replay.specs.Moment.{ReadLine, Given, Moment, asked_size, moment, Act, idle, give, take, move, done}
+use Rattle.mtrace_replay.specs.Moment.{ReadLine, Given, Moment, asked_size, moment, Act, idle, give, take, move}
 use Rattle.mtrace_replay.specs.Totals.{first_moments}
 use Rattle.mtrace_replay.specs.Enough.{HoldsAtMost, IsNeverRefused, IsNeverFull, act_of}
 use Rattle.mtrace_replay.proofs.History.Moments.{moments-none, moments-line}

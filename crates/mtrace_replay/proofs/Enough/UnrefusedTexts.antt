@@ -1,6 +1,5 @@
 -- A log of which a heap refuses no line has one text, with that heap and without.
 use Rattle.std.proofs.Common.{◌≡◌, ℕ, suc, ◌-◌, List, [], ◌∷◌, ◌++◌, length, map, take, drop, reverse, refl, sym, ap, ap₂, ◌∙◌, subst, Some}
-use Rattle.std.specs.Prelude.{count_by}
 use Rattle.std.proofs.lemmas.List.{reverse-append, take-append-drop, append-nil, length-map, length-drop, length-reverse}
 use Rattle.mtrace_log.specs.HasRead.{HasReadAll}
 use Rattle.mtrace_log.specs.Shown.{Bytes}

@@ -48,7 +48,7 @@ all-put P e (f ∷ fs) its all = by_order (all-put P e fs its all.1) (nat_lt f.e
     by_order later true = (all.0, later)
 
 -- what is above an address is above a lower one
-all_above : (low high : ℕ) → low < high → (all : List ℕ) → AllByRecursion (λ (a : ℕ). nat_cmp high a ≡ Less) all → AllByRecursion (λ (a : ℕ). nat_cmp low a ≡ Less) all
+pub all_above : (low high : ℕ) → low < high → (all : List ℕ) → AllByRecursion (λ (a : ℕ). nat_cmp high a ≡ Less) all → AllByRecursion (λ (a : ℕ). nat_cmp low a ≡ Less) all
 all_above low high less [] above = tt
 all_above low high less (a ∷ rest) above = (by_first above.0, all_above low high less rest above.1)
   where

@@ -13,7 +13,7 @@ use Rattle.mtrace_replay.specs.declared.heap.key.Key.{Key}
 use Rattle.mtrace_replay.specs.Keys.{Rows, row_at, HasRow, KeepsRows, SetsRow}
 use Rattle.mtrace_replay.specs.Key.{no_row, held_under, holding_of, all_held, IsRow, HaveRows, least_behind, RiseFrom, AreAbove}
 use Rattle.mtrace_replay.specs.Search.{FitsAt}
-use Rattle.mtrace_replay.specs.Index.{addresses, held_at, IsNewSlot}
+use Rattle.mtrace_replay.specs.Index.{held_at, IsNewSlot}
 use Rattle.mtrace_replay.proofs.Index.KeyLemmas.{above_all}
 use Rattle.mtrace_replay.proofs.Index.HoldingLemmas.{all_above}
 

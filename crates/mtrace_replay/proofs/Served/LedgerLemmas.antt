@@ -20,6 +20,7 @@ use Rattle.mtrace_replay.specs.Texts.{total_size}
 use Rattle.mtrace_replay.specs.declared.no_heap.ledger.Kept.{Kept}
 use Rattle.mtrace_replay.specs.Locations.{Extends, location_of}
 use Rattle.mtrace_replay.specs.Ledger.{entry_of, put_in_order, in_order, held_at, IsKept, IsLedger}
+use Rattle.mtrace_replay.proofs.History.HeldCounts.{all_above}
 
 -- a look-up after one more entry was put in order
 held_at-put : (e : Entry) (es : List Entry) (a : ℕ) → held_at (put_in_order e es) a ≡ cond (e.addr == a) (Some e) (held_at es a)
@@ -224,14 +225,6 @@ all-put P e (f ∷ fs) its all = by_order (all-put P e fs its all.1) (nat_lt f.a
     by_order : AllByRecursion P (addresses_of (put_in_order e fs)) → (b : Bool) → AllByRecursion P (addresses_of (cond b (f ∷ put_in_order e fs) (e ∷ (f ∷ fs))))
     by_order later false = (its, all)
     by_order later true = (all.0, later)
-
--- what is above an address is above a lower one
-all_above : (low high : ℕ) → low < high → (all : List ℕ) → AllByRecursion (λ (a : ℕ). nat_cmp high a ≡ Less) all → AllByRecursion (λ (a : ℕ). nat_cmp low a ≡ Less) all
-all_above low high less [] above = tt
-all_above low high less (a ∷ rest) above = (by_first above.0, all_above low high less rest above.1)
-  where
-    by_first : nat_cmp high a ≡ Less → nat_cmp low a ≡ Less
-    by_first first = grind (arith, nat_tests)
 
 sorted-put : (e : Entry) (es : List Entry) → IsStrictlySortedBy nat_cmp (addresses_of es) → AllByRecursion (λ (a : ℕ). nat_eq e.addr a ≡ false) (addresses_of es)
     → IsStrictlySortedBy nat_cmp (addresses_of (put_in_order e es))

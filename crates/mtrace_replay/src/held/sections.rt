@@ -7,7 +7,7 @@ ghost use Rattle.mtrace_replay.specs.Texts.{site_text, section, both_sections, c
 use crate::held::amount::Amount;
 use crate::held::caller::Caller;
 use crate::held::line_text::{LineText, peak_words, push_bytes, push_number, section_text};
-use crate::held::location_text::put_location;
+use crate::held::location_text::put_line_at;
 use crate::held::site::Site;
 use crate::no_heap::count::Count;
 use arrayvec::ArrayVec;
@@ -29,9 +29,8 @@ fn site_front(blocks: u64, bytes: u128) -> LineText
 fn put_site<W: Sink>(writer: &mut W, site: &Site<'_>) -> Result<(), Failed>
     ensures { Puts result (site_text site.now) (W.shown writer.old) (W.shown writer.new) }
 {
-    put_all(writer, site_front(site.blocks, site.bytes).as_slice())?;
-    put_location(writer, site.at)?;
-    put_all(writer, b"\n")
+    let front = site_front(site.blocks, site.bytes);
+    put_line_at(writer, front.as_slice(), site.at)
 }
 
 /// Puts a line for each site.
@@ -97,9 +96,7 @@ fn put_caller<W: Sink>(writer: &mut W, caller: &Caller<'_>) -> Result<(), Failed
     ensures { Puts result (caller_text caller.now) (W.shown writer.old) (W.shown writer.new) }
 {
     let front = caller_front(caller.calls, caller.bytes, caller.temporary);
-    put_all(writer, front.as_slice())?;
-    put_location(writer, caller.at)?;
-    put_all(writer, b"\n")
+    put_line_at(writer, front.as_slice(), caller.at)
 }
 
 /// Puts a line for each caller.

@@ -6,7 +6,7 @@ ghost use Rattle.arrayvec.specs.ArrayVec.{array_vec_len};
 ghost use Rattle.mtrace_log.specs.Address.{address_text};
 ghost use Rattle.mtrace_log.specs.Output.{Puts};
 ghost use Rattle.mtrace_replay.specs.Appends.{Appends};
-ghost use Rattle.mtrace_replay.specs.Texts.{at_text, entry_text, leaks_report, ledger_peak_report, callers_text};
+ghost use Rattle.mtrace_replay.specs.Texts.{entry_text, leaks_report, ledger_peak_report, callers_text};
 ghost use Rattle.mtrace_replay.specs.Prepared.{HasNamed, held_text, prepared_text};
 
 use super::ledger::{Ledger, Seen};
@@ -17,7 +17,7 @@ use crate::held::line_text::{
     LineText, push_address, push_bytes, push_number, push_number_line, push_wide_pair_line,
     wide_total_text,
 };
-use crate::held::location_text::put_location;
+use crate::held::location_text::put_line_at;
 use crate::held::sections::{put_both, put_callers};
 use crate::held::site::Site;
 use arrayvec::ArrayVec;
@@ -66,12 +66,8 @@ fn entry_front(address: u64, size: u64, line: u64) -> LineText
 fn put_entry<W: Sink>(writer: &mut W, address: u64, seen: &Seen<'_>) -> Result<(), Failed>
     ensures { Puts result (entry_text (record { addr = address; size = seen.now.size; line = seen.now.line; at = option_copied seen.now.at })) (W.shown writer.old) (W.shown writer.new) }
 {
-    put_all(
-        writer,
-        entry_front(address, seen.size, seen.line).as_slice(),
-    )?;
-    put_location(writer, seen.at)?;
-    put_all(writer, b"\n")
+    let front = entry_front(address, seen.size, seen.line);
+    put_line_at(writer, front.as_slice(), seen.at)
 }
 
 /// Puts a line for each address that is held, in order of address.

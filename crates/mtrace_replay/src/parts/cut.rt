@@ -1,6 +1,6 @@
 //! How neighbouring ranges are joined into parts: the way of the least bytes.
 
-ghost use Rattle.std.specs.Prelude.{◌≡◌, ℕ, suc, ◌+◌, ◌*◌, ◌^◌, ◌<◌, ◌≤◌, [], ◌∷◌, length, slice_index_or, true, false, Some, None, IfOk};
+ghost use Rattle.std.specs.Prelude.{◌≡◌, ℕ, suc, ◌+◌, ◌*◌, ◌^◌, ◌<◌, ◌≤◌, [], length, slice_index_or, true, false, Some, None, IfOk};
 ghost use Rattle.std.specs.List.{All};
 ghost use Rattle.mtrace_replay.specs.declared.parts.span.Span.{Span};
 ghost use Rattle.mtrace_replay.specs.Parts.{size_ranges, Part, IsLeastCut};

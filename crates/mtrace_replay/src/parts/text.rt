@@ -1,12 +1,12 @@
 //! The text of the heaps by size that serve a log.
 
-ghost use Rattle.std.specs.Prelude.{◌≡◌, ℕ, ◌++◌, ◌∷◌, ◌≤◌, List, length, map, flat_map, codes, decimal};
+ghost use Rattle.std.specs.Prelude.{◌≡◌, ◌++◌, ◌≤◌, length, map, flat_map, codes};
 ghost use Rattle.arrayvec.specs.ArrayVec.{array_vec_len};
 ghost use Rattle.mtrace_log.specs.Output.{Puts};
 ghost use Rattle.mtrace_replay.specs.Appends.{Appends};
 ghost use Rattle.mtrace_replay.specs.declared.parts.text.PartOf.{PartOf};
 ghost use Rattle.mtrace_replay.specs.Texts.{number_line, size_line};
-ghost use Rattle.mtrace_replay.specs.Parts.{Part, pool_bytes, records_bytes, sum_over, part_line, parts_text, no_parts_text, peak_line_text};
+ghost use Rattle.mtrace_replay.specs.Parts.{pool_bytes, records_bytes, sum_over, part_line, parts_text, no_parts_text, peak_line_text};
 ghost use Rattle.mtrace_replay.specs.PartsText.{part_in};
 
 use crate::held::line_text::{

@@ -107,34 +107,23 @@ fn writer_fails_at_each_byte(rt: HostRuntime) {
 #[test]
 fn flush_fails_behind_the_text(rt: HostRuntime) {
     for (report, text) in TEXTS {
-        let reader = MemorySource::in_pieces(HALF, WHOLE);
-        let writer = MemorySink::with_room(
-            rt.alloc(),
-            WHOLE,
-            text.len(),
-            Full::Fails,
-        ).failing_flush();
-        expect_one(
-            &rt,
-            rt.alloc(),
-            (report, text.len()),
-            reader,
-            writer,
-            Err(RunFault::Write),
-            text,
-        );
-
-        let reader = MemorySource::in_pieces(HALF, WHOLE);
-        let writer = MemorySink::with_room(rt.alloc(), WHOLE, text.len(), Full::Fails);
-        expect_one(
-            &rt,
-            rt.alloc(),
-            (report, text.len()),
-            reader,
-            writer,
-            Ok(Status::Found),
-            text,
-        );
+        for wanted in [Err(RunFault::Write), Ok(Status::Found)] {
+            let reader = MemorySource::in_pieces(HALF, WHOLE);
+            let room = MemorySink::with_room(rt.alloc(), WHOLE, text.len(), Full::Fails);
+            let writer = match wanted {
+                Ok(_) => room,
+                Err(_) => room.failing_flush(),
+            };
+            expect_one(
+                &rt,
+                rt.alloc(),
+                (report, text.len()),
+                reader,
+                writer,
+                wanted,
+                text,
+            );
+        }
     }
 }
 

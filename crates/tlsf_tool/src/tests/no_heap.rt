@@ -1,8 +1,9 @@
 //! Logs that are followed without a heap, each with its text, its status and its line on standard error. They come in one
 //! piece, and in pieces of one byte and of seven.
 
+use super::plan::expect_usage;
 use super::program::strings;
-use crate::asked::{Command, ToolFault};
+use crate::asked::Command;
 use crate::service::serve_ledger;
 use crate::tests::{expect_eq, expect_eq_at};
 use crate::words::command;
@@ -235,37 +236,25 @@ fn words_without_a_heap(rt: HostRuntime) -> Result<(), Fail> {
 
 #[test]
 fn settings_beside_no_heap(rt: HostRuntime) -> Result<(), Fail> {
-    let alloc = rt.alloc();
-    for words in [
-        ["tlsf", "leaks", "--no-heap", "--pool=4096", "a.log"],
-        ["tlsf", "peak", "--pools=2", "--no-heap", "a.log"],
-        ["tlsf", "leaks", "--no-heap", "--records=8191", "a.log"],
-        ["tlsf", "peak", "--no-heap", "--no-heap", "a.log"],
-        ["tlsf", "walk", "--no-heap", "--", "a.log"],
-        ["tlsf", "sites", "--no-heap", "--", "a.log"],
-    ] {
-        let words = strings(alloc, &words)?;
-        let Err(ToolFault::Usage(_)) = command(alloc, words.as_slice()) else {
-            panic!(rt; "taken");
-        };
-    }
-    Ok(())
+    let rows: [&[&str]; 6] = [
+        &["tlsf", "leaks", "--no-heap", "--pool=4096", "a.log"],
+        &["tlsf", "peak", "--pools=2", "--no-heap", "a.log"],
+        &["tlsf", "leaks", "--no-heap", "--records=8191", "a.log"],
+        &["tlsf", "peak", "--no-heap", "--no-heap", "a.log"],
+        &["tlsf", "walk", "--no-heap", "--", "a.log"],
+        &["tlsf", "sites", "--no-heap", "--", "a.log"],
+    ];
+    expect_usage(&rt, rt.alloc(), &rows)
 }
 
 #[test]
 fn settings_beside_calls(rt: HostRuntime) -> Result<(), Fail> {
-    let alloc = rt.alloc();
-    for words in [
-        ["tlsf", "sites", "--calls", "--pool=4096", "a.log"],
-        ["tlsf", "sites", "--pools=1", "--calls", "a.log"],
-        ["tlsf", "sites", "--records=9", "--calls", "a.log"],
-        ["tlsf", "sites", "--calls", "--calls", "a.log"],
-        ["tlsf", "leaks", "--calls", "--", "a.log"],
-    ] {
-        let words = strings(alloc, &words)?;
-        let Err(ToolFault::Usage(_)) = command(alloc, words.as_slice()) else {
-            panic!(rt; "taken");
-        };
-    }
-    Ok(())
+    let rows: [&[&str]; 5] = [
+        &["tlsf", "sites", "--calls", "--pool=4096", "a.log"],
+        &["tlsf", "sites", "--pools=1", "--calls", "a.log"],
+        &["tlsf", "sites", "--records=9", "--calls", "a.log"],
+        &["tlsf", "sites", "--calls", "--calls", "a.log"],
+        &["tlsf", "leaks", "--calls", "--", "a.log"],
+    ];
+    expect_usage(&rt, rt.alloc(), &rows)
 }

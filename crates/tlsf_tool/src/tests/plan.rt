@@ -6,9 +6,10 @@ use crate::plan::{Plan, Streams, is_standard, planned};
 use crate::tests::expect_eq_at;
 use mtrace_replay::Settings;
 use std::alloc::Global;
+use std::process::Abort;
 use std::test::Fail;
 
-const TYPED: Streams = Streams {
+pub(super) const TYPED: Streams = Streams {
     typed: true,
     again: false,
     shown: true,
@@ -31,6 +32,16 @@ const BARE: Streams = Streams {
     again: false,
     shown: false,
 };
+
+/// Expects that each of these is refused as wrong words.
+pub(super) fn expect_usage(rt: &impl Abort, alloc: Global, rows: &[&[&str]]) -> Result<(), Fail> {
+    for words in rows {
+        let answer = planned(alloc, strings(alloc, words)?.as_slice(), TYPED);
+        let is_usage = matches!(&answer, Err(ToolFault::Usage(_)));
+        expect_eq_at(rt, words, is_usage, true);
+    }
+    Ok(())
+}
 
 /// Words of `peak` and of `save`, with the name of their log, whether it is standard input, and whether it is told how far
 /// the run is where that is typed. It is told where it is piped.

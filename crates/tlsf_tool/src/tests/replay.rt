@@ -57,26 +57,18 @@ impl<H: Heaped> Fed<H> {
     }
 }
 
-/// What is expected to be held at an address.
+/// What is expected to be held: an address, the size, the number of the line and the location.
 #[derive(Clone, Copy)]
-struct Held {
-    addr: u64,
-    size: u64,
-    line: u64,
-    at: Option<&'static str>,
-}
+struct Held(u64, u64, u64, Option<&'static str>);
 
 impl Held {
     fn is(&self, entry: &Entry) -> bool {
-        let is_there = match (&entry.at, self.at) {
+        let is_there = match (&entry.at, self.3) {
             (Some(location), Some(text)) => location.bytes() == text.as_bytes(),
             (None, None) => true,
             _ => false,
         };
-        entry.addr.value() == self.addr
-            && entry.size == self.size
-            && entry.line == self.line
-            && is_there
+        entry.addr.value() == self.0 && entry.size == self.1 && entry.line == self.2 && is_there
     }
 }
 

@@ -1,8 +1,9 @@
 //! How large a pool is always enough, without a log.
 
+use super::plan::{TYPED, expect_usage};
 use super::program::strings;
-use crate::asked::{Command, ToolFault};
-use crate::plan::{Plan, Streams, planned};
+use crate::asked::Command;
+use crate::plan::{Plan, planned};
 use crate::service::serve_size;
 use crate::tests::expect_eq_at;
 use mtrace_log::memory::{Full, MemorySink};
@@ -252,11 +253,6 @@ const WORDS: [(&[&str], Bounds); 4] = [
 #[test]
 fn words_of_size(rt: HostRuntime) -> Result<(), Fail> {
     let alloc = rt.alloc();
-    let streams = Streams {
-        typed: true,
-        again: false,
-        shown: true,
-    };
     for (words, bounds) in WORDS {
         let wanted = Plan {
             command: Command::Size { bounds },
@@ -265,7 +261,7 @@ fn words_of_size(rt: HostRuntime) -> Result<(), Fail> {
         expect_eq_at(
             &rt,
             words,
-            planned(alloc, strings(alloc, words)?.as_slice(), streams)?,
+            planned(alloc, strings(alloc, words)?.as_slice(), TYPED)?,
             wanted,
         );
     }
@@ -294,20 +290,5 @@ const WRONG: [&[&str]; 8] = [
 
 #[test]
 fn words_that_tell_no_bounds(rt: HostRuntime) -> Result<(), Fail> {
-    let alloc = rt.alloc();
-    let streams = Streams {
-        typed: true,
-        again: false,
-        shown: true,
-    };
-    for words in WRONG {
-        let answer = planned(alloc, strings(alloc, words)?.as_slice(), streams);
-        expect_eq_at(
-            &rt,
-            words,
-            matches!(&answer, Err(ToolFault::Usage(_))),
-            true,
-        );
-    }
-    Ok(())
+    expect_usage(&rt, rt.alloc(), &WRONG)
 }

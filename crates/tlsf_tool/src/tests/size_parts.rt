@@ -1,19 +1,14 @@
 //! How large a pool is always enough for heaps by size, without a log.
 
+use super::plan::{TYPED, expect_usage};
 use super::program::strings;
-use crate::asked::{Command, ToolFault};
-use crate::plan::{Streams, planned};
+use crate::asked::Command;
+use crate::plan::planned;
 use crate::service::serve_size_parts;
 use crate::tests::expect_eq_at;
 use mtrace_log::memory::{Full, MemorySink};
 use mtrace_replay::PartBounds;
 use std::test::Fail;
-
-const STREAMS: Streams = Streams {
-    typed: true,
-    again: false,
-    shown: true,
-};
 
 /// Heaps by size, with the text that tells what is enough for them.
 const ROWS: [(&[PartBounds], &[u8]); 4] = [
@@ -159,7 +154,7 @@ const WORDS: [(&[&str], &[PartBounds]); 3] = [
 fn words_of_size_parts(rt: HostRuntime) -> Result<(), Fail> {
     let alloc = rt.alloc();
     for (words, wanted) in WORDS {
-        let plan = planned(alloc, strings(alloc, words)?.as_slice(), STREAMS)?;
+        let plan = planned(alloc, strings(alloc, words)?.as_slice(), TYPED)?;
         let is_wanted = match &plan.command {
             Command::SizeParts { parts } => parts.as_slice() == wanted,
             _ => false,
@@ -191,15 +186,5 @@ const WRONG: [&[&str]; 13] = [
 
 #[test]
 fn words_that_tell_no_parts(rt: HostRuntime) -> Result<(), Fail> {
-    let alloc = rt.alloc();
-    for words in WRONG {
-        let answer = planned(alloc, strings(alloc, words)?.as_slice(), STREAMS);
-        expect_eq_at(
-            &rt,
-            words,
-            matches!(&answer, Err(ToolFault::Usage(_))),
-            true,
-        );
-    }
-    Ok(())
+    expect_usage(&rt, rt.alloc(), &WRONG)
 }

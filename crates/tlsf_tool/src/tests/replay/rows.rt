@@ -114,24 +114,14 @@ const ROWS: [Row; 16] = [
             (3, 3, Wrong::NotHeld(0x2000)),
             (END, 4, Wrong::Half),
         ],
-        held: &[Held {
-            addr: 0x1000,
-            size: 0,
-            line: 2,
-            at: None,
-        }],
+        held: &[Held(0x1000, 0, 2, None)],
     },
     Row {
         name: "a pair",
         settings: SMALL,
         lines: &["@ a + 0x10 0x64", "@ b < 0x10", "@ b > 0x30 0xc8"],
         told: &[],
-        held: &[Held {
-            addr: 0x30,
-            size: 200,
-            line: 3,
-            at: Some("b"),
-        }],
+        held: &[Held(0x30, 200, 3, Some("b"))],
     },
     Row {
         name: "one record",
@@ -162,24 +152,14 @@ const ROWS: [Row; 16] = [
         settings: FOUR_RECORDS,
         lines: &["+ 0x10 0x8", "< 0x10", "< 0x10", "> 0x10 0x10"],
         told: &[(3, 2, Wrong::Half)],
-        held: &[Held {
-            addr: 0x10,
-            size: 16,
-            line: 4,
-            at: None,
-        }],
+        held: &[Held(0x10, 16, 4, None)],
     },
     Row {
         name: "a pair's end alone",
         settings: SMALL,
         lines: &["> 0x20 0x8", "< 0x10", "> 0x20 0x8"],
         told: &[(1, 1, Wrong::Stray), (3, 3, Wrong::NotHeld(0x10))],
-        held: &[Held {
-            addr: 0x20,
-            size: 8,
-            line: 3,
-            at: None,
-        }],
+        held: &[Held(0x20, 8, 3, None)],
     },
     Row {
         name: "a line between the halves",
@@ -196,32 +176,14 @@ const ROWS: [Row; 16] = [
             (3, 3, Wrong::NotHeld(0x10)),
             (3, 3, Wrong::AlreadyHeld(0x20)),
         ],
-        held: &[Held {
-            addr: 0x20,
-            size: 8,
-            line: 1,
-            at: None,
-        }],
+        held: &[Held(0x20, 8, 1, None)],
     },
     Row {
         name: "both addresses held",
         settings: SMALL,
         lines: &["+ 0x10 0x8", "+ 0x20 0x8", "< 0x10", "> 0x20 0x10"],
         told: &[(4, 4, Wrong::AlreadyHeld(0x20))],
-        held: &[
-            Held {
-                addr: 0x10,
-                size: 8,
-                line: 1,
-                at: None,
-            },
-            Held {
-                addr: 0x20,
-                size: 8,
-                line: 2,
-                at: None,
-            },
-        ],
+        held: &[Held(0x10, 8, 1, None), Held(0x20, 8, 2, None)],
     },
     Row {
         name: "lines without effect",
@@ -236,24 +198,9 @@ const ROWS: [Row; 16] = [
         lines: &["+ 0x10 0x8", "@ a * 0x20 0x40 0x20", "* 0x30 0x1 0"],
         told: &[],
         held: &[
-            Held {
-                addr: 0x10,
-                size: 8,
-                line: 1,
-                at: None,
-            },
-            Held {
-                addr: 0x20,
-                size: 32,
-                line: 2,
-                at: Some("a"),
-            },
-            Held {
-                addr: 0x30,
-                size: 0,
-                line: 3,
-                at: None,
-            },
+            Held(0x10, 8, 1, None),
+            Held(0x20, 32, 2, Some("a")),
+            Held(0x30, 0, 3, None),
         ],
     },
     Row {
@@ -272,12 +219,7 @@ const ROWS: [Row; 16] = [
             (3, 3, Wrong::Refused(0x10, Refusal::BadAlign)),
             (4, 4, Wrong::Refused(0x10, Refusal::NoFit)),
         ],
-        held: &[Held {
-            addr: 0x10,
-            size: 0,
-            line: 5,
-            at: None,
-        }],
+        held: &[Held(0x10, 0, 5, None)],
     },
     Row {
         name: "the greatest alignment, and the next one",
@@ -291,12 +233,7 @@ const ROWS: [Row; 16] = [
             (2, 2, Wrong::Refused(0x20, Refusal::NoFit)),
             (3, 3, Wrong::Refused(0x30, Refusal::BadAlign)),
         ],
-        held: &[Held {
-            addr: 0x10,
-            size: 8,
-            line: 1,
-            at: None,
-        }],
+        held: &[Held(0x10, 8, 1, None)],
     },
     Row {
         name: "aligned blocks behind halves, and for an address that is held",
@@ -315,20 +252,7 @@ const ROWS: [Row; 16] = [
             (5, 5, Wrong::AlreadyHeld(0x10)),
             (6, 6, Wrong::Stray),
         ],
-        held: &[
-            Held {
-                addr: 0x10,
-                size: 8,
-                line: 1,
-                at: None,
-            },
-            Held {
-                addr: 0x20,
-                size: 8,
-                line: 3,
-                at: None,
-            },
-        ],
+        held: &[Held(0x10, 8, 1, None), Held(0x20, 8, 3, None)],
     },
     Row {
         name: "an aligned block that moves, and one that is freed",
@@ -341,12 +265,7 @@ const ROWS: [Row; 16] = [
             "- 0x20",
         ],
         told: &[],
-        held: &[Held {
-            addr: 0x30,
-            size: 64,
-            line: 4,
-            at: None,
-        }],
+        held: &[Held(0x30, 64, 4, None)],
     },
     Row {
         name: "in order of address",
@@ -354,24 +273,9 @@ const ROWS: [Row; 16] = [
         lines: &["+ 0x30 0x1", "@ b + 0x10 0x2", "+ 0x20 0x3"],
         told: &[],
         held: &[
-            Held {
-                addr: 0x10,
-                size: 2,
-                line: 2,
-                at: Some("b"),
-            },
-            Held {
-                addr: 0x20,
-                size: 3,
-                line: 3,
-                at: None,
-            },
-            Held {
-                addr: 0x30,
-                size: 1,
-                line: 1,
-                at: None,
-            },
+            Held(0x10, 2, 2, Some("b")),
+            Held(0x20, 3, 3, None),
+            Held(0x30, 1, 1, None),
         ],
     },
 ];

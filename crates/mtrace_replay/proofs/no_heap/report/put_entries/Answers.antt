@@ -1,14 +1,13 @@
-use Rattle.std.proofs.Common.{◌≡◌, ℕ, ◌+◌, ◌<◌, suc, List, ◌∷◌, ◌++◌, length, map, drop, get_or, flat_map, Some, None, ap, ◌∙◌, subst, arith, drop-cons}
+use Rattle.std.proofs.Common.{◌≡◌, ℕ, ◌<◌, List, length, map, get_or, Some, None, refl, ap, ◌∙◌, arith}
 use Rattle.std.specs.List.Sorted.{IsStrictlyIncreasing}
-use Rattle.std.proofs.lemmas.List.{get_or-map, length-map}
+use Rattle.std.proofs.lemmas.List.{get_or-map, get_or_default, length-map}
 use Rattle.std.proofs.lemmas.List.Elements.{Contains-get_or}
 use Rattle.std.proofs.lemmas.Map.Keys.{sorted_from_strictly_increasing}
-use Rattle.mtrace_log.specs.Output.{PutsAll, PutsPart}
-use Rattle.mtrace_log.proofs.Writing.{putting_more, putting_fails, puts_exit}
 use Rattle.mtrace_replay.specs.Entry.{Entry}
 use Rattle.mtrace_replay.specs.Texts.{entry_text}
 use Rattle.mtrace_replay.specs.Ledger.{held_at}
 use Rattle.mtrace_replay.proofs.History.SortedLemmas.{is_found}
+use Rattle.mtrace_replay.proofs.Told.TextLemmas.{text_more, text_fails}
 use Rattle.mtrace_replay.proofs.no_heap.report.put_entries.Goals as goal
 
 -- the entry of a number
@@ -30,12 +29,6 @@ module _ (all : List Entry) (addresses : List ℕ) (index : ℕ) (same : address
       ∙ is_found (λ entry. entry.addr) all (numbered all index) (sorted_from_strictly_increasing (map (λ entry. entry.addr) all) rises)
       (Contains-get_or all index (record { addr = 0; size = 0; line = 0; at = None }) within)
 
-  -- its text stands in front of those of the rest
-  text_next : flat_map entry_text (drop index all) ≡ entry_text (numbered all index) ++ flat_map entry_text (drop (index + 1) all)
-  text_next =
-      let next : suc index ≡ index + 1 = omega arith in
-      ap (flat_map entry_text) (drop-cons all index (record { addr = 0; size = 0; line = 0; at = None }) within ∙ ap (λ n. numbered all index ∷ drop n all) next)
-
 pub unreachable-requires : goal.unreachable-requires
 unreachable-requires g c =
     let there = entry_at c.args.ledger.now.all c.args.addresses.now c.loop-address.address-index c.requires c.loop-address-test.true c.keeps_order.ensures in
@@ -44,24 +37,18 @@ unreachable-requires g c =
 
 pub loop-address-preserved : goal.loop-address-preserved
 loop-address-preserved g c =
-    let writes = g.W.Sink.shown in
     let all = c.args.ledger.now.all in
     let index = c.loop-address.address-index in
-    let seen = c.in-Some.seen in
+    let inside = within all c.args.addresses.now index c.requires c.loop-address-test.true in
     let there = entry_at all c.args.addresses.now index c.requires c.loop-address-test.true c.keeps_order.ensures in
-    let same = from_some _ (numbered all index) (c.in-Some.ensures ∙ there) in
-    putting_more (writes c.args.writer.now) (writes c.loop-address.writer) (writes c.put_entry.new.writer) (flat_map entry_text all) (flat_map entry_text (drop index all)) (entry_text (numbered all index)) (flat_map entry_text (drop (index + 1) all))
-    c.loop-address.invariant (text_next all c.args.addresses.now index c.requires c.loop-address-test.true)
-    (subst (λ (entry : Entry). PutsAll (entry_text entry) (writes c.loop-address.writer) (writes c.put_entry.new.writer)) same c.in_ok-put_entry.ensures)
+    text_more entry_text all all index (numbered all index) refl inside (get_or_default all index _ _ inside) _ _ _
+    c.loop-address.invariant _ (ap entry_text (from_some _ (numbered all index) (c.in-Some.ensures ∙ there))) c.in_ok-put_entry.ensures
 
 pub returns-in_err-put_entry : goal.returns-in_err-put_entry
 returns-in_err-put_entry g c =
-    let writes = g.W.Sink.shown in
     let all = c.args.ledger.now.all in
     let index = c.loop-address.address-index in
+    let inside = within all c.args.addresses.now index c.requires c.loop-address-test.true in
     let there = entry_at all c.args.addresses.now index c.requires c.loop-address-test.true c.keeps_order.ensures in
-    let same = from_some _ (numbered all index) (c.in-Some.ensures ∙ there) in
-    puts_exit c.from_residual.result _ c.from_residual.ensures.1 (flat_map entry_text all) (writes c.args.writer.now) (writes c.put_entry.new.writer)
-    (putting_fails (writes c.args.writer.now) (writes c.loop-address.writer) (writes c.put_entry.new.writer) (flat_map entry_text all) (flat_map entry_text (drop index all)) (entry_text (numbered all index)) (flat_map entry_text (drop (index + 1) all))
-    c.loop-address.invariant (text_next all c.args.addresses.now index c.requires c.loop-address-test.true)
-    (subst (λ (entry : Entry). PutsPart (entry_text entry) (writes c.loop-address.writer) (writes c.put_entry.new.writer)) same c.in_err-put_entry.ensures))
+    text_fails entry_text all all index (numbered all index) refl inside (get_or_default all index _ _ inside) _ _ _
+    c.loop-address.invariant _ (ap entry_text (from_some _ (numbered all index) (c.in-Some.ensures ∙ there))) c.from_residual.result _ c.from_residual.ensures.1 c.in_err-put_entry.ensures

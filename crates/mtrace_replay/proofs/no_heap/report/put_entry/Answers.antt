@@ -1,51 +1,11 @@
-use Rattle.std.proofs.Common.{ℕ, List, ◌++◌, ◌∷◌, [], decimal, codes, ◌∙◌, subst}
+use Rattle.std.proofs.Common.{ℕ, List, ◌++◌, ◌∷◌, [], ◌∙◌, subst}
 use Rattle.std.specs.Option.{option_copied}
-use Rattle.mtrace_log.specs.Address.{address_text}
 use Rattle.mtrace_log.specs.Bytes.{newline}
-use Rattle.mtrace_log.specs.Output.{PutsAll, PutsPart}
-use Rattle.mtrace_log.proofs.Writing.{puts_on, puts_then, fails_on, fails_early, puts_exit}
+use Rattle.mtrace_log.specs.Output.{Puts}
 use Rattle.mtrace_replay.specs.Texts.{at_text}
 use Rattle.mtrace_replay.proofs.no_heap.report.put_entry.Goals as goal
 
--- the line up to the location
-front : (address size line : ℕ) → List ℕ
-front address size line = address_text address ++ codes " " ++ decimal size ++ codes " line " ++ decimal line
-
-pub returns-in_err-put_all : goal.returns-in_err-put_all
-unfolding front
-returns-in_err-put_all g c =
-    let old = g.W.Sink.shown c.args.writer.now in
-    let new = g.W.Sink.shown c.put_all.new.writer in
-    let seen = c.args.seen.now in
-    let head = front c.args.address seen.size seen.line in
-    let at = at_text (option_copied seen.at) in
-    puts_exit c.from_residual.result _ c.from_residual.ensures.1 (head ++ at ++ newline ∷ []) old new
-    (fails_early old new (head ++ at) (newline ∷ []) (fails_early old new head at
-    (subst (λ (text : List ℕ). PutsPart text old new) (c.as_slice.ensures.value ∙ c.entry_front.ensures) c.in_err-put_all.ensures)))
-
-pub returns-in_err-put_location : goal.returns-in_err-put_location
-unfolding front
-returns-in_err-put_location g c =
-    let old = g.W.Sink.shown c.args.writer.now in
-    let middle = g.W.Sink.shown c.put_all.new.writer in
-    let new = g.W.Sink.shown c.put_location.new.writer in
-    let seen = c.args.seen.now in
-    let head = front c.args.address seen.size seen.line in
-    let at = at_text (option_copied seen.at) in
-    puts_exit c.from_residual-in_err-put_location.result _ c.from_residual-in_err-put_location.ensures.1 (head ++ at ++ newline ∷ []) old new
-    (fails_early old new (head ++ at) (newline ∷ []) (fails_on old middle new head at
-    (subst (λ (text : List ℕ). PutsAll text old middle) (c.as_slice.ensures.value ∙ c.entry_front.ensures) c.in_ok-put_all.ensures) c.in_err-put_location.ensures))
-
 pub returns : goal.returns
-unfolding front
 returns g c =
-    let old = g.W.Sink.shown c.args.writer.now in
-    let middle = g.W.Sink.shown c.put_all.new.writer in
-    let later = g.W.Sink.shown c.put_location.new.writer in
-    let new = g.W.Sink.shown c.put_all-2.new.writer in
-    let seen = c.args.seen.now in
-    let head = front c.args.address seen.size seen.line in
-    let at = at_text (option_copied seen.at) in
-    puts_then c.put_all-2.result old later new (head ++ at) (newline ∷ [])
-    (puts_on old middle later head at (subst (λ (text : List ℕ). PutsAll text old middle) (c.as_slice.ensures.value ∙ c.entry_front.ensures) c.in_ok-put_all.ensures) c.in_ok-put_location.ensures)
-    c.put_all-2.ensures
+    let P : List ℕ → Type 0 = λ front. Puts c.put_line_at.result (front ++ at_text (option_copied c.args.seen.now.at) ++ newline ∷ []) (g.W.Sink.shown c.args.writer.now) (g.W.Sink.shown c.put_line_at.new.writer) in
+    subst P (c.as_slice.ensures.value ∙ c.entry_front-front.ensures) c.put_line_at.ensures

@@ -6,24 +6,27 @@ use Rattle.mtrace_replay.proofs.Running.RunLemmas.{flush_asked}
 use Rattle.mtrace_replay.specs.declared.no_heap.report.LedgerReport.TheVariants.{Nothing}
 use Rattle.mtrace_replay.specs.declared.no_heap.prepared.Prepared.TheVariants as prepared
 use Rattle.mtrace_replay.proofs.Served.ServedRunLemmas.{served_write, served_all, stops_served_at_read, stops_served_at_write, stops_for_memory}
+use Rattle.mtrace_replay.specs.RunParts.{HasCounted}
 use Rattle.mtrace_replay.proofs.BySize.CountedRunLemmas.{has_counted, counted_all}
+use Rattle.mtrace_replay.proofs.parts.follow.follow_counted.Given.{Over}
+use Rattle.mtrace_replay.proofs.parts.follow.follow_counted.Goals.{In-Ok}
 use Rattle.mtrace_replay.proofs.parts.follow.follow_counted.Goals as goal
+
+-- all lines were followed, and their blocks counted
+done : (g : Over) (c : In-Ok g) → HasCounted c.follow_lines.new.replay c.in-Ok.has_diagnostics
+    (g.R.Source.shown c.args.reader.now) (g.R.Source.shown c.follow_lines.new.reader) (g.W.Sink.shown c.args.writer.now) (g.W.Sink.shown c.follow_lines.new.writer)
+done g c = has_counted c.follow_lines.new.replay c.in-Ok.has_diagnostics _ _ _ _ (c.in-Ok.ensures.done tt (c.requires.start.stands, c.requires.start.counted))
 
 -- the log has ended, and all was written
 pub returns-in-Ok-finish-clause-ran : goal.returns-in-Ok-finish-clause-ran
 returns-in-Ok-finish-clause-ran g c =
-    let reads = g.R.Source.shown in
-    let writes = g.W.Sink.shown in
-    let done = has_counted c.follow_lines.new.replay c.in-Ok.has_diagnostics (reads c.args.reader.now) (reads c.follow_lines.new.reader) (writes c.args.writer.now) (writes c.follow_lines.new.writer)
-    (c.in-Ok.ensures.done tt (c.requires.start.stands, c.requires.start.counted)) in
-    let took = c.in-Ok.ensures.writer_took (λ is. cc) in
+    let done = done g (goal.at.returns-in-Ok-finish-clause-ran g c).In-Ok in
     record {
       ends = record {
-        finished = served_all Nothing c.follow_lines.new.replay.ledger c.in-Ok.has_diagnostics (reads c.args.reader.now) (reads c.follow_lines.new.reader)
-            (writes c.args.writer.now) (writes c.follow_lines.new.writer) (writes c.finish.new.writer) done.served prepared.Nothing tt tt
+        finished = served_all Nothing c.follow_lines.new.replay.ledger _ _ _ _ _ _ done.served prepared.Nothing tt tt
             c.in-Ok-finish.status c.in-Ok-finish.ensures.all c.in-Ok-finish.ensures.status;
         reader_ended = c.in-Ok.ensures.reader_ended;
-        writer_flushed = moved_then_append Took Flushed _ _ _ took c.in-Ok-finish.ensures.flushed;
+        writer_flushed = moved_then_append Took Flushed _ _ _ (c.in-Ok.ensures.writer_took (λ is. cc)) c.in-Ok-finish.ensures.flushed;
       };
       whole = c.follow_lines.ensures.whole;
     }
@@ -31,27 +34,18 @@ returns-in-Ok-finish-clause-ran g c =
 -- and its blocks were counted
 pub returns-in-Ok-finish-clause-last : goal.returns-in-Ok-finish-clause-last
 returns-in-Ok-finish-clause-last g c =
-    let reads = g.R.Source.shown in
-    let writes = g.W.Sink.shown in
-    let done = has_counted c.follow_lines.new.replay c.in-Ok.has_diagnostics (reads c.args.reader.now) (reads c.follow_lines.new.reader) (writes c.args.writer.now) (writes c.follow_lines.new.writer)
-    (c.in-Ok.ensures.done tt (c.requires.start.stands, c.requires.start.counted)) in
-    counted_all c.follow_lines.new.replay c.in-Ok.has_diagnostics (reads c.args.reader.now) (reads c.follow_lines.new.reader)
-    (writes c.args.writer.now) (writes c.follow_lines.new.writer) (writes c.finish.new.writer) done prepared.Nothing tt tt
+    let done = done g (goal.at.returns-in-Ok-finish-clause-last g c).In-Ok in
+    counted_all c.follow_lines.new.replay _ _ _ _ _ _ done prepared.Nothing tt tt
     c.in-Ok-finish.status c.in-Ok-finish.ensures.all c.in-Ok-finish.ensures.status
 
 -- the writer failed at the end
 pub returns-in-Err-clause-ran : goal.returns-in-Err-clause-ran
 returns-in-Err-clause-ran g c =
-    let reads = g.R.Source.shown in
-    let writes = g.W.Sink.shown in
-    let done = has_counted c.follow_lines.new.replay c.in-Ok.has_diagnostics (reads c.args.reader.now) (reads c.follow_lines.new.reader) (writes c.args.writer.now) (writes c.follow_lines.new.writer)
-    (c.in-Ok.ensures.done tt (c.requires.start.stands, c.requires.start.counted)) in
-    let took = c.in-Ok.ensures.writer_took (λ is. cc) in
+    let done = done g (goal.at.returns-in-Err-clause-ran g c).In-Ok in
     record {
       ends = record {
-        write_fault = served_write Nothing c.follow_lines.new.replay.ledger c.in-Ok.has_diagnostics (reads c.args.reader.now) (reads c.follow_lines.new.reader)
-            (writes c.args.writer.now) (writes c.follow_lines.new.writer) (writes c.finish.new.writer) done.served prepared.Nothing tt tt c.in-Err.ensures.beginning;
-        writer_failed = failed_after _ _ _ took c.in-Err.ensures.failed;
+        write_fault = served_write Nothing c.follow_lines.new.replay.ledger _ _ _ _ _ _ done.served prepared.Nothing tt tt c.in-Err.ensures.beginning;
+        writer_failed = failed_after _ _ _ (c.in-Ok.ensures.writer_took (λ is. cc)) c.in-Err.ensures.failed;
         reader_not_failed = c.in-Ok.ensures.reader_not_failed (λ is. cc);
       };
       whole = c.follow_lines.ensures.whole;
@@ -60,8 +54,7 @@ returns-in-Err-clause-ran g c =
 -- the reader failed
 pub returns-in-Err-Reader-clause-ran : goal.returns-in-Err-Reader-clause-ran
 returns-in-Err-Reader-clause-ran g c =
-    let stops = stops_served_at_read (g.R.Source.shown c.args.reader.now) (g.R.Source.shown c.follow_lines.new.reader) (g.W.Sink.shown c.args.writer.now) (g.W.Sink.shown c.follow_lines.new.writer)
-    (c.in-Err-Reader.ensures.read (cc) tt (c.requires.start.stands, c.requires.start.counted)) in
+    let stops = stops_served_at_read _ _ _ _ (c.in-Err-Reader.ensures.read (cc) tt (c.requires.start.stands, c.requires.start.counted)) in
     record {
       ends = record {
         read_fault = record { lines = stops.lines; reason = stops.reason; wrote = c.flush.ensures.kept ∙ stops.wrote };
@@ -73,8 +66,7 @@ returns-in-Err-Reader-clause-ran g c =
 -- memory was refused at a line
 pub returns-in-Err-Memory-clause-ran : goal.returns-in-Err-Memory-clause-ran
 returns-in-Err-Memory-clause-ran g c =
-    let stops = stops_for_memory (g.R.Source.shown c.args.reader.now) (g.R.Source.shown c.follow_lines.new.reader) (g.W.Sink.shown c.args.writer.now) (g.W.Sink.shown c.follow_lines.new.writer)
-    (c.in-Err-Memory.ensures.memory (cc) tt (c.requires.start.stands, c.requires.start.counted)) in
+    let stops = stops_for_memory _ _ _ _ (c.in-Err-Memory.ensures.memory (cc) tt (c.requires.start.stands, c.requires.start.counted)) in
     record {
       ends = record {
         memory = record { lines = stops.lines; unused = stops.unused; reason = stops.reason; wrote = c.flush-in-Err-Memory.ensures.kept ∙ stops.wrote };
@@ -89,8 +81,7 @@ pub returns-in-Err-Writer-clause-ran : goal.returns-in-Err-Writer-clause-ran
 returns-in-Err-Writer-clause-ran g c =
     record {
       ends = record {
-        write_fault = stops_served_at_write (g.R.Source.shown c.args.reader.now) (g.R.Source.shown c.follow_lines.new.reader) (g.W.Sink.shown c.args.writer.now) (g.W.Sink.shown c.follow_lines.new.writer)
-            Nothing (counted_rules.Stands tt c.follow_lines.new.replay) (c.in-Err-Writer.ensures.write (cc) tt (c.requires.start.stands, c.requires.start.counted));
+        write_fault = stops_served_at_write _ _ _ _ Nothing (counted_rules.Stands tt c.follow_lines.new.replay) (c.in-Err-Writer.ensures.write (cc) tt (c.requires.start.stands, c.requires.start.counted));
         writer_failed = inl (c.in-Err-Writer.ensures.writer_failed (cc));
         reader_not_failed = c.in-Err-Writer.ensures.reader_not_failed (λ is. cc);
       };

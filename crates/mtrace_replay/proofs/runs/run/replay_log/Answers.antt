@@ -1,50 +1,50 @@
 use Rattle.std.proofs.Common.{rules, subst, ◌∙◌}
 use Rattle.mtrace_log.specs.Output.{Wrote}
 use Rattle.mtrace_replay.specs.declared.runs.report.Report.{Report}
-use Rattle.mtrace_replay.specs.Run.{end_text}
+use Rattle.mtrace_replay.specs.Run.{end_text, HasReplayed}
 use Rattle.mtrace_log.specs.declared.call.Call.TheVariants.{Took, Flushed}
 use Rattle.mtrace_log.proofs.TraceLemmas.{moved_then_append, failed_after}
 use Rattle.mtrace_replay.proofs.Running.RunLemmas.{report_all, ends_at, report_write, flush_asked, has_replayed, stops_at_read, stops_at_write}
+use Rattle.mtrace_replay.proofs.runs.run.replay_log.Given.{Over}
+use Rattle.mtrace_replay.proofs.runs.run.replay_log.Goals.{In-Ok-follow_lines}
 use Rattle.mtrace_replay.proofs.runs.run.replay_log.Goals as goal
+
+-- all lines were replayed
+done : (g : Over) (c : In-Ok-follow_lines g) → HasReplayed c.args.settings c.follow_lines.new.replay c.in-Ok-follow_lines.has_diagnostics
+    (g.R.Source.shown c.args.reader.now) (g.R.Source.shown c.follow_lines.new.reader) (g.W.Sink.shown c.args.writer.now) (g.W.Sink.shown c.follow_lines.new.writer)
+done g c = has_replayed c.args.settings _ _ _ _ _ _ (c.in-Ok-follow_lines.ensures.done c.args.settings c.in-Ok.ensures.made)
 
 -- the log has ended, and all was written
 pub returns-in-Ok-finish-clause-ran : goal.returns-in-Ok-finish-clause-ran
 returns-in-Ok-finish-clause-ran g c =
-    let reads = g.R.Source.shown in
-    let writes = g.W.Sink.shown in
-    let followed = c.in-Ok-follow_lines.ensures.done c.args.settings c.in-Ok.ensures.made in
-    let done = has_replayed c.args.settings c.follow_lines.new.replay c.in-Ok-follow_lines.has_diagnostics (reads c.args.reader.now) (reads c.follow_lines.new.reader) (writes c.args.writer.now) (writes c.follow_lines.new.writer) followed in
-    let took = c.in-Ok-follow_lines.ensures.writer_took (λ e. cc) in
-    let reports = report_all c.args.report c.args.settings c.follow_lines.new.replay c.in-Ok-follow_lines.has_diagnostics c.in-Ok-finish.status (reads c.args.reader.now) (reads c.follow_lines.new.reader)
-    (writes c.args.writer.now) (writes c.follow_lines.new.writer) (writes c.finish.new.writer) done c.in-Ok-finish.ensures.all c.in-Ok-finish.ensures.status in
+    let done = done g (goal.at.returns-in-Ok-finish-clause-ran g c).In-Ok-follow_lines in
     record {
-      ends = record { finished = reports; reader_ended = search rules; writer_flushed = moved_then_append Took Flushed _ _ _ took c.in-Ok-finish.ensures.flushed };
+      ends = record {
+        finished = report_all c.args.report c.args.settings _ _ c.in-Ok-finish.status _ _ _ _ _ done c.in-Ok-finish.ensures.all c.in-Ok-finish.ensures.status;
+        reader_ended = search rules;
+        writer_flushed = moved_then_append Took Flushed _ _ _ (c.in-Ok-follow_lines.ensures.writer_took (λ e. cc)) c.in-Ok-finish.ensures.flushed;
+      };
       bad_settings = search rules;
       whole = search rules;
     }
 
 pub returns-in-Ok-finish-clause-last : goal.returns-in-Ok-finish-clause-last
-returns-in-Ok-finish-clause-last g c =
-    let reads = g.R.Source.shown in
-    let writes = g.W.Sink.shown in
-    let followed = c.in-Ok-follow_lines.ensures.done c.args.settings c.in-Ok.ensures.made in
-    let done = has_replayed c.args.settings c.follow_lines.new.replay c.in-Ok-follow_lines.has_diagnostics (reads c.args.reader.now) (reads c.follow_lines.new.reader) (writes c.args.writer.now) (writes c.follow_lines.new.writer) followed in
-    λ only. let P : Report → Type 0 = λ report. Wrote (writes c.follow_lines.new.writer) (writes c.finish.new.writer) (end_text report c.follow_lines.new.replay) in
-    ends_at c.args.settings c.follow_lines.new.replay c.finish.new.replay c.in-Ok-follow_lines.has_diagnostics c.in-Ok-finish.status (reads c.args.reader.now) (reads c.follow_lines.new.reader)
-    (writes c.args.writer.now) (writes c.follow_lines.new.writer) (writes c.finish.new.writer) done (subst P only c.in-Ok-finish.ensures.all) c.in-Ok-finish.ensures.status (c.in-Ok-finish.ensures.kept only) (c.in-Ok-follow_lines.ensures.fixed ∙ c.in-Ok.ensures.records)
+returns-in-Ok-finish-clause-last g c = λ only.
+    let done = done g (goal.at.returns-in-Ok-finish-clause-last g c).In-Ok-follow_lines in
+    let P : Report → Type 0 = λ report. Wrote (g.W.Sink.shown c.follow_lines.new.writer) (g.W.Sink.shown c.finish.new.writer) (end_text report c.follow_lines.new.replay) in
+    ends_at c.args.settings c.follow_lines.new.replay c.finish.new.replay _ c.in-Ok-finish.status _ _ _ _ _ done
+    (subst P only c.in-Ok-finish.ensures.all) c.in-Ok-finish.ensures.status (c.in-Ok-finish.ensures.kept only) (c.in-Ok-follow_lines.ensures.fixed ∙ c.in-Ok.ensures.records)
 
 -- the writer failed at the end
 pub returns-in-Ok-follow_lines-clause-ran : goal.returns-in-Ok-follow_lines-clause-ran
 returns-in-Ok-follow_lines-clause-ran g c =
-    let reads = g.R.Source.shown in
-    let writes = g.W.Sink.shown in
-    let followed = c.in-Ok-follow_lines.ensures.done c.args.settings c.in-Ok.ensures.made in
-    let done = has_replayed c.args.settings c.follow_lines.new.replay c.in-Ok-follow_lines.has_diagnostics (reads c.args.reader.now) (reads c.follow_lines.new.reader) (writes c.args.writer.now) (writes c.follow_lines.new.writer) followed in
-    let took = c.in-Ok-follow_lines.ensures.writer_took (λ e. cc) in
-    let stops = report_write c.args.report c.args.settings c.follow_lines.new.replay c.in-Ok-follow_lines.has_diagnostics (reads c.args.reader.now) (reads c.follow_lines.new.reader)
-    (writes c.args.writer.now) (writes c.follow_lines.new.writer) (writes c.finish.new.writer) done c.in-Err.ensures.beginning in
+    let done = done g (goal.at.returns-in-Ok-follow_lines-clause-ran g c).In-Ok-follow_lines in
     record {
-      ends = record { write_fault = stops; writer_failed = failed_after _ _ _ took c.in-Err.ensures.failed; reader_not_failed = search rules };
+      ends = record {
+        write_fault = report_write c.args.report c.args.settings _ _ _ _ _ _ _ done c.in-Err.ensures.beginning;
+        writer_failed = failed_after _ _ _ (c.in-Ok-follow_lines.ensures.writer_took (λ e. cc)) c.in-Err.ensures.failed;
+        reader_not_failed = search rules;
+      };
       bad_settings = search rules;
       whole = search rules;
     }
@@ -52,10 +52,7 @@ returns-in-Ok-follow_lines-clause-ran g c =
 -- the reader failed
 pub returns-clause-ran : goal.returns-clause-ran
 returns-clause-ran g c =
-    let reads = g.R.Source.shown in
-    let writes = g.W.Sink.shown in
-    let stops = stops_at_read c.args.settings (reads c.args.reader.now) (reads c.follow_lines.new.reader) (writes c.args.writer.now) (writes c.follow_lines.new.writer)
-    (c.in-Err-Reader.ensures.read (cc) c.args.settings c.in-Ok.ensures.made) in
+    let stops = stops_at_read c.args.settings _ _ _ _ (c.in-Err-Reader.ensures.read (cc) c.args.settings c.in-Ok.ensures.made) in
     record {
       ends = record {
         read_fault = record { lines = stops.lines; reason = stops.reason; wrote = c.flush.ensures.kept ∙ stops.wrote };
@@ -68,12 +65,9 @@ returns-clause-ran g c =
 -- the writer failed before the end
 pub returns-in-Err-Writer-clause-ran : goal.returns-in-Err-Writer-clause-ran
 returns-in-Err-Writer-clause-ran g c =
-    let reads = g.R.Source.shown in
-    let writes = g.W.Sink.shown in
     record {
       ends = record {
-        write_fault = stops_at_write c.args.report c.args.settings c.follow_lines.new.replay (reads c.args.reader.now) (reads c.follow_lines.new.reader) (writes c.args.writer.now) (writes c.follow_lines.new.writer)
-            (c.in-Err-Writer.ensures.write (cc) c.args.settings c.in-Ok.ensures.made);
+        write_fault = stops_at_write c.args.report c.args.settings c.follow_lines.new.replay _ _ _ _ (c.in-Err-Writer.ensures.write (cc) c.args.settings c.in-Ok.ensures.made);
         writer_failed = search rules;
         reader_not_failed = search rules;
       };

@@ -12,7 +12,7 @@ use Rattle.mtrace_replay.proofs.Served.LedgerPeak.{IsRest, ledger_state, same_st
 use Rattle.mtrace_replay.proofs.Served.SharesLemmas.{shared-longer, called-longer}
 use Rattle.mtrace_replay.proofs.Served.CallersBySlot.{called-more, more_called}
 use Rattle.mtrace_replay.proofs.no_heap.ledger.Ledger.hold.Goals as goal
-use Rattle.mtrace_replay.proofs.no_heap.ledger.Ledger.hold.Goals.{In_ok-before}
+use Rattle.mtrace_replay.proofs.no_heap.ledger.Ledger.hold.Goals.{After-cover, In_ok-before}
 
 pub invariant_of-self : goal.invariant_of-self
 invariant_of-self c =
@@ -28,12 +28,16 @@ returns-in_err-location-clause-unchanged c =
     (same_state c.self.inside.locations c.number_at.new.self c.number_at.ensures.others c.self.inside.shares c.self.inside.shares c.self.inside.held.entries c.self.inside.bytes c.self.invariant
     (record { now = λ slot. refl; marked = λ slot. refl; mark = refl; counts = record { now = λ slot. refl; total = refl } }) ∙ c.self.view_is)
 
-pub invariant_of-self-in_err-cover : goal.invariant_of-self-in_err-cover
-invariant_of-self-in_err-cover c = (
+-- what was so before, of the locations and the shares that have room for this one
+before : (c : After-cover) → IsLedger c.number_at.new.self c.self.inside.held.entries c.self.inside.bytes × AreShared c.number_at.new.self c.cover.new.self (values_of c.self.inside.held.entries) × AreCalled c.number_at.new.self c.cover.new.self (length c.self.inside.held.entries)
+before c = (
   keeps_now c.self.inside.locations c.number_at.new.self c.number_at.ensures.others c.self.inside.held.entries c.self.inside.bytes c.self.inside.shares c.cover.new.self c.cover.ensures.kept c.self.invariant,
   shared_now c.self.inside.locations c.number_at.new.self c.number_at.ensures.others c.self.inside.held.entries c.self.inside.bytes c.self.inside.shares c.cover.new.self c.cover.ensures.kept c.self.invariant,
   called_now c.self.inside.locations c.number_at.new.self c.number_at.ensures.others c.self.inside.held.entries c.self.inside.bytes c.self.inside.shares c.cover.new.self c.cover.ensures.kept c.self.invariant,
 )
+
+pub invariant_of-self-in_err-cover : goal.invariant_of-self-in_err-cover
+invariant_of-self-in_err-cover c = before (goal.at.invariant_of-self-in_err-cover c).After-cover
 
 pub returns-in_err-cover-clause-unchanged : goal.returns-in_err-cover-clause-unchanged
 returns-in_err-cover-clause-unchanged c =
@@ -43,12 +47,8 @@ returns-in_err-cover-clause-unchanged c =
 
 pub invariant_of-self-in_err-before : goal.invariant_of-self-in_err-before
 invariant_of-self-in_err-before c =
-    let new = c.number_at.new.self in
-    subst (λ held. IsLedger new held c.self.inside.bytes × AreShared new c.cover.new.self (values_of held) × AreCalled new c.cover.new.self (length held)) (sym c.in_err-before.ensures.err) (
-      keeps_now c.self.inside.locations c.number_at.new.self c.number_at.ensures.others c.self.inside.held.entries c.self.inside.bytes c.self.inside.shares c.cover.new.self c.cover.ensures.kept c.self.invariant,
-      shared_now c.self.inside.locations c.number_at.new.self c.number_at.ensures.others c.self.inside.held.entries c.self.inside.bytes c.self.inside.shares c.cover.new.self c.cover.ensures.kept c.self.invariant,
-      called_now c.self.inside.locations c.number_at.new.self c.number_at.ensures.others c.self.inside.held.entries c.self.inside.bytes c.self.inside.shares c.cover.new.self c.cover.ensures.kept c.self.invariant,
-    )
+    subst (λ held. IsLedger c.number_at.new.self held c.self.inside.bytes × AreShared c.number_at.new.self c.cover.new.self (values_of held) × AreCalled c.number_at.new.self c.cover.new.self (length held)) (sym c.in_err-before.ensures.err)
+    (before (goal.at.invariant_of-self-in_err-before c).After-cover)
 
 pub returns-in_err-before-clause-unchanged : goal.returns-in_err-before-clause-unchanged
 returns-in_err-before-clause-unchanged c =
@@ -59,11 +59,10 @@ returns-in_err-before-clause-unchanged c =
 
 pub forget-requires : goal.forget-requires
 forget-requires c =
-    let keeps = keeps_now c.self.inside.locations c.number_at.new.self c.number_at.ensures.others c.self.inside.held.entries c.self.inside.bytes c.self.inside.shares c.cover.new.self c.cover.ensures.kept c.self.invariant in
-    let shared = shared_now c.self.inside.locations c.number_at.new.self c.number_at.ensures.others c.self.inside.held.entries c.self.inside.bytes c.self.inside.shares c.cover.new.self c.cover.ensures.kept c.self.invariant in
-    let kept : Kept = record { size = c.args.size; line = c.args.line; location = c.in_ok-location.location } in
+    let before = before (goal.at.forget-requires c).After-cover in
     record {
-      counted = counted_there c.number_at.new.self c.self.inside.held.entries c.insert.new.self.entries c.self.inside.bytes keeps c.cover.new.self shared c.value.result kept
+      counted = counted_there c.number_at.new.self c.self.inside.held.entries c.insert.new.self.entries c.self.inside.bytes before.0 c.cover.new.self before.1 c.value.result
+          (record { size = c.args.size; line = c.args.line; location = c.in_ok-location.location })
           (record { size = c.ranges.size.fits; location = c.in_ok-location.ensures.there }) c.in_ok-before.before c.in_ok-before.ensures.old;
     }
 
@@ -71,65 +70,57 @@ forget-requires c =
 abbrev kept : In_ok-before → Kept
 kept c = record { size = c.args.size; line = c.args.line; location = c.in_ok-location.location }
 
--- what was so before, of the locations and the shares that have room for this one
-keeps : (c : In_ok-before) → IsLedger c.number_at.new.self c.self.inside.held.entries c.self.inside.bytes
-keeps c = keeps_now c.self.inside.locations c.number_at.new.self c.number_at.ensures.others c.self.inside.held.entries c.self.inside.bytes c.self.inside.shares c.cover.new.self c.cover.ensures.kept c.self.invariant
-
-shared : (c : In_ok-before) → AreShared c.number_at.new.self c.cover.new.self (values_of c.self.inside.held.entries)
-shared c = shared_now c.self.inside.locations c.number_at.new.self c.number_at.ensures.others c.self.inside.held.entries c.self.inside.bytes c.self.inside.shares c.cover.new.self c.cover.ensures.kept c.self.invariant
-
-called : (c : In_ok-before) → AreCalled c.number_at.new.self c.cover.new.self (length c.self.inside.held.entries)
-called c = called_now c.self.inside.locations c.number_at.new.self c.number_at.ensures.others c.self.inside.held.entries c.self.inside.bytes c.self.inside.shares c.cover.new.self c.cover.ensures.kept c.self.invariant
-
 -- until the address is counted, the shares are those of the rest
-rest : (c : In_ok-before) (shares : ByLocation) (left : ℕ) → Forgets c.in_ok-before.before c.cover.new.self shares c.self.inside.bytes left
+rest : (c : In_ok-before)
+    → IsLedger c.number_at.new.self c.self.inside.held.entries c.self.inside.bytes × AreShared c.number_at.new.self c.cover.new.self (values_of c.self.inside.held.entries) × AreCalled c.number_at.new.self c.cover.new.self (length c.self.inside.held.entries)
+    → (shares : ByLocation) (left : ℕ) → Forgets c.in_ok-before.before c.cover.new.self shares c.self.inside.bytes left
     → IsRest c.number_at.new.self c.self.inside.held.entries c.insert.new.self.entries (kept c) c.cover.new.self shares left
-rest c =
-    rest_of c.number_at.new.self c.self.inside.held.entries c.insert.new.self.entries c.self.inside.bytes (keeps c) c.cover.new.self (shared c) c.value.result (kept c)
+rest c all =
+    rest_of c.number_at.new.self c.self.inside.held.entries c.insert.new.self.entries c.self.inside.bytes all.0 c.cover.new.self all.1 c.value.result (kept c)
     (record { size = c.ranges.size.fits; location = c.in_ok-location.ensures.there }) c.in_ok-before.before c.in_ok-before.ensures.old c.in_ok-before.ensures.entries
 
 pub add-requires-clause-slot : goal.add-requires-clause-slot
 add-requires-clause-slot c =
-    let at = (goal.at.add-requires-clause-slot c).In_ok-before in
-    let rest = rest at c.forget.new.shares c.forget.new.bytes c.forget.ensures in
+    let at = goal.at.add-requires-clause-slot c in
+    let rest = rest at.In_ok-before (before at.After-cover) c.forget.new.shares c.forget.new.bytes c.forget.ensures in
     omega (arith, c.in_ok-cover.ensures.slots, rest.slots)
 
 pub add-requires-clause-blocks : goal.add-requires-clause-blocks
 add-requires-clause-blocks c =
-    let at = (goal.at.add-requires-clause-blocks c).In_ok-before in
-    let rest = rest at c.forget.new.shares c.forget.new.bytes c.forget.ensures in
-    let few = few_blocks c.number_at.new.self c.self.inside.held.entries c.insert.new.self.entries (kept at) c.cover.new.self c.forget.new.shares c.forget.new.bytes rest (omega (arith, c.len-few.ensures.small, c.len-few.ensures.len)) in
+    let at = goal.at.add-requires-clause-blocks c in
+    let rest = rest at.In_ok-before (before at.After-cover) c.forget.new.shares c.forget.new.bytes c.forget.ensures in
+    let few = few_blocks c.number_at.new.self c.self.inside.held.entries c.insert.new.self.entries (kept at.In_ok-before) c.cover.new.self c.forget.new.shares c.forget.new.bytes rest (omega (arith, c.len-few.ensures.small, c.len-few.ensures.len)) in
     let same = ap (λ slot. (now_at c.forget.new.shares slot).blocks) c.slot_of-slot.ensures in
     omega (arith, few, same)
 
 pub add-requires-clause-bytes : goal.add-requires-clause-bytes
 add-requires-clause-bytes c =
-    let at = (goal.at.add-requires-clause-bytes c).In_ok-before in
-    let rest = rest at c.forget.new.shares c.forget.new.bytes c.forget.ensures in
-    let few = few_bytes c.number_at.new.self c.self.inside.held.entries c.insert.new.self.entries (kept at) c.cover.new.self c.forget.new.shares c.forget.new.bytes rest c.self.inside.bytes (keeps at) (omega (arith, c.len-few.ensures.small, c.len-few.ensures.len)) in
+    let at = goal.at.add-requires-clause-bytes c in
+    let rest = rest at.In_ok-before (before at.After-cover) c.forget.new.shares c.forget.new.bytes c.forget.ensures in
+    let few = few_bytes c.number_at.new.self c.self.inside.held.entries c.insert.new.self.entries (kept at.In_ok-before) c.cover.new.self c.forget.new.shares c.forget.new.bytes rest c.self.inside.bytes (before at.After-cover).0 (omega (arith, c.len-few.ensures.small, c.len-few.ensures.len)) in
     let same = ap (λ slot. (now_at c.forget.new.shares slot).bytes) c.slot_of-slot.ensures in
     omega (arith, few.1, same, c.ranges.size.fits)
 
 pub overflow_add-self : goal.overflow_add-self
 overflow_add-self c =
-    let at = (goal.at.overflow_add-self c).In_ok-before in
-    let rest = rest at c.forget.new.shares c.forget.new.bytes c.forget.ensures in
-    let few = few_bytes c.number_at.new.self c.self.inside.held.entries c.insert.new.self.entries (kept at) c.cover.new.self c.forget.new.shares c.forget.new.bytes rest c.self.inside.bytes (keeps at) (omega (arith, c.len-few.ensures.small, c.len-few.ensures.len)) in
+    let at = goal.at.overflow_add-self c in
+    let rest = rest at.In_ok-before (before at.After-cover) c.forget.new.shares c.forget.new.bytes c.forget.ensures in
+    let few = few_bytes c.number_at.new.self c.self.inside.held.entries c.insert.new.self.entries (kept at.In_ok-before) c.cover.new.self c.forget.new.shares c.forget.new.bytes rest c.self.inside.bytes (before at.After-cover).0 (omega (arith, c.len-few.ensures.small, c.len-few.ensures.len)) in
     omega (arith, few.0, c.from.ensures, c.ranges.size.fits)
 
 pub invariant_of-self-2 : goal.invariant_of-self-2
 invariant_of-self-2 c =
-    let at = (goal.at.invariant_of-self-2 c).In_ok-before in
-    let rest = rest at c.forget.new.shares c.forget.new.bytes c.forget.ensures in
+    let at = goal.at.invariant_of-self-2 c in
+    let rest = rest at.In_ok-before (before at.After-cover) c.forget.new.shares c.forget.new.bytes c.forget.ensures in
     let slot = slot_of c.in_ok-location.location in
     let amounts = subst (λ slot. Changes slot (amount_more (now_at c.forget.new.shares slot) c.args.size) c.forget.new.shares c.add.new.self) c.slot_of-slot.ensures c.add.ensures.amount in
     let counts = subst (λ slot. Counts slot (count_more (count_at c.forget.new.shares slot) c.args.size) c.forget.new.shares c.add.new.self) c.slot_of-slot.ensures c.add.ensures.count in
-    let both = counted c.number_at.new.self c.self.inside.held.entries c.insert.new.self.entries (kept at) c.cover.new.self c.forget.new.shares c.forget.new.bytes rest c.insert.ensures.unique c.add.new.self amounts in
+    let both = counted c.number_at.new.self c.self.inside.held.entries c.insert.new.self.entries (kept at.In_ok-before) c.cover.new.self c.forget.new.shares c.forget.new.bytes rest c.insert.ensures.unique c.add.new.self amounts in
     let bytes = subst (λ size. IsLedger c.number_at.new.self c.insert.new.self.entries (c.forget.new.bytes + size)) (sym c.from.ensures) both.0 in (
       bytes,
       both.1,
-      called-more c.number_at.new.self c.self.inside.held.entries c.insert.new.self.entries (kept at) c.in_ok-location.ensures.there c.ranges.size.fits c.cover.new.self c.forget.new.shares c.add.new.self c.forget.new.bytes rest (shared at) (called at) amounts counts c.add.ensures.total
-          (few_more c.number_at.new.self c.self.inside.held.entries c.insert.new.self.entries (kept at) c.cover.new.self c.forget.new.shares c.forget.new.bytes rest),
+      called-more c.number_at.new.self c.self.inside.held.entries c.insert.new.self.entries (kept at.In_ok-before) c.in_ok-location.ensures.there c.ranges.size.fits c.cover.new.self c.forget.new.shares c.add.new.self c.forget.new.bytes rest (before at.After-cover).1 (before at.After-cover).2 amounts counts c.add.ensures.total
+          (few_more c.number_at.new.self c.self.inside.held.entries c.insert.new.self.entries (kept at.In_ok-before) c.cover.new.self c.forget.new.shares c.forget.new.bytes rest),
     )
 
 pub returns-clause-held : goal.returns-clause-held
@@ -142,8 +133,8 @@ returns-clause-held c = λ other.
 
 pub returns-clause-peak : goal.returns-clause-peak
 returns-clause-peak c =
-    let at = (goal.at.returns-clause-peak c).In_ok-before in
-    let rest = rest at c.forget.new.shares c.forget.new.bytes c.forget.ensures in
+    let at = goal.at.returns-clause-peak c in
+    let rest = rest at.In_ok-before (before at.After-cover) c.forget.new.shares c.forget.new.bytes c.forget.ensures in
     record {
       at_peak = peak_stays c.self.inside.locations c.number_at.new.self c.number_at.ensures.others c.self.inside.shares c.add.new.self c.self.invariant.1.beyond
           (λ slot. c.add.ensures.amount.marked slot ∙ rest.marked slot ∙ c.cover.ensures.kept.marked slot)
@@ -153,20 +144,20 @@ returns-clause-peak c =
 
 pub add-requires-clause-calls : goal.add-requires-clause-calls
 add-requires-clause-calls c =
-    let at = (goal.at.add-requires-clause-calls c).In_ok-before in
-    let rest = rest at c.forget.new.shares c.forget.new.bytes c.forget.ensures in
+    let at = goal.at.add-requires-clause-calls c in
+    let rest = rest at.In_ok-before (before at.After-cover) c.forget.new.shares c.forget.new.bytes c.forget.ensures in
     let same : c.forget.new.shares.total.calls ≡ c.args.self.now.called.total.calls =
     ap (λ (count : Count). count.calls) (rest.counts.total ∙ c.cover.ensures.kept.counts.total) ∙ ap (λ (state : LedgerState). state.called.total.calls) c.self.view_is in
     omega (arith, same, c.requires.few)
 
 pub returns-clause-called : goal.returns-clause-called
 returns-clause-called c =
-    let at = (goal.at.returns-clause-called c).In_ok-before in
-    let rest = rest at c.forget.new.shares c.forget.new.bytes c.forget.ensures in
+    let at = goal.at.returns-clause-called c in
+    let rest = rest at.In_ok-before (before at.After-cover) c.forget.new.shares c.forget.new.bytes c.forget.ensures in
     let amounts = subst (λ slot. Changes slot (amount_more (now_at c.forget.new.shares slot) c.args.size) c.forget.new.shares c.add.new.self) c.slot_of-slot.ensures c.add.ensures.amount in
     let counts = subst (λ slot. Counts slot (count_more (count_at c.forget.new.shares slot) c.args.size) c.forget.new.shares c.add.new.self) c.slot_of-slot.ensures c.add.ensures.count in
-    let after = called-more c.number_at.new.self c.self.inside.held.entries c.insert.new.self.entries (kept at) c.in_ok-location.ensures.there c.ranges.size.fits c.cover.new.self c.forget.new.shares c.add.new.self c.forget.new.bytes rest (shared at) (called at) amounts counts c.add.ensures.total
-    (few_more c.number_at.new.self c.self.inside.held.entries c.insert.new.self.entries (kept at) c.cover.new.self c.forget.new.shares c.forget.new.bytes rest) in
+    let after = called-more c.number_at.new.self c.self.inside.held.entries c.insert.new.self.entries (kept at.In_ok-before) c.in_ok-location.ensures.there c.ranges.size.fits c.cover.new.self c.forget.new.shares c.add.new.self c.forget.new.bytes rest (before at.After-cover).1 (before at.After-cover).2 amounts counts c.add.ensures.total
+    (few_more c.number_at.new.self c.self.inside.held.entries c.insert.new.self.entries (kept at.In_ok-before) c.cover.new.self c.forget.new.shares c.forget.new.bytes rest) in
     more_called c.self.inside.locations c.number_at.new.self c.number_at.ensures.others c.in_ok-location.location c.in_ok-location.ensures.there c.self.inside.shares c.forget.new.shares c.add.new.self (length c.self.inside.held.entries)
     (length c.insert.new.self.entries) c.self.invariant.2 after c.args.size _ (sym c.in_ok-location.ensures.found)
     (λ slot. rest.counts.now slot ∙ c.cover.ensures.kept.counts.now slot) (rest.counts.total ∙ c.cover.ensures.kept.counts.total) counts c.add.ensures.total

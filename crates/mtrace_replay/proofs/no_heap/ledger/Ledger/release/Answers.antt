@@ -1,15 +1,16 @@
 -- The map loses the address, and so do the entries and the share of its location. Its call may be temporary.
-use Rattle.std.proofs.Common.{◌≡◌, ◌+◌, ◌<◌, nat_eq, ◌∙◌, sym, ap, subst, length, is_some, option_map, None, arith}
+use Rattle.std.proofs.Common.{◌≡◌, ◌<◌, nat_eq, ◌∙◌, sym, ap, subst, is_some, option_map, Some, None, ◌≤◌, arith}
 use Rattle.std.specs.Prelude.{MatchBool}
-use Rattle.std.specs.Map.{values_of}
+use Rattle.std.specs.Map.{lookup, values_of}
 use Rattle.mtrace_replay.specs.Locations.{location_of}
 use Rattle.mtrace_replay.specs.Calls.{CountsMore, CountsReleased}
 use Rattle.mtrace_replay.specs.Shares.{amount_less, now_at, count_at, Changes, CountsOne}
-use Rattle.mtrace_replay.specs.Ledger.{LedgerState, entry_of}
+use Rattle.mtrace_replay.specs.Ledger.{LedgerState, entry_of, slot_of}
 use Rattle.mtrace_replay.proofs.Served.LedgerLemmas.{tells, tells_what, changes_at, is_within, less, kept_there}
 use Rattle.mtrace_replay.proofs.Served.LedgerPeak.{peak_stays}
 use Rattle.mtrace_replay.proofs.Served.CallersBySlot.{called_of, some_calls, some_in_all, called-less, released}
 use Rattle.mtrace_replay.proofs.Served.SharesLemmas.{some_there, shared-less, shared-same, slot_there}
+use Rattle.mtrace_replay.proofs.no_heap.ledger.Ledger.release.Goals.{In-Some, After-take, After-count_temporary}
 use Rattle.mtrace_replay.proofs.no_heap.ledger.Ledger.release.Goals as goal
 
 pub returns-in_default-clause-was : goal.returns-in_default-clause-was
@@ -22,20 +23,31 @@ returns-in_default-clause-held c =
     changes_at c.self.inside.locations c.self.inside.held.entries c.remove.new.self.entries c.args.self.now.all (ap (λ (state : LedgerState). state.all) c.self.view_is) c.value.result c.args.address c.value.ensures.value None
     c.remove.ensures.updates.0
 
+-- what was held of the address
+there : (c : In-Some) → lookup (nat_eq c.value.result) c.self.inside.held.entries ≡ Some c.in-Some.held
+there c = sym c.remove.ensures.value ∙ c.in-Some.is
+
+-- its location has it in its share
+some : (c : In-Some) → (0 < (now_at c.self.inside.shares (slot_of c.in-Some.held.location)).blocks) × (c.in-Some.held.size ≤ (now_at c.self.inside.shares (slot_of c.in-Some.held.location)).bytes)
+some c = some_there c.self.inside.locations c.self.inside.held.entries (nat_eq c.value.result) c.in-Some.held (there c) c.self.inside.shares c.self.invariant.1
+
+amounts : (c : After-take) → Changes (slot_of c.in-Some.held.location) (amount_less (now_at c.self.inside.shares (slot_of c.in-Some.held.location)) c.in-Some.held.size) c.self.inside.shares c.take.new.self
+amounts c = subst (λ slot. Changes slot (amount_less (now_at c.self.inside.shares slot) c.in-Some.held.size) c.self.inside.shares c.take.new.self) c.slot_of-slot.ensures c.take.ensures.amount
+
+counted : (c : After-count_temporary) → MatchBool c.is_next.result (CountsOne (slot_of c.in-Some.held.location) c.take.new.self c.count_temporary.new.shares) (c.count_temporary.new.shares ≡ c.take.new.self)
+counted c = subst (λ slot. MatchBool c.is_next.result (CountsOne slot c.take.new.self c.count_temporary.new.shares) (c.count_temporary.new.shares ≡ c.take.new.self)) c.slot_of-slot.ensures c.count_temporary.ensures.count
+
 pub take-requires-clause-slot : goal.take-requires-clause-slot
 take-requires-clause-slot c =
-    let some = some_there c.self.inside.locations c.self.inside.held.entries (nat_eq c.value.result) c.in-Some.held (sym c.remove.ensures.value ∙ c.in-Some.is) c.self.inside.shares c.self.invariant.1 in
-    omega (arith, c.slot_of-slot.ensures, slot_there c.self.inside.shares _ some.0)
+    omega (arith, c.slot_of-slot.ensures, slot_there c.self.inside.shares _ (some (goal.at.take-requires-clause-slot c).In-Some).0)
 
 pub take-requires-clause-blocks : goal.take-requires-clause-blocks
 take-requires-clause-blocks c =
-    let some = some_there c.self.inside.locations c.self.inside.held.entries (nat_eq c.value.result) c.in-Some.held (sym c.remove.ensures.value ∙ c.in-Some.is) c.self.inside.shares c.self.invariant.1 in
-    rw c.slot_of-slot.ensures some.0
+    rw c.slot_of-slot.ensures (some (goal.at.take-requires-clause-blocks c).In-Some).0
 
 pub take-requires-clause-bytes : goal.take-requires-clause-bytes
 take-requires-clause-bytes c =
-    let some = some_there c.self.inside.locations c.self.inside.held.entries (nat_eq c.value.result) c.in-Some.held (sym c.remove.ensures.value ∙ c.in-Some.is) c.self.inside.shares c.self.invariant.1 in
-    rw c.slot_of-slot.ensures some.1
+    rw c.slot_of-slot.ensures (some (goal.at.take-requires-clause-bytes c).In-Some).1
 
 pub overflow_sub-self : goal.overflow_sub-self
 overflow_sub-self c =
@@ -45,39 +57,28 @@ overflow_sub-self c =
 
 pub count_temporary-requires-clause-slot : goal.count_temporary-requires-clause-slot
 count_temporary-requires-clause-slot c =
-    let there = sym c.remove.ensures.value ∙ c.in-Some.is in
-    let some = some_there c.self.inside.locations c.self.inside.held.entries (nat_eq c.value.result) c.in-Some.held there c.self.inside.shares c.self.invariant.1 in
-    omega (arith, c.slot_of-slot.ensures, slot_there c.self.inside.shares _ some.0, c.take.ensures.amount.slots)
+    omega (arith, c.slot_of-slot.ensures, slot_there c.self.inside.shares _ (some (goal.at.count_temporary-requires-clause-slot c).In-Some).0, c.take.ensures.amount.slots)
 
 pub count_temporary-requires-clause-some : goal.count_temporary-requires-clause-some
 count_temporary-requires-clause-some c =
-    let there = sym c.remove.ensures.value ∙ c.in-Some.is in
-    let some = some_there c.self.inside.locations c.self.inside.held.entries (nat_eq c.value.result) c.in-Some.held there c.self.inside.shares c.self.invariant.1 in
-    let amounts = subst (λ slot. Changes slot (amount_less (now_at c.self.inside.shares slot) c.in-Some.held.size) c.self.inside.shares c.take.new.self) c.slot_of-slot.ensures c.take.ensures.amount in
-    let fewer : length c.remove.new.self.entries + 1 ≡ length c.self.inside.held.entries = c.in-Some.ensures.len in
+    let at = goal.at.count_temporary-requires-clause-some c in
     subst (λ slot. (count_at c.take.new.self slot).temporary < (count_at c.take.new.self slot).calls) (sym c.slot_of-slot.ensures)
-    (some_calls c.self.inside.locations _ _ fewer c.in-Some.held c.self.inside.shares c.take.new.self c.self.invariant.2 some.0 amounts c.take.ensures.counts)
+    (some_calls c.self.inside.locations _ _ c.in-Some.ensures.len c.in-Some.held c.self.inside.shares c.take.new.self c.self.invariant.2 (some at.In-Some).0 (amounts at.After-take) c.take.ensures.counts)
 
 pub count_temporary-requires-clause-few : goal.count_temporary-requires-clause-few
 count_temporary-requires-clause-few c =
-    let there = sym c.remove.ensures.value ∙ c.in-Some.is in
-    let some = some_there c.self.inside.locations c.self.inside.held.entries (nat_eq c.value.result) c.in-Some.held there c.self.inside.shares c.self.invariant.1 in
-    let amounts = subst (λ slot. Changes slot (amount_less (now_at c.self.inside.shares slot) c.in-Some.held.size) c.self.inside.shares c.take.new.self) c.slot_of-slot.ensures c.take.ensures.amount in
-    let fewer : length c.remove.new.self.entries + 1 ≡ length c.self.inside.held.entries = c.in-Some.ensures.len in
-    some_in_all c.self.inside.locations _ _ fewer c.in-Some.held c.self.inside.shares c.take.new.self c.self.invariant.2 some.0 amounts c.take.ensures.counts
+    let at = goal.at.count_temporary-requires-clause-few c in
+    some_in_all c.self.inside.locations _ _ c.in-Some.ensures.len c.in-Some.held c.self.inside.shares c.take.new.self c.self.invariant.2 (some at.In-Some).0 (amounts at.After-take) c.take.ensures.counts
 
 pub invariant_of-self-2 : goal.invariant_of-self-2
 invariant_of-self-2 c =
-    let there = sym c.remove.ensures.value ∙ c.in-Some.is in
-    let some = some_there c.self.inside.locations c.self.inside.held.entries (nat_eq c.value.result) c.in-Some.held there c.self.inside.shares c.self.invariant.1 in
-    let amounts = subst (λ slot. Changes slot (amount_less (now_at c.self.inside.shares slot) c.in-Some.held.size) c.self.inside.shares c.take.new.self) c.slot_of-slot.ensures c.take.ensures.amount in
-    let fewer : length c.remove.new.self.entries + 1 ≡ length c.self.inside.held.entries = c.in-Some.ensures.len in
-    let counted = subst (λ slot. MatchBool c.is_next.result (CountsOne slot c.take.new.self c.count_temporary.new.shares) (c.count_temporary.new.shares ≡ c.take.new.self)) c.slot_of-slot.ensures c.count_temporary.ensures.count in
-    let called = called-less c.self.inside.locations _ _ fewer c.in-Some.held c.self.inside.shares c.take.new.self c.self.invariant.2 some.0 amounts c.take.ensures.counts
-    c.count_temporary.new.shares c.is_next.result c.count_temporary.ensures.amounts counted in
+    let at = goal.at.invariant_of-self-2 c in
+    let there = there at.In-Some in
+    let called = called-less c.self.inside.locations _ _ c.in-Some.ensures.len c.in-Some.held c.self.inside.shares c.take.new.self c.self.invariant.2 (some at.In-Some).0 (amounts at.After-take) c.take.ensures.counts
+    c.count_temporary.new.shares c.is_next.result c.count_temporary.ensures.amounts (counted at.After-count_temporary) in
     let within = is_within c.self.inside.locations c.self.inside.held.entries c.self.inside.bytes c.self.invariant.0 (nat_eq c.value.result) c.in-Some.held there in
     let taken = shared-less c.self.inside.locations c.self.inside.held.entries c.remove.new.self.entries (nat_eq c.value.result) c.in-Some.held there c.remove.ensures.entries
-    c.self.inside.shares c.take.new.self c.self.invariant.1 amounts in (
+    c.self.inside.shares c.take.new.self c.self.invariant.1 (amounts at.After-take) in (
       less c.self.inside.locations c.self.inside.held.entries c.remove.new.self.entries c.self.inside.bytes _ c.self.invariant.0 (nat_eq c.value.result) c.in-Some.held
           there c.remove.ensures.entries c.remove.ensures.unique (omega (arith, within, c.from.ensures)),
       shared-same c.self.inside.locations (values_of c.remove.new.self.entries) c.take.new.self c.count_temporary.new.shares taken c.count_temporary.ensures.amounts.now c.count_temporary.ensures.amounts.marked,
@@ -112,13 +113,10 @@ returns-in_default-clause-called c =
 
 pub returns-clause-called : goal.returns-clause-called
 returns-clause-called c =
-    let there = sym c.remove.ensures.value ∙ c.in-Some.is in
-    let some = some_there c.self.inside.locations c.self.inside.held.entries (nat_eq c.value.result) c.in-Some.held there c.self.inside.shares c.self.invariant.1 in
-    let amounts = subst (λ slot. Changes slot (amount_less (now_at c.self.inside.shares slot) c.in-Some.held.size) c.self.inside.shares c.take.new.self) c.slot_of-slot.ensures c.take.ensures.amount in
-    let fewer : length c.remove.new.self.entries + 1 ≡ length c.self.inside.held.entries = c.in-Some.ensures.len in
-    let counted = subst (λ slot. MatchBool c.is_next.result (CountsOne slot c.take.new.self c.count_temporary.new.shares) (c.count_temporary.new.shares ≡ c.take.new.self)) c.slot_of-slot.ensures c.count_temporary.ensures.count in
-    let called = called-less c.self.inside.locations _ _ fewer c.in-Some.held c.self.inside.shares c.take.new.self c.self.invariant.2 some.0 amounts c.take.ensures.counts
-    c.count_temporary.new.shares c.is_next.result c.count_temporary.ensures.amounts counted in
+    let at = goal.at.returns-clause-called c in
+    let there = there at.In-Some in
+    let called = called-less c.self.inside.locations _ _ c.in-Some.ensures.len c.in-Some.held c.self.inside.shares c.take.new.self c.self.invariant.2 (some at.In-Some).0 (amounts at.After-take) c.take.ensures.counts
+    c.count_temporary.new.shares c.is_next.result c.count_temporary.ensures.amounts (counted at.After-count_temporary) in
     let what = tells_what c.self.inside.locations c.self.inside.held.entries c.args.self.now.all (ap (λ (state : LedgerState). state.all) c.self.view_is) c.value.result c.args.address c.value.ensures.value
     c.remove.result c.remove.ensures.value in
     subst (λ o. CountsReleased c.args.line o c.args.self.now.called (called_of c.self.inside.locations c.count_temporary.new.shares))
@@ -126,5 +124,5 @@ returns-clause-called c =
     (subst (λ b. MatchBool b (CountsMore (location_of c.self.inside.locations c.in-Some.held.location) 0 0 1 c.args.self.now.called (called_of c.self.inside.locations c.count_temporary.new.shares))
     (called_of c.self.inside.locations c.count_temporary.new.shares ≡ c.args.self.now.called)) c.is_next.ensures
     (released c.self.inside.locations c.in-Some.held.location (kept_there c.self.inside.locations c.self.inside.held.entries (nat_eq c.value.result) c.in-Some.held there c.self.invariant.0.kept).location
-    c.self.inside.shares c.take.new.self c.count_temporary.new.shares _ _ c.self.invariant.2 called c.take.ensures.counts c.is_next.result counted c.args.self.now.called
+    c.self.inside.shares c.take.new.self c.count_temporary.new.shares _ _ c.self.invariant.2 called c.take.ensures.counts c.is_next.result (counted at.After-count_temporary) c.args.self.now.called
     (ap (λ (state : LedgerState). state.called) c.self.view_is)))
