@@ -192,17 +192,18 @@ static inline uint64_t front_of(const void *ptr)
     return word;
 }
 
-static inline bool has_pointer(const struct pool *pool, const void *ptr)
+/* Whether a pool has the pointer, for where the first has not. */
+RARE __attribute__((unused)) static bool is_elsewhere(const struct control *control, const void *ptr)
 {
-    return (uintptr_t)ptr - pool->first < pool->reach;
+    return tlsf_placed_has(&control->at, (uintptr_t)ptr);
 }
 
 /* Whether a pointer lies in a pool of the heap: then the word in front of it. Whether that is the word
  * of a live block is the proved calls' to say. */
 static inline bool read_front(const struct control *control, const void *ptr, uint64_t *word)
 {
-    bool has = has_pointer(&control->at.pools[0], ptr)
-               || tlsf_placed_has(&control->at, (uintptr_t)ptr);
+    const struct pool *first = &control->at.pools[0];
+    bool has = (uintptr_t)ptr - first->first < first->reach || is_elsewhere(control, ptr);
     if (has) {
         *word = front_of(ptr);
     }

@@ -139,7 +139,8 @@ pub extern "C" fn tlsf_placed_malloc(heap: &mut PlacedHeap, bytes: u64, word: &m
     ensures most { heap.new.figures.most_bytes ≡ max heap.old.figures.most_bytes heap.new.figures.bytes }
     ensures bound { AtMost malloc_or_own_touches heap.old.handle.value.touches heap.new.handle.value.touches }
 {
-    if bytes == 0 || bytes > MOST {
+    // What is 0 less 1 is above it, too.
+    if bytes.wrapping_sub(1) >= MOST {
         *word = u64::from(number(refusal_of(bytes)));
         return 0;
     }
@@ -178,10 +179,7 @@ pub(crate) fn find(heap: &mut PlacedHeap, address: u64, word: u64) -> Option<Siz
     let ptr = Ptr::new(place, mark.slot);
     let inner = heap.handle.heap();
     inner.keeps_good();
-    let Ok(size) = inner.block_size(ptr) else {
-        return None;
-    };
-    if u64::from(size) != mark.size {
+    if !inner.has_block(ptr, mark.size) {
         return None;
     }
     Some(Sized {

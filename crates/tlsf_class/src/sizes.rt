@@ -42,25 +42,25 @@ pub fn class_for(size: u32) -> Option<Class>
     requires some { 0 < size }
     ensures { result ≡ need size }
 {
+    if size < SMALL_END {
+        return Some(Class::new(size / UNIT));
+    }
     if size > GREATEST_LOW {
         return None;
     }
     Some(class_of(next_low(size)))
 }
 
-/// The least lowest size at or above `size`.
+/// The least lowest size at or above `size`, which is above level 0.
 fn next_low(size: u32) -> u32
     requires whole { size % unit ≡ 0 }
-    requires some { 0 < size }
+    requires above { unit * steps ≤ size }
     requires most { size ≤ low (classes - 1) }
     ensures unit { result % unit ≡ 0 }
     ensures some { unit ≤ result }
     ensures most { result ≤ greatest_size }
     ensures needed { need size ≡ Some (class result) }
 {
-    if size < SMALL_END {
-        return size;
-    }
     let shift = step_shift(size);
     (((size - 1) >> shift) + 1) << shift
 }

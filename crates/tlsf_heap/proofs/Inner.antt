@@ -37,3 +37,4 @@ pub mod EntryLists
 pub mod Areas
 pub mod Removed
 mod Rows
+pub mod Answered

@@ -17,12 +17,11 @@ use tlsf_store::{Record, Slot, State, Store};
 pub(crate) fn turn(store: &mut Store, block: &Span, state: State)
     requires used { IsUsed store.old.cells.records (Some block.now.slot) }
     requires new_used { state ≢ Vacant }
-    requires next_used { IsUsed store.old.cells.records block.now.next }
     requires read { IsRead block.now store.old.cells.records }
     requires in_units { block.now.size % unit ≡ 0 }
     ensures { LeavesAfter (with_state block.now.slot state store.old.cells) 1 store.old store.new }
 {
-    store.set_block(block.slot, block.size, state, block.next);
+    store.set_state(block.slot, block.size, state);
 }
 
 /// Links a block, if there is one, to the one in front of it in its pool. At most one touch.

@@ -141,7 +141,7 @@ fn merge(store: &mut Store, merged: &Span, behind: Slot, listed: &Record)
     requires { CanMerge merged.now behind listed.now store.old.cells.records (unlinked_by (class listed.now.size) listed.now store.old.cells).records }
     ensures { Leaves (merged_by merged.now behind listed.now store.old.cells) 10 store.old store.new }
 {
-    unlink(store, class_of(listed.size), listed);
+    unlink(store, listed);
     store.set_block(merged.slot, merged.size, State::Live, merged.next);
     set_prev(store, merged.next, merged.slot);
     store.give_vacant(behind);

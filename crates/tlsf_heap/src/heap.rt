@@ -7,7 +7,7 @@ use crate::image::{Image, is_whole, put_image};
 use crate::load::stored;
 use crate::malloc::{malloc, malloc_or_own};
 use crate::memalign::memalign;
-use crate::readings::{block_size, first, largest_request, records_used, row};
+use crate::readings::{block_size, first, has_block, largest_request, records_used, row};
 use crate::realloc::realloc;
 use crate::remove_pool::remove_pool;
 use crate::walk::walk;
@@ -280,6 +280,15 @@ impl Heap {
         ensures read { Reads block_size_touches self.old self.new }
     {
         block_size(&mut self.store, ptr)
+    }
+
+    /// Whether a live block of `size` bytes has both the pointer's place and its slot. At most one touch.
+    #[inline(always)]
+    pub fn has_block(&mut self, ptr: Ptr, size: u64) -> bool
+        ensures value { (result ≡ true) ↔ (block_size_ptr ptr self.old.content ≡ Ok size) }
+        ensures read { Reads block_size_touches self.old self.new }
+    {
+        has_block(&mut self.store, ptr, size)
     }
 
     /// How many records are in use: one for each block, live or free. At most one touch.

@@ -7,16 +7,16 @@ ghost use Rattle.tlsf_heap.specs.Touches.{AtMost, malloc_touches, malloc_or_own_
 ghost use Rattle.tlsf_heap.specs.Content.{IsSize};
 ghost use Rattle.tlsf_heap.specs.Lists.{pick};
 ghost use Rattle.tlsf_heap.specs.Malloc.{malloc, malloc_picked, malloc_rounded};
-ghost use Rattle.tlsf_heap.specs.OwnClass.{own_first, picked_or_own, malloc_or_own};
+ghost use Rattle.tlsf_heap.specs.OwnClass.{own_first, malloc_or_own};
 ghost use Rattle.tlsf_heap.specs.Served.{IsServed};
 ghost use Rattle.tlsf_heap.specs.Inner.Following.{Stands, content_of};
 ghost use Rattle.tlsf_heap.specs.Inner.Nodes.{NodeState, InUse, Listed, is_listed_state};
 ghost use Rattle.tlsf_heap.specs.Inner.At.{At, StandsAt, with_slot, at_turned, at_taken, at_split_off, at_split_rest};
 ghost use Rattle.tlsf_heap.specs.Inner.Spans.{IsRead, IsOfClass};
-ghost use Rattle.tlsf_heap.specs.Inner.Answers.{AnswersOver, IsPick, IsTakeable, IsTakenFor, IsOwnFirst, Leaves};
+ghost use Rattle.tlsf_heap.specs.Inner.Answers.{AnswersOver, IsPickOf, IsTakeable, IsFirstFor, Leaves};
 
 use crate::chains::{split, turn};
-use crate::free_lists::{put_first, unlink};
+use crate::free_lists::{put_first, unlink_first};
 use crate::search::search;
 use crate::span::Span;
 use crate::{Ptr, Refusal};
@@ -51,7 +51,8 @@ pub(crate) fn allocate(store: &mut Store, asked: u32) -> Result<Ptr, Refusal>
     requires size { IsSize asked }
     ensures { AnswersOver result (IsServed (λ slot. malloc_rounded slot (Some asked))) (λ refusal old. (slot : ℕ) → malloc_rounded slot (Some asked) old ≡ Err refusal) malloc_touches store.old store.new }
 {
-    let (class, slot) = pick(store, asked).ok_or(Refusal::NoFit)?;
+    let class = pick(store, asked).ok_or(Refusal::NoFit)?;
+    let slot = store.first(class);
     take(store, class, slot, asked)
 }
 
@@ -70,35 +71,21 @@ pub(crate) fn malloc_or_own(store: &mut Store, n: u64) -> Result<Ptr, Refusal>
         return Err(Refusal::ZeroSize);
     }
     let asked = round(n).ok_or(Refusal::NoFit)?;
-    let (class, slot) = pick_or_own(store, asked).ok_or(Refusal::NoFit)?;
+    let class = match pick(store, asked) {
+        Some(class) => class,
+        None => own_class(store, asked).ok_or(Refusal::NoFit)?,
+    };
+    let slot = store.first(class);
     take(store, class, slot, asked)
 }
 
-/// The block picked for `asked` bytes; where none is, the first of their own class, if it has them. With its
-/// class. At most six touches.
-#[inline(always)]
-fn pick_or_own(store: &mut Store, asked: u32) -> Option<(Class, Slot)>
-    requires stands { Stands store.old.cells }
-    requires size { IsSize asked }
-    ensures found { MatchOption result (picked_or_own asked (content_of store.old.cells) (pick asked (content_of store.old.cells).lists) ≡ None) (λ first. IsTakenFor asked (picked_or_own asked (content_of store.old.cells) (pick asked (content_of store.old.cells).lists)) first.0 first.1 store.old.cells) }
-    ensures left { Leaves store.old.cells 6 store.old store.new }
-{
-    match pick(store, asked) {
-        Some(found) => Some(found),
-        None => {
-            let slot = own_first(store, asked)?;
-            Some((class_of(asked), slot))
-        }
-    }
-}
-
-/// The first block of the class that `asked` bytes are in, if it has as many. At most two touches.
+/// The class that `asked` bytes are in, if the first block of its list has as many. At most two touches.
 #[cold]
 #[inline(never)]
-fn own_first(store: &mut Store, asked: u32) -> Option<Slot>
+fn own_class(store: &mut Store, asked: u32) -> Option<Class>
     requires stands { Stands store.old.cells }
     requires size { IsSize asked }
-    ensures found { MatchOption result (own_first asked (content_of store.old.cells) ≡ None) (λ slot. IsOwnFirst asked slot store.old.cells) }
+    ensures found { MatchOption result (own_first asked (content_of store.old.cells) ≡ None) (λ class. IsFirstFor asked (own_first asked (content_of store.old.cells)) class store.old.cells) }
     ensures left { Leaves store.old.cells 2 store.old store.new }
 {
     let class = class_of(asked);
@@ -107,23 +94,21 @@ fn own_first(store: &mut Store, asked: u32) -> Option<Slot>
     if block.size < asked {
         return None;
     }
-    Some(slot)
+    Some(class)
 }
 
-/// The first block of the first list that isn't empty, at or above the class from which each block holds
-/// `asked` bytes; with its class. At most four touches.
+/// The class of the first list that isn't empty, at or above the class from which each block holds `asked`
+/// bytes. At most three touches.
 #[inline(always)]
-pub(crate) fn pick(store: &mut Store, asked: u32) -> Option<(Class, Slot)>
+pub(crate) fn pick(store: &mut Store, asked: u32) -> Option<Class>
     requires stands { Stands store.old.cells }
     requires whole { asked % unit ≡ 0 }
     requires some { 0 < asked }
-    ensures found { MatchOption result (pick asked (content_of store.old.cells).lists ≡ None) (λ first. IsPick asked first.0 first.1 store.old.cells) }
-    ensures left { Leaves store.old.cells 4 store.old store.new }
+    ensures found { MatchOption result (pick asked (content_of store.old.cells).lists ≡ None) (λ class. IsPickOf asked class store.old.cells) }
+    ensures left { Leaves store.old.cells 3 store.old store.new }
 {
-    let class = class_for(asked)?;
-    let found = search(store, class)?;
-    let slot = store.head(found)?;
-    Some((found, slot))
+    let least = class_for(asked)?;
+    search(store, least)
 }
 
 /// The first `asked` bytes of a block that may be taken, of this class, are a live block. At most 17 touches.
@@ -147,7 +132,7 @@ fn take(store: &mut Store, class: Class, slot: Slot, asked: u32) -> Result<Ptr, 
     let Some(rest) = store.take_vacant() else {
         return Err(Refusal::TableFull);
     };
-    unlink(store, class, &block);
+    unlink_first(store, class, &block);
     split_off(store, &Span::of(slot, &block), rest, asked);
     Ok(ptr)
 }
@@ -157,11 +142,12 @@ pub(crate) fn take_whole(store: &mut Store, class: Class, slot: Slot, block: &Re
     requires stands { (at : At) × StandsAt slot Listed store.old.cells at }
     requires read { block.now ≡ record_at store.old.cells.records slot }
     requires of_class { IsOfClass class block.now }
+    requires first { block.now.prev_free ≡ None }
     requires in_units { block.now.place % unit ≡ 0 }
     ensures leads { (at : At) → StandsAt slot Listed store.old.cells at → StandsAt slot InUse store.new.cells (at_taken at) }
     ensures touches { AtMost 6 store.old.touches store.new.touches }
 {
-    unlink(store, class, block);
+    unlink_first(store, class, block);
     let whole = Span::of(slot, block);
     turn(store, &whole, State::Live);
 }

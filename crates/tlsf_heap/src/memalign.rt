@@ -43,7 +43,8 @@ pub(crate) fn memalign(store: &mut Store, align: u64, n: u64) -> Result<Ptr, Ref
     }
     let asked = round(n).ok_or(Refusal::NoFit)?;
     let align = align as u32;
-    let (class, slot) = pick(store, size_asked(align, asked)).ok_or(Refusal::NoFit)?;
+    let class = pick(store, size_asked(align, asked)).ok_or(Refusal::NoFit)?;
+    let slot = store.first(class);
     split_aligned(store, class, slot, align, asked)
 }
 

@@ -15,8 +15,7 @@ ghost use Rattle.tlsf_heap.specs.Inner.Answers.{AnswersOver};
 
 use crate::Refusal;
 use crate::entries::{entries, entries_without, pool_number, set_entries};
-use crate::malloc::take_whole;
-use tlsf_class::class_of;
+use crate::free_lists::unlink;
 use tlsf_store::{Pool, Record, Slot, Store};
 
 /// The pool that begins at `base` leaves the store, and its one free block its class's list. At most 26 touches.
@@ -51,7 +50,7 @@ fn is_alone(block: &Record) -> bool
 }
 
 /// The one free block of a pool, of this record, leaves its class's list, its record is vacant, and these are
-/// the entries. At most 17 touches.
+/// the entries. At most 16 touches.
 fn drop_pool(store: &mut Store, slot: Slot, block: &Record, entries: &[Pool])
     requires stands { (at : At) × StandsAt slot Listed store.old.cells at }
     requires read { block.now ≡ record_at store.old.cells.records slot }
@@ -60,9 +59,9 @@ fn drop_pool(store: &mut Store, slot: Slot, block: &Record, entries: &[Pool])
     requires few { length entries.now ≤ most_pools }
     requires below { All (λ entry. entry.first < length store.old.cells.records) entries.now }
     ensures leads { (at : At) → StandsAt slot Listed store.old.cells at → at.position.before ≡ [] → at.nodes ≡ [] → entries.now ≡ entries_in (plug at.position.areas_before at.position.areas_behind) → Represents store.new.cells (without_area at) }
-    ensures touches { AtMost 17 store.old.touches store.new.touches }
+    ensures touches { AtMost 16 store.old.touches store.new.touches }
 {
-    take_whole(store, class_of(block.size), slot, block);
+    unlink(store, block);
     store.give_vacant(slot);
     set_entries(store, entries);
 }

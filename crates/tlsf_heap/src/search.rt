@@ -1,6 +1,6 @@
 //! The search for a free block, by the bitmaps.
 
-ghost use Rattle.std.specs.Prelude.{◌≡◌, MatchOption, ℕ, ◌+◌, ◌*◌, ◌<◌, ◌≤◌, length, drop, option_and_then, None, Some, IfSome, IfNone};
+ghost use Rattle.std.specs.Prelude.{◌≡◌, ◌≢◌, MatchOption, ℕ, ◌+◌, ◌*◌, ◌<◌, ◌≤◌, length, drop, option_and_then, None, Some, IfSome, IfNone};
 ghost use Rattle.tlsf_class.specs.Classes.{steps, levels, classes};
 ghost use Rattle.tlsf_store.specs.Cells.{head_at};
 ghost use Rattle.tlsf_heap.specs.Images.Bitmaps.{AreBitmapsOf, HasNoBit, IsLowestFrom, IsLastHead, first_head};
@@ -28,6 +28,7 @@ pub(crate) fn search(store: &mut Store, class: Class) -> Option<Class>
     requires bitmaps { AreBitmapsOf store.old.cells.heads store.old.cells.step_words store.old.cells.level_word }
     requires count { length store.old.cells.heads ≡ classes }
     ensures value { option_and_then (λ found. head_at store.old.cells.heads found) result ≡ first_head (drop class store.old.cells.heads) }
+    ensures listed { IfSome result (λ found. head_at store.old.cells.heads found ≢ None) }
     ensures left { Leaves store.old.cells 3 store.old store.new }
 {
     let level = class.number() / STEPS;
@@ -44,6 +45,7 @@ fn search_levels(store: &mut Store, from: u32) -> Option<Class>
     requires bitmaps { AreBitmapsOf store.old.cells.heads store.old.cells.step_words store.old.cells.level_word }
     requires count { length store.old.cells.heads ≡ classes }
     ensures value { option_and_then (λ found. head_at store.old.cells.heads found) result ≡ first_head (drop (from * steps) store.old.cells.heads) }
+    ensures listed { IfSome result (λ found. head_at store.old.cells.heads found ≢ None) }
     ensures left { Leaves store.old.cells 2 store.old store.new }
 {
     let word = store.level_word();

@@ -1,9 +1,9 @@
 //! A record as the table keeps it, in sixteen bytes.
 
-ghost use Rattle.std.specs.Prelude.{◌≡◌, ◌≢◌, ◌%◌, None};
+ghost use Rattle.std.specs.Prelude.{◌≡◌, ◌≢◌, ◌%◌, ◌==◌, ◌&&◌, None};
 ghost use Rattle.tlsf_class.specs.Classes.{unit};
 ghost use Rattle.tlsf_store.specs.declared.records.State.TheVariants.{Vacant, Free};
-ghost use Rattle.tlsf_store.specs.Records.{most_records, blank, is_vacant, IsBelow, IsKept};
+ghost use Rattle.tlsf_store.specs.Records.{most_records, blank, is_vacant, is_live_state, IsBelow, IsKept};
 ghost use Rattle.tlsf_store.specs.Slots.{link_of};
 ghost use Rattle.tlsf_store.specs.Table.{seen};
 
@@ -65,7 +65,7 @@ impl Packed {
         Record {
             place: self.place,
             size: self.size_word - code,
-            state: if code == 2 { State::Live } else { State::Free },
+            state: if code < 2 { State::Free } else { State::Live },
             prev: link_of(self.prev),
             next: link_of(self.next),
             prev_free: link_of(self.prev_free),
@@ -109,6 +109,22 @@ impl Packed {
         ensures { link_of result ≡ self.now.next }
     {
         self.next
+    }
+
+    /// Whether the record is of a live block of this place and size, a multiple of the unit.
+    pub(crate) fn is_live(&self, place: u32, size: u64) -> bool
+        requires { size % unit ≡ 0 }
+        ensures { result ≡ (is_live_state self.now.state && ((self.now.place == place) && (self.now.size == size))) }
+    {
+        u64::from(self.size_word) == size + 2 && self.place == place
+    }
+
+    /// Writes the size, a multiple of the unit, and the state alone.
+    pub(crate) fn set_state(&mut self, size: u32, state: State)
+        requires { size % unit ≡ 0 }
+        ensures { self.new ≡ record self.old { size = size; state = state } }
+    {
+        self.size_word = size + state as u32;
     }
 
     /// Writes the size, a multiple of the unit, the state and the link `next` alone.

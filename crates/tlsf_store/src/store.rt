@@ -1,10 +1,10 @@
 //! The store.
 
-ghost use Rattle.std.specs.Prelude.{◌≡◌, ◌≢◌, true, ◌+◌, ◌<◌, ◌≤◌, ◌%◌, ◌^◌, ◌⊎◌, ◌↔◌, IfOk, IfSome, IfNone, length, slice_index, None, Err};
+ghost use Rattle.std.specs.Prelude.{◌≡◌, ◌≢◌, ◌==◌, ◌&&◌, true, ◌+◌, ◌<◌, ◌≤◌, ◌%◌, ◌^◌, ◌⊎◌, ◌↔◌, IfOk, IfSome, IfNone, length, slice_index, Some, None, Err};
 ghost use Rattle.tlsf_class.specs.Classes.{unit, levels, classes};
 ghost use Rattle.tlsf_store.specs.declared.errors.StoreError.TheVariants.{BadCount};
 ghost use Rattle.tlsf_store.specs.declared.records.State.TheVariants.{Vacant, Free};
-ghost use Rattle.tlsf_store.specs.Records.{most_records, blank, record_at, vacant_count, IsBelow, IsKept};
+ghost use Rattle.tlsf_store.specs.Records.{most_records, blank, record_at, vacant_count, is_live_state, IsBelow, IsKept};
 ghost use Rattle.tlsf_store.specs.CountedCells.{LeavesAfter};
 ghost use Rattle.tlsf_store.specs.Cells.{with_record, with_head, with_level_word, with_step_word, with_pool, with_taken, head_at, pool_at, most_pools, empty_cells, IsPoolBelow};
 
@@ -139,6 +139,17 @@ impl Store {
         self.table.read_used(slot)
     }
 
+    /// Whether the record of a slot is of a live block of this place and size, a multiple of the unit. One touch.
+    pub fn is_live(&mut self, slot: Slot, place: u32, size: u64) -> bool
+        requires within { slot < length self.old.cells.records }
+        requires in_units { size % unit ≡ 0 }
+        ensures value { result ≡ (is_live_state (record_at self.old.cells.records slot).state && (((record_at self.old.cells.records slot).place == place) && ((record_at self.old.cells.records slot).size == size))) }
+        ensures left { LeavesAfter self.old.cells 1 self.old self.new }
+    {
+        self.touches.tick();
+        self.table.is_live(slot, place, size)
+    }
+
     /// Writes a record that isn't vacant over one that isn't. Places and sizes are multiples of the
     /// unit, links are of records of this store. One touch.
     pub fn write(&mut self, slot: Slot, value: Record)
@@ -150,6 +161,18 @@ impl Store {
     {
         self.touches.tick();
         self.table.edit(slot, |item| *item = Packed::pack(value));
+    }
+
+    /// Writes the size and the state of a record that isn't vacant. One touch: nothing is read.
+    pub fn set_state(&mut self, slot: Slot, size: u32, state: State)
+        requires within { slot < length self.old.cells.records }
+        requires used { (record_at self.old.cells.records slot).state ≢ Vacant }
+        requires new_used { state ≢ Vacant }
+        requires in_units { size % unit ≡ 0 }
+        ensures left { LeavesAfter (with_record self.old.cells slot (record (record_at self.old.cells.records slot) { size = size; state = state })) 1 self.old self.new }
+    {
+        self.touches.tick();
+        self.table.edit(slot, |item| item.set_state(size, state));
     }
 
     /// Writes the size, the state and the link `next` of a record that isn't vacant. One touch: nothing
@@ -223,6 +246,17 @@ impl Store {
     {
         self.touches.tick();
         link_of(self.heads[class.number() as usize])
+    }
+
+    /// The first block of a class's list, which has one. One touch.
+    pub fn first(&mut self, class: Class) -> Slot
+        requires { head_at self.old.cells.heads class ≢ None }
+        ensures value { head_at self.old.cells.heads class ≡ Some result }
+        ensures below { result < length self.old.cells.records }
+        ensures left { LeavesAfter self.old.cells 1 self.old self.new }
+    {
+        self.touches.tick();
+        Slot(self.heads[class.number() as usize])
     }
 
     /// Makes this the first block of a class's list. One touch.

@@ -1,12 +1,13 @@
 //! The table of records, and the chain of those that are vacant.
 
-ghost use Rattle.std.specs.Prelude.{◌≡◌, ◌+◌, ◌<◌, ◌≤◌, ◌≢◌, true, IfOk, MatchOption, length, map, replicate, slice_set, vec_capacity, [], Some};
+ghost use Rattle.std.specs.Prelude.{◌≡◌, ◌==◌, ◌&&◌, ◌%◌, ◌+◌, ◌<◌, ◌≤◌, ◌≢◌, true, IfOk, MatchOption, length, map, replicate, slice_set, vec_capacity, [], Some};
 ghost use Rattle.std.specs.Fn.{FnOnceReturnsAtMut};
+ghost use Rattle.tlsf_class.specs.Classes.{unit};
 ghost use Rattle.tlsf_store.specs.declared.records.Record.{Record};
 ghost use Rattle.tlsf_store.specs.declared.records.State.TheVariants.{Vacant, Free};
 ghost use Rattle.tlsf_store.specs.Slots.{link_of};
 ghost use Rattle.tlsf_store.specs.Table.{seen, IsTable};
-ghost use Rattle.tlsf_store.specs.Records.{most_records, blank, blank_in, record_at, vacant_count, IsKept};
+ghost use Rattle.tlsf_store.specs.Records.{most_records, blank, blank_in, record_at, vacant_count, is_live_state, IsKept};
 
 use super::ghost_count::GhostCount;
 use super::packed::Packed;
@@ -108,6 +109,15 @@ impl Table {
         ensures kept { IsKept (length self.now) result }
     {
         self.items[slot.index()].unpack_used()
+    }
+
+    /// Whether the record of a slot is of a live block of this place and size, a multiple of the unit.
+    pub(crate) fn is_live(&self, slot: Slot, place: u32, size: u64) -> bool
+        requires within { slot < length self.now }
+        requires in_units { size % unit ≡ 0 }
+        ensures { result ≡ (is_live_state (record_at self.now slot).state && (((record_at self.now slot).place == place) && ((record_at self.now slot).size == size))) }
+    {
+        self.items[slot.index()].is_live(place, size)
     }
 
     /// Changes a record that isn't vacant to one that isn't.

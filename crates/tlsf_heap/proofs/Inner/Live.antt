@@ -3,8 +3,9 @@ use Rattle.std.proofs.Common.{◌≡◌, ◌≢◌, ℕ, Bool, true, false, ◌&
 use Rattle.std.specs.Prelude.{◌==◌}
 use Rattle.std.specs.List.{list_any}
 use Rattle.std.proofs.lemmas.Bool.{cases_Bool, eq-eqb, eqb-true, and_parts, false≢true}
-use Rattle.tlsf_store.specs.declared.records.State.TheVariants.{Free, Live}
-use Rattle.tlsf_store.specs.Records.{record_at}
+use Rattle.tlsf_store.specs.declared.records.State.{State}
+use Rattle.tlsf_store.specs.declared.records.State.TheVariants.{Vacant, Free, Live}
+use Rattle.tlsf_store.specs.Records.{record_at, is_live_state}
 use Rattle.tlsf_store.specs.Cells.{Cells}
 use Rattle.tlsf_heap.specs.Content.{Block, Content, blocks_of, is_at, size_at}
 use Rattle.tlsf_heap.specs.Good.{times, IsGood}
@@ -58,6 +59,12 @@ agree_once cells layout was good = record {
 }
 
 -- what is known of a node at its position, in the state that it has
+-- a state that is of a live block
+pub state_live : (state : State) → is_live_state state ≡ true → state ≡ Live
+state_live Vacant is = absurd (cc)
+state_live Free is = absurd (cc)
+state_live Live is = refl
+
 module _ (cells : Cells) (stands : Stands cells) (place slot : ℕ) (node_state : NodeState) (by : NodeAt place slot node_state cells stands.layout) where
   -- the layout with the node in this state
   node_laid : stands.layout ≡ layout_at (record by.at { node = turned node_state by.at.node })

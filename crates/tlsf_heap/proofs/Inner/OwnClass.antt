@@ -44,6 +44,7 @@ module _ (cells : Cells) (stands : Stands cells) (number : ℕ) (below : number 
   pub record IsFirst (slot : ℕ) : Type 0 where
     pub free : (record_at cells.records slot).state ≡ Free
     pub of_class : number ≡ class (record_at cells.records slot).size
+    pub first : (record_at cells.records slot).prev_free ≡ None
     pub rest : List ℕ
     pub list : list_of number (content_of cells).lists ≡ (record_at cells.records slot).place ∷ rest
     pub size : size_at (record_at cells.records slot).place (blocks_of (content_of cells).pools) ≡ (record_at cells.records slot).size
@@ -62,6 +63,7 @@ module _ (cells : Cells) (stands : Stands cells) (number : ℕ) (below : number 
           subst P at (record {
             free = says.0;
             of_class = sym listed.of_class;
+            first = says.2;
             rest = map (λ (n : Node). n.place) ns;
             list = list_is ∙ ap (map (λ (n : Node). n.place)) e ∙ ap (λ p. p ∷ map (λ (n : Node). n.place) ns) (sym says.1);
             size = node_size cells stands (record_at cells.records node.slot).place node.slot Listed by ∙ sym (size_read cells node.slot Listed by.at by.stands);
@@ -85,6 +87,7 @@ module _ (cells : Cells) (stands : Stands cells) (asked : ℕ) (below : class as
       record {
         takeable = record {
           of_class = first.of_class;
+          first = first.first;
           free = first.free;
           number = class asked;
           below = below;

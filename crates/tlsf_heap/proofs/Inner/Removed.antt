@@ -16,10 +16,10 @@ use Rattle.tlsf_heap.specs.Lists.{unlink}
 use Rattle.tlsf_heap.specs.Good.{AreGoodPools, IsGood}
 use Rattle.tlsf_heap.specs.Pools.{is_based, is_unused, without_pool, remove_found, remove_pool}
 use Rattle.tlsf_heap.specs.Inner.Entries.{entries_of, padded}
-use Rattle.tlsf_heap.specs.Inner.Nodes.{InUse, Listed, Node, Area, turned, left, has_slot, nodes_of, block_of, pool_of, content_by, entries_in}
+use Rattle.tlsf_heap.specs.Inner.Nodes.{Loose, Listed, Node, Area, turned, left, has_slot, nodes_of, block_of, pool_of, content_by, entries_in}
 use Rattle.tlsf_heap.specs.Inner.Positions.{plug, Position, filled, is_loose}
 use Rattle.tlsf_heap.specs.Inner.Represents.{IsChain, pool_views, first_slot, Represents}
-use Rattle.tlsf_heap.specs.Inner.At.{At, layout_at, StandsAt, at_taken, without_area}
+use Rattle.tlsf_heap.specs.Inner.At.{At, layout_at, StandsAt, at_unlisted, without_area}
 use Rattle.tlsf_heap.specs.Inner.Following.{Stands, content_of}
 use Rattle.tlsf_heap.proofs.Good.RemovedPool.{others, found_among, none_found, one_block, without_pool_is_good, removed}
 use Rattle.tlsf_heap.proofs.Inner.Plugs.{map-plug, all_parts, count-nodes, count-nodes-plug}
@@ -52,19 +52,19 @@ entries_plug : (front behind : List Area) → entries_in (plug front behind) ≡
 entries_plug front behind = map-plug (λ (area : Area). area.entry) front behind
 
 -- the store's pools hang on the entries alone
-pub pools_stay : (old new : Cells) (slot : ℕ) (at : At) → StandsAt slot Listed old at → StandsAt slot InUse new (at_taken at) → (new.pools ≡ old.pools) × (length new.records ≡ length old.records)
+pub pools_stay : (old new : Cells) (slot : ℕ) (at : At) → StandsAt slot Listed old at → StandsAt slot Loose new (at_unlisted at) → (new.pools ≡ old.pools) × (length new.records ≡ length old.records)
 pools_stay old new slot at was is =
     let position : Position = at.position in
     let area : List Node → Area = λ nodes. record { entry = position.entry; nodes = plug position.before nodes } in
-    let same : entries_in (filled position (turned InUse at.node ∷ at.nodes)) ≡ entries_in (filled position (at.node ∷ at.nodes)) =
-    entries_plug position.areas_before (area (turned InUse at.node ∷ at.nodes) ∷ position.areas_behind) ∙ sym (entries_plug position.areas_before (area (at.node ∷ at.nodes) ∷ position.areas_behind)) in
+    let same : entries_in (filled position (turned Loose at.node ∷ at.nodes)) ≡ entries_in (filled position (at.node ∷ at.nodes)) =
+    entries_plug position.areas_before (area (turned Loose at.node ∷ at.nodes) ∷ position.areas_behind) ∙ sym (entries_plug position.areas_before (area (at.node ∷ at.nodes) ∷ position.areas_behind)) in
     (is.0.entries ∙ ap padded same ∙ sym was.0.entries, is.0.count ∙ sym was.0.count)
 
 -- the one node of an area leaves, once it is in no list
-pub area_leaves : (cells : Cells) (slot : ℕ) (at : At) → StandsAt slot InUse cells (at_taken at) → at.position.before ≡ [] → at.nodes ≡ [] → Represents (pool_dropped slot (entries_in (plug at.position.areas_before at.position.areas_behind)) cells) (without_area at)
+pub area_leaves : (cells : Cells) (slot : ℕ) (at : At) → StandsAt slot Loose cells (at_unlisted at) → at.position.before ≡ [] → at.nodes ≡ [] → Represents (pool_dropped slot (entries_in (plug at.position.areas_before at.position.areas_behind)) cells) (without_area at)
 area_leaves cells slot at stands none_before none_behind =
-    let node : Node = turned InUse at.node in
-    let P : List Node → List Node → Type 0 = λ before nodes. Represents cells (layout_at (record (at_taken at) { position = record at.position { before = before }; nodes = nodes })) in
+    let node : Node = turned Loose at.node in
+    let P : List Node → List Node → Type 0 = λ before nodes. Represents cells (layout_at (record (at_unlisted at) { position = record at.position { before = before }; nodes = nodes })) in
     let Q : ℕ → Type 0 = λ q. Represents (pool_dropped q (entries_in (plug at.position.areas_before at.position.areas_behind)) cells) (without_area at) in
     let alone : P [] [] = subst (λ nodes. P [] nodes) none_behind (subst (λ before. P before at.nodes) none_before stands.0) in
     subst Q stands.1.slot_is (pool_leaves cells at.count at.position.areas_before at.position.areas_behind (left (turned Listed at.node) at.lists) at.position.entry node at.taken alone refl)

@@ -1,12 +1,12 @@
 -- What stands after a free block was taken, whole or in part, and that it is what malloc gives.
-use Rattle.std.proofs.Common.{◌≡◌, ℕ, ◌+◌, ◌-◌, ◌++◌, ◌%◌, ◌<◌, ◌≤◌, Bool, true, false, cond, ◌&&◌, ◌∷◌, length, refl, sym, ap, ◌∙◌, subst, arith, Some, Ok, Err, inl, inr}
+use Rattle.std.proofs.Common.{◌≡◌, ℕ, ◌+◌, ◌-◌, ◌++◌, ◌%◌, ◌<◌, ◌≤◌, Bool, true, false, cond, ◌&&◌, List, ◌∷◌, length, refl, sym, ap, ◌∙◌, subst, arith, Option, Some, Ok, Err, inl, inr}
 use Rattle.std.specs.Prelude.{nat_lt, nat_le}
 use Rattle.std.proofs.lemmas.Bool.{ne_eqb, cases_lt, eq-eqb, lt-ltb, le-ltb, le-leb, lt-leb, and_left, and_right}
 use Rattle.std.proofs.lemmas.List.{length-map}
 use Rattle.tlsf_class.specs.Classes.{unit}
 use Rattle.tlsf_store.specs.declared.records.State.TheVariants.{Free}
 use Rattle.tlsf_store.specs.Records.{blank, blank_in, record_at, vacant_count}
-use Rattle.tlsf_store.specs.Cells.{Cells}
+use Rattle.tlsf_store.specs.Cells.{Cells, head_at}
 use Rattle.tlsf_store.proofs.RecordLaws.{vacant_count-take}
 use Rattle.tlsf_heap.specs.declared.refusal.Refusal.TheVariants.{TableFull}
 use Rattle.tlsf_heap.specs.GoodSlots.{is_slot, slot_times}
@@ -15,7 +15,7 @@ use Rattle.tlsf_heap.specs.Malloc.{allocated, malloc_picked}
 use Rattle.tlsf_heap.specs.Good.{IsGood}
 use Rattle.tlsf_heap.specs.Inner.Nodes.{NodeState, InUse, Listed, Node, Layout, turned, owner_of, block_of, content_by, nodes_of, has_slot, gap_nodes, entered_gap}
 use Rattle.tlsf_heap.specs.Inner.Following.{content_of, Stands}
-use Rattle.tlsf_heap.specs.Inner.Answers.{IsPick, IsTakeable}
+use Rattle.tlsf_heap.specs.Inner.Answers.{IsPick, IsPickOf, IsTakeable, IsTakenFor, IsFirstFor}
 use Rattle.tlsf_heap.specs.Inner.At.{At, areas_at, layout_at, StandsAt, at_taken, at_split_off, at_split_rest}
 use Rattle.tlsf_heap.proofs.Good.MallocIsGood.{Picked, listed_picked, pick_listed, allocated_is_good}
 use Rattle.tlsf_heap.specs.Inner.Positions.{is_loose}
@@ -48,7 +48,21 @@ takeable_picked cells stands asked class slot is = listed_picked asked (record_a
 pub pick_takeable : (cells : Cells) (stands : Stands cells) (asked class slot : ℕ) → IsPick asked class slot cells → IsTakeable asked class slot cells
 pick_takeable cells stands asked class slot is =
     let listed = pick_listed asked (record_at cells.records slot).place (content_of cells) (content_is_good cells stands) is.found in
-    record { of_class = is.of_class; free = is.free; number = listed.0; below = listed.1; stands = listed.2; holds = listed.3 }
+    record { of_class = is.of_class; first = is.first; free = is.free; number = listed.0; below = listed.1; stands = listed.2; holds = listed.3 }
+
+-- the first block that is read is the one that is told
+first_same : (heads : List (Option ℕ)) (class slot other : ℕ) → head_at heads class ≡ Some slot → head_at heads class ≡ Some other → slot ≡ other
+first_same heads class slot other is too = cc
+
+-- the first block of the class that is picked
+pub first_picked : (old new : Cells) (asked class slot : ℕ) → IsPickOf asked class old → head_at old.heads class ≡ Some slot → new ≡ old → IsPick asked class slot new
+first_picked old new asked class slot is head same =
+    subst (λ cells. IsPick asked class slot cells) (sym same) (subst (λ s. IsPick asked class s old) (first_same old.heads class is.0 slot is.1 head) is.2)
+
+-- and of the one that may be taken
+pub first_taken : (old new : Cells) (asked : ℕ) (place : Option ℕ) (class slot : ℕ) → IsFirstFor asked place class old → head_at old.heads class ≡ Some slot → new ≡ old → IsTakenFor asked place class slot new
+first_taken old new asked place class slot is head same =
+    subst (λ cells. IsTakenFor asked place class slot cells) (sym same) (subst (λ s. IsTakenFor asked place class s old) (first_same old.heads class is.0 slot is.1 head) is.2)
 
 module _ (cells : Cells) (stands : Stands cells) (place slot asked : ℕ) (by : NodeAt place slot Listed cells stands.layout) (some : 0 < asked) (whole : asked % unit ≡ 0) (is : Picked asked place (content_of cells)) where
   pub holds : asked ≤ by.at.node.size

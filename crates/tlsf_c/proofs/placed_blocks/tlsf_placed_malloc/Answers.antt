@@ -8,8 +8,8 @@ use Rattle.tlsf_c.specs.PlacedHeaps.{malloc_with_front}
 use Rattle.tlsf_c.proofs.PlacedLemmas.{with_front, lies_somewhere, given_at}
 use Rattle.tlsf_c.proofs.placed_blocks.tlsf_placed_malloc.Goals as goal
 
-pub returns-then-bytes-eq0-clause-refused : goal.returns-then-bytes-eq0-clause-refused
-returns-then-bytes-eq0-clause-refused c = λ none. record {
+pub returns-then-bytes-ge-MOST-clause-refused : goal.returns-then-bytes-ge-MOST-clause-refused
+returns-then-bytes-ge-MOST-clause-refused c = λ none. record {
   refusal = c.refusal_of.result;
   refused = λ slot. c.refusal_of.ensures slot c.args.heap.now.handle.value.content;
   number_is = search rules;
@@ -29,5 +29,5 @@ returns-in-Ok-clause-given c = λ some.
     let size : ℕ = (c.args.bytes + 8 + 15) / 16 * 16 in
     let lies = subst (λ (h : Counted). LiesIn ptr.place size (map range_of h.content.pools)) c.heap.ensures.value c.in-Ok.ensures.lies in
     let served = subst (λ (h : Counted). IsServed (λ slot. malloc_or_own slot (c.args.bytes + 8)) ptr h.content c.allocate.new.heap.content) c.heap.ensures.value c.in-Ok.ensures.ok in
-    let given : IsServed (λ slot. malloc_with_front slot c.args.bytes) ptr heap.handle.value.content c.allocate.new.heap.content = record { ok = with_front ptr.slot c.args.bytes heap.handle.value.content c.if-bytes-eq0.false ∙ served.ok; slot_below = served.slot_below; slot_new = served.slot_new } in
+    let given : IsServed (λ slot. malloc_with_front slot c.args.bytes) ptr heap.handle.value.content c.allocate.new.heap.content = record { ok = with_front ptr.slot c.args.bytes heap.handle.value.content (λ none. absurd (omega (arith, none, c.if-bytes-ge-MOST.false))) ∙ served.ok; slot_below = served.slot_below; slot_new = served.slot_new } in
     given_at (λ slot. malloc_with_front slot c.args.bytes) c.args.bytes c.place_block.result size ptr heap.pools heap.handle.value.content c.allocate.new.heap.content heap.entries given lies (omega arith) c.place_block.ensures.at

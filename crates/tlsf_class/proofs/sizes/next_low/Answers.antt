@@ -1,10 +1,7 @@
 -- A size rounded up to its level's step is a lowest size.
 use Rattle.std.proofs.Common.{◌≡◌, ℕ, ◌+◌, ◌-◌, ◌*◌, ◌/◌, ◌%◌, ◌^◌, ◌<◌, arith}
-use Rattle.tlsf_class.proofs.Shifts.{IsShift, IsNextLow, need-small, next_low-shift, low-last}
+use Rattle.tlsf_class.proofs.Shifts.{IsShift, IsNextLow, next_low-shift, low-last}
 use Rattle.tlsf_class.proofs.sizes.next_low.Goals as goal
-
-pub returns-then-size-lt-SMALL_END-clause-needed : goal.returns-then-size-lt-SMALL_END-clause-needed
-returns-then-size-lt-SMALL_END-clause-needed c = need-small c.args.size c.requires.whole c.if-size-lt-SMALL_END.true
 
 pub step_shift-shift-requires-clause-most : goal.step_shift-shift-requires-clause-most
 step_shift-shift-requires-clause-most c = omega (arith, low-last)

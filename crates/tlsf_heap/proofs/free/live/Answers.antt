@@ -6,16 +6,11 @@ use Rattle.tlsf_store.specs.declared.records.State.{State}
 use Rattle.tlsf_store.specs.declared.records.State.TheVariants.{Vacant, Free, Live}
 use Rattle.tlsf_store.specs.Records.{blank, record_at, is_live_state}
 use Rattle.tlsf_store.specs.Cells.{Cells}
-use Rattle.tlsf_heap.proofs.Inner.Live.{not_live, has_live}
+use Rattle.tlsf_heap.proofs.Inner.Live.{state_live, not_live, has_live}
 use Rattle.tlsf_heap.proofs.free.live.Goals as goal
 
 Vacant≢Live : Vacant ≢ Live
 Vacant≢Live = λ e. cc
-
-state_live : (s : State) → is_live_state s ≡ true → s ≡ Live
-state_live Vacant is = absurd (cc)
-state_live Free is = absurd (cc)
-state_live Live is = refl
 
 -- a record that is of a live block at the place, or isn't
 is_live_record : (block : Record) (place : ℕ) → (is_live_state block.state && nat_eq block.place place) ≡ true → (block.state ≡ Live) × (block.place ≡ place)

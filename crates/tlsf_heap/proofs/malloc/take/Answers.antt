@@ -15,7 +15,7 @@ use Rattle.tlsf_heap.proofs.Inner.Spans.{read_of, read_stays}
 use Rattle.tlsf_heap.proofs.Inner.Live.{free_at}
 use Rattle.tlsf_heap.proofs.Inner.TakenBlock.{takeable_picked, room_left, holds, whole_stands, part_stands, full_refused, slot_below, slot_new}
 use Rattle.tlsf_heap.proofs.malloc.take.Goals as goal
-use Rattle.tlsf_heap.proofs.malloc.take.Goals.{In-Some, After-unlink}
+use Rattle.tlsf_heap.proofs.malloc.take.Goals.{In-Some, After-unlink_first}
 
 -- the size that was read is the node's
 size_is : (old : Cells) (slot : ℕ) (at : At) (block : Record) → StandsAt slot Listed old at → block ≡ record_at old.records slot → block.size ≡ at.node.size
@@ -86,30 +86,33 @@ ready c =
       kept old c.read_used-block.new.self.cells c.take_vacant.new.self.cells c.take_vacant.result c.args.slot c.in-Some.rest c.read_used-block.result c.requires.takeable.free c.read_used-block.ensures.left.cells c.in-Some.is c.take_vacant.ensures.left.cells c.in-Some.ensures.vacant c.read_used-block.ensures.value,
     )
 
-pub unlink-requires-clause-prev_used : goal.unlink-requires-clause-prev_used
-unlink-requires-clause-prev_used c = let r = ready (goal.at.unlink-requires-clause-prev_used c).In-Some in (listed_read c.take_vacant.new.self.cells c.args.slot c.read_used-block.result _ r.0 r.1).prev_used
+pub take_whole-requires-clause-first : goal.take_whole-requires-clause-first
+take_whole-requires-clause-first c = rw c.read_used-block.ensures.value c.requires.takeable.first
 
-pub unlink-requires-clause-next_used : goal.unlink-requires-clause-next_used
-unlink-requires-clause-next_used c = let r = ready (goal.at.unlink-requires-clause-next_used c).In-Some in (listed_read c.take_vacant.new.self.cells c.args.slot c.read_used-block.result _ r.0 r.1).next_used
+pub unlink_first-requires-clause-first : goal.unlink_first-requires-clause-first
+unlink_first-requires-clause-first c = rw c.read_used-block.ensures.value c.requires.takeable.first
+
+pub unlink_first-requires-clause-next_used : goal.unlink_first-requires-clause-next_used
+unlink_first-requires-clause-next_used c = let r = ready (goal.at.unlink_first-requires-clause-next_used c).In-Some in (listed_read c.take_vacant.new.self.cells c.args.slot c.read_used-block.result _ r.0 r.1).next_used
 
 -- and once it left its list
-unlisted : (c : After-unlink) → StandsAt c.args.slot Listed c.take_vacant.new.self.cells (with_slot c.in-Some.rest (free_at c.args.store.now.cells c.requires.stands c.args.slot c.requires.takeable.free).at) × (c.read_used-block.result ≡ record_at c.take_vacant.new.self.cells.records c.args.slot)
-    → StandsAt c.args.slot Loose c.unlink.new.store.cells (with_slot c.in-Some.rest (at_unlisted (free_at c.args.store.now.cells c.requires.stands c.args.slot c.requires.takeable.free).at))
+unlisted : (c : After-unlink_first) → StandsAt c.args.slot Listed c.take_vacant.new.self.cells (with_slot c.in-Some.rest (free_at c.args.store.now.cells c.requires.stands c.args.slot c.requires.takeable.free).at) × (c.read_used-block.result ≡ record_at c.take_vacant.new.self.cells.records c.args.slot)
+    → StandsAt c.args.slot Loose c.unlink_first.new.store.cells (with_slot c.in-Some.rest (at_unlisted (free_at c.args.store.now.cells c.requires.stands c.args.slot c.requires.takeable.free).at))
 unlisted c r =
     let by = free_at c.args.store.now.cells c.requires.stands c.args.slot c.requires.takeable.free in
-    read_leaves c.take_vacant.new.self.cells c.unlink.new.store.cells c.args.slot c.args.class c.read_used-block.result (with_slot c.in-Some.rest by.at) r.0 r.1 (rw c.read_used-block.ensures.value c.requires.takeable.of_class) c.unlink.ensures.cells
+    read_leaves c.take_vacant.new.self.cells c.unlink_first.new.store.cells c.args.slot c.args.class c.read_used-block.result (with_slot c.in-Some.rest by.at) r.0 r.1 (rw c.read_used-block.ensures.value c.requires.takeable.of_class) c.unlink_first.ensures.cells
 
 pub split_off-requires-clause-stands : goal.split_off-requires-clause-stands
 split_off-requires-clause-stands c =
     let by = free_at c.args.store.now.cells c.requires.stands c.args.slot c.requires.takeable.free in
-    rw c.of.ensures (Loose, at_unlisted by.at, refl, unlisted (goal.at.split_off-requires-clause-stands c).After-unlink (ready (goal.at.split_off-requires-clause-stands c).In-Some))
+    rw c.of.ensures (Loose, at_unlisted by.at, refl, unlisted (goal.at.split_off-requires-clause-stands c).After-unlink_first (ready (goal.at.split_off-requires-clause-stands c).In-Some))
 
 pub split_off-requires-clause-read : goal.split_off-requires-clause-read
 split_off-requires-clause-read c =
     let by = free_at c.args.store.now.cells c.requires.stands c.args.slot c.requires.takeable.free in
     let at : At = with_slot c.in-Some.rest by.at in
     let r = ready (goal.at.split_off-requires-clause-read c).In-Some in
-    rw c.of.ensures (read_stays c.take_vacant.new.self.cells c.unlink.new.store.cells (span_of c.args.slot c.read_used-block.result) Listed Loose at (at_unlisted at) r.0 (unlisted (goal.at.split_off-requires-clause-read c).After-unlink r) refl
+    rw c.of.ensures (read_stays c.take_vacant.new.self.cells c.unlink_first.new.store.cells (span_of c.args.slot c.read_used-block.result) Listed Loose at (at_unlisted at) r.0 (unlisted (goal.at.split_off-requires-clause-read c).After-unlink_first r) refl
     (read_of c.take_vacant.new.self.cells.records c.args.slot c.read_used-block.result r.1 c.read_used-block.ensures.kept.place))
 
 pub split_off-requires-clause-less : goal.split_off-requires-clause-less
@@ -121,7 +124,7 @@ split_off-requires-clause-less c =
     rw c.of.ensures (omega (arith, least, size, c.if-block-asked.false))
 
 -- what a part leaves
-part : (c : goal.After-split_off) → StandsAt c.args.slot Loose c.unlink.new.store.cells (with_slot c.in-Some.rest (at_unlisted (free_at c.args.store.now.cells c.requires.stands c.args.slot c.requires.takeable.free).at))
+part : (c : goal.After-split_off) → StandsAt c.args.slot Loose c.unlink_first.new.store.cells (with_slot c.in-Some.rest (at_unlisted (free_at c.args.store.now.cells c.requires.stands c.args.slot c.requires.takeable.free).at))
     → Stands c.split_off.new.store.cells × (malloc_picked c.args.slot c.args.asked (Some (record_at c.args.store.now.cells.records c.args.slot).place) (content_of c.args.store.now.cells) ≡ Ok ((record_at c.args.store.now.cells.records c.args.slot).place, content_of c.split_off.new.store.cells))
 part c left =
     let old : Cells = c.args.store.now.cells in
@@ -135,7 +138,7 @@ part c left =
 
 pub returns : goal.returns
 returns c =
-    let left = unlisted (goal.at.returns c).After-unlink (ready (goal.at.returns c).In-Some) in
+    let left = unlisted (goal.at.returns c).After-unlink_first (ready (goal.at.returns c).In-Some) in
     record {
       stands = (part c left).0;
       ok = record {

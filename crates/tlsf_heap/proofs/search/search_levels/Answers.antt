@@ -2,6 +2,7 @@
 use Rattle.std.proofs.Common.{ℕ, sym, arith}
 use Rattle.tlsf_store.specs.Cells.{Cells}
 use Rattle.tlsf_heap.proofs.Bits.Search.{passes_all, found_above, has_step, level_within}
+use Rattle.tlsf_heap.proofs.Bits.LastHead.{bit_has_head}
 use Rattle.tlsf_heap.proofs.search.search_levels.Goals as goal
 
 pub returns-in_err-level-clause-value : goal.returns-in_err-level-clause-value
@@ -35,3 +36,11 @@ returns-clause-value c =
     let low = rw (c.step_word.ensures.value, c.level_word-word.ensures.left.cells) at c.in_ok-step.ensures in
     rw c.new.ensures
     (found_above old.heads old.step_words old.level_word c.requires.bitmaps c.requires.count c.args.from level c.in_ok-step.step below high low)
+
+pub returns-clause-listed : goal.returns-clause-listed
+returns-clause-listed c =
+    let old : Cells = c.args.store.now.cells in
+    let below = level_within c.level_word-word.result c.in_ok-level.level c.level_word-word.ensures.below c.in_ok-level.ensures.2 in
+    let low = rw (c.step_word.ensures.value, c.level_word-word.ensures.left.cells) at c.in_ok-step.ensures in
+    rw c.new.ensures
+    (bit_has_head old.heads old.step_words old.level_word c.requires.bitmaps c.requires.count c.in_ok-level.level c.in_ok-step.step below (omega (arith, low.1)) low.2)

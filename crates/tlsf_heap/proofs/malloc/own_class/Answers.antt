@@ -6,7 +6,7 @@ use Rattle.tlsf_store.specs.declared.records.State.TheVariants.{Free, Vacant}
 use Rattle.tlsf_store.specs.Records.{record_at}
 use Rattle.tlsf_store.specs.Cells.{Cells, head_at}
 use Rattle.tlsf_heap.proofs.Inner.OwnClass.{is_first, own_none, own_small, own_taken}
-use Rattle.tlsf_heap.proofs.malloc.own_first.Goals as goal
+use Rattle.tlsf_heap.proofs.malloc.own_class.Goals as goal
 
 -- the head of the class that the bytes are in
 head_was : (cells : Cells) (asked number : ℕ) (head was : Option ℕ) → number ≡ class asked → head ≡ head_at cells.heads number → head ≡ was → head_at cells.heads (class asked) ≡ was
@@ -36,6 +36,6 @@ returns-then-block-asked-clause-found c =
 pub returns-clause-found : goal.returns-clause-found
 returns-clause-found c =
     let cells : Cells = c.args.store.now.cells in
-    (own_taken cells c.requires.stands c.args.asked (class-lt c.args.asked) c.in_ok-slot.slot
-    (head_was cells c.args.asked c.class_of-class.result c.head.result (Some c.in_ok-slot.slot) c.class_of-class.ensures c.head.ensures.value c.in_ok-slot.was)
+    let head = head_was cells c.args.asked c.class_of-class.result c.head.result (Some c.in_ok-slot.slot) c.class_of-class.ensures c.head.ensures.value c.in_ok-slot.was in
+    rw c.class_of-class.ensures (c.in_ok-slot.slot, head, own_taken cells c.requires.stands c.args.asked (class-lt c.args.asked) c.in_ok-slot.slot head
     (omega (arith, c.if-block-asked.false, ap (λ (r : Record). r.size) c.read_used-block.ensures.value, ap (λ (x : Cells). (record_at x.records c.in_ok-slot.slot).size) c.head.ensures.left.cells)))
