@@ -201,26 +201,24 @@ RARE static void *refuse_bytes(struct control *control, uint64_t status, const v
     return bytes == 0u ? NULL : refuse(control, kinds[status], ptr, bytes);
 }
 
-/* The pointer to a new block at the address, or the refusal that its word tells. */
-static inline void *hand_out(struct control *control, uint64_t address, uint64_t word, size_t bytes)
+/* The pointer to a new block, or the refusal that its word tells. */
+static inline void *hand_out(struct control *control, struct placed_block block, size_t bytes)
 {
-    if (address == 0u) {
-        return refuse_bytes(control, word, NULL, bytes);
+    if (block.address == 0u) {
+        return refuse_bytes(control, block.word, NULL, bytes);
     }
-    write_front((uintptr_t)address, word);
+    write_front((uintptr_t)block.address, block.word);
     control->most = (uint32_t)control->at.live.most_bytes;
-    return (void *)(uintptr_t)address;
+    return (void *)(uintptr_t)block.address;
 }
 
 void *tlsf_malloc(tlsf_t tlsf, size_t bytes)
 {
     ON_HEAP(tlsf);
-    uint64_t word = 0;
     if (control == NULL) {
         return NULL;
     }
-    uint64_t address = tlsf_placed_malloc(&control->at, bytes, &word);
-    return hand_out(control, address, word, bytes);
+    return hand_out(control, tlsf_placed_malloc(&control->at, bytes), bytes);
 }
 
 void *tlsf_memalign(tlsf_t tlsf, size_t align, size_t bytes)
@@ -229,15 +227,14 @@ void *tlsf_memalign(tlsf_t tlsf, size_t align, size_t bytes)
         return tlsf_malloc(tlsf, bytes);
     }
     ON_HEAP(tlsf);
-    uint64_t word = TLSF_BAD_ALIGN;
-    uint64_t address = 0;
+    struct placed_block block = {.word = TLSF_BAD_ALIGN};
     if (control == NULL) {
         return NULL;
     }
     if (align <= TLSF_MOST_ALIGN) {
-        address = tlsf_placed_memalign(&control->at, align, bytes, &word);
+        block = tlsf_placed_memalign(&control->at, align, bytes);
     }
-    return hand_out(control, address, word, bytes);
+    return hand_out(control, block, bytes);
 }
 
 void tlsf_free(tlsf_t tlsf, void *ptr)
@@ -272,7 +269,7 @@ static void *resize(struct control *control, void *ptr, size_t size)
                                                          : refuse_bytes(control, word, ptr, size);
     }
     write_front((uintptr_t)ptr, (uintptr_t)ptr);
-    void *now = hand_out(control, address, word, size);
+    void *now = hand_out(control, (struct placed_block){address, word}, size);
     return copied == 0u ? now : memcpy(now, ptr, (size_t)copied);
 }
 

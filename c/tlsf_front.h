@@ -85,6 +85,13 @@ struct row {
     bool used;
 };
 
+/* A block that a call gives: its address, and the word of its front. Where the call is refused the
+ * address is 0, and the word is the status. */
+struct placed_block {
+    uint64_t address;
+    uint64_t word;
+};
+
 /* Where the table of a heap lies, and its first pool, with the bytes that are left for it. */
 struct places {
     uint64_t table;
@@ -95,9 +102,8 @@ struct places {
 /* The proved calls. Addresses and words are numbers here. The word of a block is what stands in the
  * eight bytes in front of its address.
  *
- * tlsf_placed_malloc answers the address of a live block, a multiple of 16, and gives *word its word.
- * Where the heap refuses it answers 0, and *word is the status. tlsf_placed_memalign does the same, and
- * the address is a multiple of `align`. tlsf_placed_free answers 0 exactly where the block at the
+ * tlsf_placed_malloc answers a live block, whose address is a multiple of 16. tlsf_placed_memalign does
+ * the same, and the address is a multiple of `align`. tlsf_placed_free answers 0 exactly where the block at the
  * address is live and has this word, and TLSF_BAD_POINTER else. tlsf_placed_block_size answers the
  * bytes behind the front of that block, and 0 where there is none. tlsf_placed_realloc gives it room
  * for `bytes` bytes, and answers its address then, with the word in *word. It copies no byte: *copied
@@ -124,8 +130,8 @@ struct places {
  * tlsf_placed_moved_front is told a row of a pool that began at the address `from`, and begins at `to`.
  * *word is what stood in front of the row's address, and gets what stands there now. The call answers
  * whether that is the word of a live block with the row's bytes. */
-uint64_t tlsf_placed_malloc(struct placed *heap, uint64_t bytes, uint64_t *word);
-uint64_t tlsf_placed_memalign(struct placed *heap, uint64_t align, uint64_t bytes, uint64_t *word);
+struct placed_block tlsf_placed_malloc(struct placed *heap, uint64_t bytes);
+struct placed_block tlsf_placed_memalign(struct placed *heap, uint64_t align, uint64_t bytes);
 enum tlsf_status tlsf_placed_free(struct placed *heap, uint64_t address, uint64_t word);
 uint64_t tlsf_placed_block_size(struct placed *heap, uint64_t address, uint64_t word);
 uint64_t tlsf_placed_realloc(struct placed *heap, uint64_t address, uint64_t bytes, uint64_t *word,

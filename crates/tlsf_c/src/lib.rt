@@ -16,6 +16,7 @@ mod live_count;
 mod live_figures;
 mod made;
 mod placed_aligned;
+mod placed_block;
 mod placed_blocks;
 mod placed_check;
 mod placed_fronts;

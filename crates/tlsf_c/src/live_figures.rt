@@ -25,7 +25,9 @@ impl LiveFigures {
         ensures most { self.new.most_bytes ≡ max self.old.most_bytes self.new.bytes }
     {
         self.bytes = self.bytes - had + has;
-        self.most_bytes = self.most_bytes.max(self.bytes);
+        if self.bytes > self.most_bytes {
+            self.most_bytes = self.bytes;
+        }
     }
 
     /// A block of these bytes is live.

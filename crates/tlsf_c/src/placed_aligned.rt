@@ -13,10 +13,10 @@ ghost use Rattle.tlsf_c.specs.PlacedPools.{IsAlike};
 ghost use Rattle.tlsf_c.specs.PlacedHeaps.{IsLiveAt, IsGivenAt, IsRefusedAt, memalign_with_front};
 ghost use Rattle.tlsf_c.specs.Status.{number};
 
+use crate::placed_block::PlacedBlock;
 use crate::placed_blocks::{FRONT, MOST, place_block};
 use crate::placed_heap::PlacedHeap;
 use crate::placed_pool::PlacedPool;
-use crate::status::number;
 use tlsf_heap::{Heap, Ptr, Refusal, is_alignment};
 
 /// Whether addresses are multiples of the alignment where places are, in each pool.
@@ -55,46 +55,39 @@ fn allocate_aligned(heap: &mut Heap, align: u64, bytes: u64) -> Result<Ptr, Refu
 
 /// A live block of at least `bytes` bytes, as by `tlsf_placed_malloc`, whose address is a multiple of `align`. At most 35 touches.
 ///
-/// Where the heap refuses the answer is 0. Then `word` gets the number of `BadAlign`, `ZeroSize`, `NoFit` or `TableFull`. It is
+/// Where the heap refuses the address is 0. Then the word is the number of `BadAlign`, `ZeroSize`, `NoFit` or `TableFull`. It is
 /// that of `BadAlign` also where addresses aren't multiples of `align` as places are, in some pool.
 #[unsafe(no_mangle)]
 pub extern "C" fn tlsf_placed_memalign(
     heap: &mut PlacedHeap,
     align: u64,
     bytes: u64,
-    word: &mut u64,
-) -> u64
-    ensures given { 0 < result → IsGivenAt (λ slot. memalign_with_front align slot bytes) bytes result heap.old.pools heap.old.handle.value.content heap.new.handle.value.content }
-    ensures live { 0 < result → IsLiveAt result word.new heap.old.pools heap.new.handle.value.content }
-    ensures multiple { result % align ≡ 0 }
-    ensures refused { result ≡ 0 → All (IsAlike align) heap.old.pools → IsRefusedAt (λ slot. memalign_with_front align slot bytes) word.new heap.old.handle.value heap.new.handle.value }
-    ensures unlike { (All (IsAlike align) heap.old.pools → ⊥) → (result ≡ 0) × (word.new ≡ number BadAlign) }
-    ensures unchanged { result ≡ 0 → IsUnchanged heap.old.handle.value heap.new.handle.value }
+) -> PlacedBlock
+    ensures given { 0 < result.address → IsGivenAt (λ slot. memalign_with_front align slot bytes) bytes result.address heap.old.pools heap.old.handle.value.content heap.new.handle.value.content }
+    ensures live { 0 < result.address → IsLiveAt result.address result.word heap.old.pools heap.new.handle.value.content }
+    ensures multiple { result.address % align ≡ 0 }
+    ensures refused { result.address ≡ 0 → All (IsAlike align) heap.old.pools → IsRefusedAt (λ slot. memalign_with_front align slot bytes) result.word heap.old.handle.value heap.new.handle.value }
+    ensures unlike { (All (IsAlike align) heap.old.pools → ⊥) → (result.address ≡ 0) × (result.word ≡ number BadAlign) }
+    ensures unchanged { result.address ≡ 0 → IsUnchanged heap.old.handle.value heap.new.handle.value }
     ensures pools { heap.new.pools ≡ heap.old.pools }
     ensures most { heap.new.figures.most_bytes ≡ max heap.old.figures.most_bytes heap.new.figures.bytes }
     ensures bound { AtMost memalign_touches heap.old.handle.value.touches heap.new.handle.value.touches }
 {
     if !is_alignment(align) || !are_alike(&heap.pools, align) {
-        *word = u64::from(number(Refusal::BadAlign));
-        return 0;
+        return PlacedBlock::refused(Refusal::BadAlign);
     }
     if bytes == 0 {
-        *word = u64::from(number(Refusal::ZeroSize));
-        return 0;
+        return PlacedBlock::refused(Refusal::ZeroSize);
     }
     if bytes > MOST {
-        *word = u64::from(number(Refusal::NoFit));
-        return 0;
+        return PlacedBlock::refused(Refusal::NoFit);
     }
     match allocate_aligned(heap.handle.heap(), align, bytes + FRONT) {
         Ok(ptr) => {
             let size = (bytes + FRONT + 15) / 16 * 16;
             heap.figures.given(size - FRONT);
-            place_block(&heap.pools, ptr, size, word)
+            place_block(&heap.pools, ptr, size)
         }
-        Err(refusal) => {
-            *word = u64::from(number(refusal));
-            0
-        }
+        Err(refusal) => PlacedBlock::refused(refusal),
     }
 }

@@ -16,6 +16,7 @@ ghost use Rattle.tlsf_c.specs.PlacedHeaps.{IsLiveAt, IsGivenAt, IsRefusedAt, IsF
 ghost use Rattle.tlsf_c.specs.Status.{number};
 
 use crate::front::{Mark, mark_of, word_of};
+use crate::placed_block::PlacedBlock;
 use crate::placed_heap::PlacedHeap;
 use crate::placed_lookup::{later_pool_of, place_at, pool_at};
 use crate::placed_pool::PlacedPool;
@@ -65,51 +66,53 @@ fn release(heap: &mut Heap, ptr: Ptr, size: u64) -> Result<(), Refusal>
     freed
 }
 
-/// The address of a block of this size in the pool, and the word in front of it.
+/// A block of this size in the pool, by its address.
 #[inline(always)]
-fn place_in(pool: &PlacedPool, ptr: Ptr, size: u64, word: &mut u64) -> u64
+fn place_in(pool: &PlacedPool, ptr: Ptr, size: u64) -> PlacedBlock
     requires placed { IsPlaced pool.now }
     requires has { HasPlace pool.now ptr.place }
     requires in_units { ptr.place % 16 ≡ 0 }
     requires units { size % 16 ≡ 0 }
     requires most { size < 2 ^ 30 }
-    ensures some { 0 < result }
-    ensures multiple { result % 16 ≡ 0 }
-    ensures at { IsAt pool.now ptr.place result }
-    ensures size { told_size word.new result ≡ size }
-    ensures slot { told_slot word.new result ≡ ptr.slot }
+    ensures some { 0 < result.address }
+    ensures multiple { result.address % 16 ≡ 0 }
+    ensures at { IsAt pool.now ptr.place result.address }
+    ensures size { told_size result.word result.address ≡ size }
+    ensures slot { told_slot result.word result.address ≡ ptr.slot }
 {
     let address = pool.address_of(ptr.place());
     let mark = Mark {
         size,
         slot: ptr.slot(),
     };
-    *word = word_of(mark, address);
-    address
+    PlacedBlock {
+        address,
+        word: word_of(mark, address),
+    }
 }
 
-/// The address of a block of this size in the pool that has its place, and the word in front of it.
+/// A block of this size by its address, in the pool that has its place.
 #[inline(always)]
-pub(crate) fn place_block(pools: &[PlacedPool; 8], ptr: Ptr, size: u64, word: &mut u64) -> u64
+pub(crate) fn place_block(pools: &[PlacedPool; 8], ptr: Ptr, size: u64) -> PlacedBlock
     requires placed { All IsPlaced pools.now }
     requires in_units { ptr.place % 16 ≡ 0 }
     requires somewhere { All (λ pool. HasPlace pool ptr.place → ⊥) pools.now → ⊥ }
     requires units { size % 16 ≡ 0 }
     requires most { size < 2 ^ 30 }
-    ensures some { 0 < result }
-    ensures multiple { result % 16 ≡ 0 }
-    ensures at { (pool : PlacedPool) × Contains pools.now pool × IsAt pool ptr.place result }
-    ensures size { told_size word.new result ≡ size }
-    ensures slot { told_slot word.new result ≡ ptr.slot }
+    ensures some { 0 < result.address }
+    ensures multiple { result.address % 16 ≡ 0 }
+    ensures at { (pool : PlacedPool) × Contains pools.now pool × IsAt pool ptr.place result.address }
+    ensures size { told_size result.word result.address ≡ size }
+    ensures slot { told_slot result.word result.address ≡ ptr.slot }
 {
     let first = &pools[0];
     if first.has_place(ptr.place()) {
-        return place_in(first, ptr, size, word);
+        return place_in(first, ptr, size);
     }
     let Some(pool) = later_pool_of(pools, ptr.place()) else {
-        return 0;
+        unreachable!();
     };
-    place_in(pool, ptr, size, word)
+    place_in(pool, ptr, size)
 }
 
 /// Why every heap refuses a block of none or of too many bytes.
@@ -125,35 +128,31 @@ fn refusal_of(bytes: u64) -> Refusal
     Refusal::NoFit
 }
 
-/// A live block of at least `bytes` bytes, at the address that is answered, with eight bytes in front of it. `word` gets
-/// what the caller puts into these, and hands back with the address. At most 23 touches.
+/// A live block of at least `bytes` bytes, with eight bytes in front of its address. The caller puts its word there, and hands
+/// back both. At most 23 touches.
 ///
-/// Where the heap refuses the answer is 0. Then `word` gets the number of `ZeroSize`, `NoFit` or `TableFull`.
+/// Where the heap refuses the address is 0. Then the word is the number of `ZeroSize`, `NoFit` or `TableFull`.
 #[unsafe(no_mangle)]
-pub extern "C" fn tlsf_placed_malloc(heap: &mut PlacedHeap, bytes: u64, word: &mut u64) -> u64
-    ensures given { 0 < result → IsGivenAt (λ slot. malloc_with_front slot bytes) bytes result heap.old.pools heap.old.handle.value.content heap.new.handle.value.content }
-    ensures live { 0 < result → IsLiveAt result word.new heap.old.pools heap.new.handle.value.content }
-    ensures multiple { result % 16 ≡ 0 }
-    ensures refused { result ≡ 0 → IsRefusedAt (λ slot. malloc_with_front slot bytes) word.new heap.old.handle.value heap.new.handle.value }
+pub extern "C" fn tlsf_placed_malloc(heap: &mut PlacedHeap, bytes: u64) -> PlacedBlock
+    ensures given { 0 < result.address → IsGivenAt (λ slot. malloc_with_front slot bytes) bytes result.address heap.old.pools heap.old.handle.value.content heap.new.handle.value.content }
+    ensures live { 0 < result.address → IsLiveAt result.address result.word heap.old.pools heap.new.handle.value.content }
+    ensures multiple { result.address % 16 ≡ 0 }
+    ensures refused { result.address ≡ 0 → IsRefusedAt (λ slot. malloc_with_front slot bytes) result.word heap.old.handle.value heap.new.handle.value }
     ensures pools { heap.new.pools ≡ heap.old.pools }
     ensures most { heap.new.figures.most_bytes ≡ max heap.old.figures.most_bytes heap.new.figures.bytes }
     ensures bound { AtMost malloc_or_own_touches heap.old.handle.value.touches heap.new.handle.value.touches }
 {
     // What is 0 less 1 is above it, too.
     if bytes.wrapping_sub(1) >= MOST {
-        *word = u64::from(number(refusal_of(bytes)));
-        return 0;
+        return PlacedBlock::refused(refusal_of(bytes));
     }
     match allocate(heap.handle.heap(), bytes + FRONT) {
         Ok(ptr) => {
             let size = (bytes + FRONT + 15) / 16 * 16;
             heap.figures.given(size - FRONT);
-            place_block(&heap.pools, ptr, size, word)
+            place_block(&heap.pools, ptr, size)
         }
-        Err(refusal) => {
-            *word = u64::from(number(refusal));
-            0
-        }
+        Err(refusal) => PlacedBlock::refused(refusal),
     }
 }
 

@@ -158,9 +158,10 @@ pub extern "C" fn tlsf_placed_realloc(
         Ok(new) => {
             let has = new.size - FRONT;
             heap.figures.resized(had, has);
-            let now = place_block(&heap.pools, new.ptr, new.size, word);
-            *copied = to_copy(now == address, had, has);
-            now
+            let now = place_block(&heap.pools, new.ptr, new.size);
+            *copied = to_copy(now.address == address, had, has);
+            *word = now.word;
+            now.address
         }
         Err(status) => {
             *word = u64::from(status);

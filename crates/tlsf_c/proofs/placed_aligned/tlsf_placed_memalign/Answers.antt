@@ -54,14 +54,14 @@ returns-in-Ok-clause-given c = λ some.
     let lies = subst (λ (h : Counted). LiesIn ptr.place size (map range_of h.content.pools)) c.heap.ensures.value c.in-Ok.ensures.lies in
     let served = subst (λ (h : Counted). IsServed (λ slot. memalign slot c.args.align (c.args.bytes + 8)) ptr h.content c.allocate_aligned.new.heap.content) c.heap.ensures.value c.in-Ok.ensures.ok in
     let given : IsServed (λ slot. memalign_with_front c.args.align slot c.args.bytes) ptr heap.handle.value.content c.allocate_aligned.new.heap.content = record { ok = aligned_with_front c.args.align ptr.slot c.args.bytes heap.handle.value.content c.if-bytes-eq0.false ∙ served.ok; slot_below = served.slot_below; slot_new = served.slot_new } in
-    given_at (λ slot. memalign_with_front c.args.align slot c.args.bytes) c.args.bytes c.place_block.result size ptr heap.pools heap.handle.value.content c.allocate_aligned.new.heap.content heap.entries given lies (omega arith) c.place_block.ensures.at
+    given_at (λ slot. memalign_with_front c.args.align slot c.args.bytes) c.args.bytes c.place_block.result.address size ptr heap.pools heap.handle.value.content c.allocate_aligned.new.heap.content heap.entries given lies (omega arith) c.place_block.ensures.at
 
 pub returns-in-Ok-clause-multiple : goal.returns-in-Ok-clause-multiple
 returns-in-Ok-clause-multiple c =
     let heap = c.args.heap.now in
     let there = c.place_block.ensures.at in
     let alike = All-contains (IsAlike c.args.align) heap.pools there.0 (c.are_alike.ensures.yes c.if-not-are_alike.false) there.1 in
-    address_aligned c.args.align c.in-Ok.ptr.place c.place_block.result there.0 alike there.2 c.in-Ok.ensures.multiple
+    address_aligned c.args.align c.in-Ok.ptr.place c.place_block.result.address there.0 alike there.2 c.in-Ok.ensures.multiple
 
 pub returns-in-Ok-clause-unlike : goal.returns-in-Ok-clause-unlike
 returns-in-Ok-clause-unlike c = λ unlike. absurd (unlike (c.are_alike.ensures.yes c.if-not-are_alike.false))

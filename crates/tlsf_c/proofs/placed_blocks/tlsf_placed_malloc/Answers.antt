@@ -30,4 +30,4 @@ returns-in-Ok-clause-given c = λ some.
     let lies = subst (λ (h : Counted). LiesIn ptr.place size (map range_of h.content.pools)) c.heap.ensures.value c.in-Ok.ensures.lies in
     let served = subst (λ (h : Counted). IsServed (λ slot. malloc_or_own slot (c.args.bytes + 8)) ptr h.content c.allocate.new.heap.content) c.heap.ensures.value c.in-Ok.ensures.ok in
     let given : IsServed (λ slot. malloc_with_front slot c.args.bytes) ptr heap.handle.value.content c.allocate.new.heap.content = record { ok = with_front ptr.slot c.args.bytes heap.handle.value.content (λ none. absurd (omega (arith, none, c.if-bytes-ge-MOST.false))) ∙ served.ok; slot_below = served.slot_below; slot_new = served.slot_new } in
-    given_at (λ slot. malloc_with_front slot c.args.bytes) c.args.bytes c.place_block.result size ptr heap.pools heap.handle.value.content c.allocate.new.heap.content heap.entries given lies (omega arith) c.place_block.ensures.at
+    given_at (λ slot. malloc_with_front slot c.args.bytes) c.args.bytes c.place_block.result.address size ptr heap.pools heap.handle.value.content c.allocate.new.heap.content heap.entries given lies (omega arith) c.place_block.ensures.at

@@ -86,12 +86,12 @@ returns-in-Err-clause-refused c = λ none.
     }
 
 pub returns-in-Ok-clause-stays : goal.returns-in-Ok-clause-stays
-returns-in-Ok-clause-stays c = λ some same. c.to_copy.ensures.stays (eq-eqb c.place_block-now.result c.args.address same)
+returns-in-Ok-clause-stays c = λ some same. c.to_copy.ensures.stays (eq-eqb c.place_block-now.result.address c.args.address same)
 
 pub returns-in-Ok-clause-moves : goal.returns-in-Ok-clause-moves
 returns-in-Ok-clause-moves c = λ some apart.
     let had_is : c.in-Some.block.size ≡ told_size c.args.word.now c.args.address = c.in-Some.ensures.some.3 in
-    let has_is : c.in-Ok.new.size ≡ told_size c.place_block-now.new.word c.place_block-now.result = sym c.place_block-now.ensures.size in
-    c.to_copy.ensures.moves (ne_eqb c.place_block-now.result c.args.address apart)
+    let has_is : c.in-Ok.new.size ≡ told_size c.place_block-now.result.word c.place_block-now.result.address = sym c.place_block-now.ensures.size in
+    c.to_copy.ensures.moves (ne_eqb c.place_block-now.result.address c.args.address apart)
     ∙ ap (λ (n : ℕ). min (n - front) (c.in-Ok.new.size - front)) had_is
     ∙ ap (λ (n : ℕ). min (told_size c.args.word.now c.args.address - front) (n - front)) has_is
