@@ -124,17 +124,16 @@ fn take(store: &mut Store, class: Class, slot: Slot, asked: u32) -> Result<Ptr, 
     ensures { AnswersOver result (IsServed (λ owner. malloc_picked owner asked (Some (record_at store.old.cells.records slot).place))) (λ refusal old. (owner : ℕ) → malloc_picked owner asked (Some (record_at store.old.cells.records slot).place) old ≡ Err refusal) 17 store.old store.new }
 {
     let block = store.read_used(slot);
-    let ptr = Ptr::new(block.place, slot.0);
     if block.size == asked {
         take_whole(store, class, slot, &block);
-        return Ok(ptr);
+    } else {
+        let Some(rest) = store.take_vacant() else {
+            return Err(Refusal::TableFull);
+        };
+        unlink_first(store, class, &block);
+        split_off(store, &Span::of(slot, &block), rest, asked);
     }
-    let Some(rest) = store.take_vacant() else {
-        return Err(Refusal::TableFull);
-    };
-    unlink_first(store, class, &block);
-    split_off(store, &Span::of(slot, &block), rest, asked);
-    Ok(ptr)
+    Ok(Ptr::new(block.place, slot.0))
 }
 
 /// A free block of this record leaves the list of its class and is live. At most six touches.

@@ -1,8 +1,10 @@
-use Rattle.std.proofs.Common.{rules, ◌≡◌, ◌≢◌, ℕ, ◌<◌, length, refl, sym, ap, ◌∙◌, arith, Option, Some, Ok}
+use Rattle.std.proofs.Common.{rules, ◌≡◌, ◌≢◌, ℕ, ◌<◌, length, refl, sym, ap, ◌∙◌, subst, arith, Option, Some, Ok}
 use Rattle.tlsf_store.specs.declared.records.Record.{Record}
 use Rattle.tlsf_store.specs.declared.records.State.TheVariants.{Free}
 use Rattle.tlsf_store.specs.Records.{blank, record_at}
 use Rattle.tlsf_store.specs.Cells.{Cells, with_taken}
+use Rattle.tlsf_store.specs.CountedCells.{CountedCells}
+use Rattle.tlsf_heap.specs.Touches.{AtMost}
 use Rattle.tlsf_store.proofs.RecordLaws.{record_at-set_other}
 use Rattle.tlsf_heap.specs.Malloc.{malloc_picked}
 use Rattle.tlsf_heap.specs.Inner.Nodes.{Listed, Loose}
@@ -15,7 +17,7 @@ use Rattle.tlsf_heap.proofs.Inner.Spans.{read_of, read_stays}
 use Rattle.tlsf_heap.proofs.Inner.Live.{free_at}
 use Rattle.tlsf_heap.proofs.Inner.TakenBlock.{takeable_picked, room_left, holds, whole_stands, part_stands, full_refused, slot_below, slot_new}
 use Rattle.tlsf_heap.proofs.malloc.take.Goals as goal
-use Rattle.tlsf_heap.proofs.malloc.take.Goals.{In-Some, After-unlink_first}
+use Rattle.tlsf_heap.proofs.malloc.take.Goals.{In-Some, After-unlink_first, After-new, then-block-asked, else-block-asked+in-Some}
 
 -- the size that was read is the node's
 size_is : (old : Cells) (slot : ℕ) (at : At) (block : Record) → StandsAt slot Listed old at → block ≡ record_at old.records slot → block.size ≡ at.node.size
@@ -38,28 +40,6 @@ kept old before new result slot rest block free same is taken vacant read =
 pub take_whole-requires-clause-stands : goal.take_whole-requires-clause-stands
 take_whole-requires-clause-stands c =
     let by = free_at c.args.store.now.cells c.requires.stands c.args.slot c.requires.takeable.free in (by.at, rw c.read_used-block.ensures.left.cells by.stands)
-
--- what a whole block leaves
-whole : (c : goal.After-take_whole) → Stands c.take_whole.new.store.cells × (malloc_picked c.args.slot c.args.asked (Some (record_at c.args.store.now.cells.records c.args.slot).place) (content_of c.args.store.now.cells) ≡ Ok ((record_at c.args.store.now.cells.records c.args.slot).place, content_of c.take_whole.new.store.cells))
-whole c =
-    let old : Cells = c.args.store.now.cells in
-    let by = free_at old c.requires.stands c.args.slot c.requires.takeable.free in
-    let size = sym c.if-block-asked.true ∙ size_is old c.args.slot by.at c.read_used-block.result by.stands c.read_used-block.ensures.value in
-    whole_stands old c.requires.stands (record_at old.records c.args.slot).place c.args.slot c.args.asked by c.requires.size.positive c.requires.size.in_units (takeable_picked c.args.store.now.cells c.requires.stands c.args.asked c.args.class c.args.slot c.requires.takeable) c.take_whole.new.store.cells
-    (c.take_whole.ensures.leads by.at (rw c.read_used-block.ensures.left.cells by.stands)) size
-
-pub returns-then-block-asked : goal.returns-then-block-asked
-returns-then-block-asked c = record {
-  stands = (whole c).0;
-  ok = record {
-    ok = rw (c.new-ptr.ensures, c.read_used-block.ensures.value, c.slot.view_is) ((whole c).1);
-    slot_below = rw (c.new-ptr.ensures, c.slot.view_is) (slot_below c.args.store.now.cells c.requires.stands (record_at c.args.store.now.cells.records c.args.slot).place c.args.slot (free_at c.args.store.now.cells c.requires.stands c.args.slot c.requires.takeable.free));
-    slot_new = rw (c.new-ptr.ensures, c.slot.view_is) (slot_new c.args.store.now.cells c.requires.stands (record_at c.args.store.now.cells.records c.args.slot).place c.args.slot (free_at c.args.store.now.cells c.requires.stands c.args.slot c.requires.takeable.free));
-  };
-  refused = search rules;
-  cells = search rules;
-  touches = search rules;
-}
 
 pub returns-in_default : goal.returns-in_default
 returns-in_default c = record {
@@ -123,30 +103,68 @@ split_off-requires-clause-less c =
     let least = holds old c.requires.stands (record_at old.records c.args.slot).place c.args.slot c.args.asked by c.requires.size.positive c.requires.size.in_units (takeable_picked c.args.store.now.cells c.requires.stands c.args.asked c.args.class c.args.slot c.requires.takeable) in
     rw c.of.ensures (omega (arith, least, size, c.if-block-asked.false))
 
--- what a part leaves
-part : (c : goal.After-split_off) → StandsAt c.args.slot Loose c.unlink_first.new.store.cells (with_slot c.in-Some.rest (at_unlisted (free_at c.args.store.now.cells c.requires.stands c.args.slot c.requires.takeable.free).at))
-    → Stands c.split_off.new.store.cells × (malloc_picked c.args.slot c.args.asked (Some (record_at c.args.store.now.cells.records c.args.slot).place) (content_of c.args.store.now.cells) ≡ Ok ((record_at c.args.store.now.cells.records c.args.slot).place, content_of c.split_off.new.store.cells))
-part c left =
+-- what is left where the block is live, whole or in part
+record IsTaken (slot asked : ℕ) (old new : CountedCells) : Type 0 where
+  stands : Stands new.cells
+  gives : malloc_picked slot asked (Some (record_at old.cells.records slot).place) (content_of old.cells) ≡ Ok ((record_at old.cells.records slot).place, content_of new.cells)
+  touches : AtMost 17 old.touches new.touches
+
+taken : (c : After-new) → IsTaken c.args.slot c.args.asked c.args.store.now c.if-block-asked.store
+taken c =
     let old : Cells = c.args.store.now.cells in
-    let by = free_at old c.requires.stands c.args.slot c.requires.takeable.free in
-    let place : ℕ = (record_at old.records c.args.slot).place in
-    let size = size_is old c.args.slot by.at c.read_used-block.result by.stands c.read_used-block.ensures.value in
-    let least = holds old c.requires.stands place c.args.slot c.args.asked by c.requires.size.positive c.requires.size.in_units (takeable_picked c.args.store.now.cells c.requires.stands c.args.asked c.args.class c.args.slot c.requires.takeable) in
-    let room = room_left old c.requires.stands c.in-Some.rest (rw c.read_used-block.ensures.left.cells at c.in-Some.ensures.within) (rw c.read_used-block.ensures.left.cells at c.in-Some.ensures.vacant) in
-    part_stands old c.requires.stands place c.args.slot c.args.asked by c.requires.size.positive c.requires.size.in_units (takeable_picked c.args.store.now.cells c.requires.stands c.args.asked c.args.class c.args.slot c.requires.takeable) c.split_off.new.store.cells c.in-Some.rest
-    (c.split_off.ensures.leads Loose (at_unlisted by.at) refl (rw c.of.ensures left)) (omega (arith, least, size, c.if-block-asked.false)) room
+    let slot : ℕ = c.args.slot in
+    let asked : ℕ = c.args.asked in
+    let place : ℕ = (record_at old.records slot).place in
+    let block : Record = c.read_used-block.result in
+    let read = c.read_used-block.ensures in
+    let by = free_at old c.requires.stands slot c.requires.takeable.free in
+    let size = size_is old slot by.at block by.stands read.value in
+    let picked = takeable_picked old c.requires.stands asked c.args.class slot c.requires.takeable in
+    let least = holds old c.requires.stands place slot asked by c.requires.size.positive c.requires.size.in_units picked in
+    let P : CountedCells → Type 0 = λ new. IsTaken slot asked c.args.store.now new in
+    elim c.if-block-asked.branch [
+      | then-block-asked w ↦
+          let left = whole_stands old c.requires.stands place slot asked by c.requires.size.positive c.requires.size.in_units picked w.take_whole.new.store.cells
+              (w.take_whole.ensures.leads by.at (rw read.left.cells by.stands)) (sym w.if-block-asked.true ∙ size) in
+          subst P (sym w.store-is) (record {
+            stands = left.0;
+            gives = left.1;
+            touches = record { floor = omega (arith, read.left.touches, w.take_whole.ensures.touches.floor); bound = omega (arith, read.left.touches, w.take_whole.ensures.touches.bound) };
+          })
+      | else-block-asked+in-Some w ↦
+          let rest : ℕ = w.in-Some.rest in
+          let before : Cells = c.read_used-block.new.self.cells in
+          let mid : Cells = w.take_vacant.new.self.cells in
+          let here = spared old before mid w.take_vacant.result slot rest by.at by.stands read.left.cells w.in-Some.is w.take_vacant.ensures.left.cells w.in-Some.ensures.within w.in-Some.ensures.vacant in
+          let same = kept old before mid w.take_vacant.result slot rest block c.requires.takeable.free read.left.cells w.in-Some.is w.take_vacant.ensures.left.cells w.in-Some.ensures.vacant read.value in
+          let loose : StandsAt slot Loose w.unlink_first.new.store.cells (with_slot rest (at_unlisted by.at)) =
+          read_leaves mid w.unlink_first.new.store.cells slot c.args.class block (with_slot rest by.at) here same (rw read.value c.requires.takeable.of_class) w.unlink_first.ensures.cells in
+          let room = room_left old c.requires.stands rest (rw read.left.cells at w.in-Some.ensures.within) (rw read.left.cells at w.in-Some.ensures.vacant) in
+          let left = part_stands old c.requires.stands place slot asked by c.requires.size.positive c.requires.size.in_units picked w.split_off.new.store.cells rest
+              (w.split_off.ensures.leads Loose (at_unlisted by.at) refl (rw w.of.ensures loose)) (omega (arith, least, size, w.if-block-asked.false)) room in
+          subst P (sym w.store-is) (record {
+            stands = left.0;
+            gives = left.1;
+            touches = record {
+              floor = omega (arith, read.left.touches, w.take_vacant.ensures.left.touches, w.unlink_first.ensures.touches.floor, w.split_off.ensures.touches.floor);
+              bound = omega (arith, read.left.touches, w.take_vacant.ensures.left.touches, w.unlink_first.ensures.touches.bound, w.split_off.ensures.touches.bound);
+            };
+          })
+    ]
 
 pub returns : goal.returns
 returns c =
-    let left = unlisted (goal.at.returns c).After-unlink_first (ready (goal.at.returns c).In-Some) in
+    let old : Cells = c.args.store.now.cells in
+    let is = taken (goal.at.returns c).After-new in
+    let by = free_at old c.requires.stands c.args.slot c.requires.takeable.free in
     record {
-      stands = (part c left).0;
+      stands = is.stands;
       ok = record {
-        ok = rw (c.new-ptr.ensures, c.read_used-block.ensures.value, c.slot.view_is) ((part c left).1);
-        slot_below = rw (c.new-ptr.ensures, c.slot.view_is) (slot_below c.args.store.now.cells c.requires.stands (record_at c.args.store.now.cells.records c.args.slot).place c.args.slot (free_at c.args.store.now.cells c.requires.stands c.args.slot c.requires.takeable.free));
-        slot_new = rw (c.new-ptr.ensures, c.slot.view_is) (slot_new c.args.store.now.cells c.requires.stands (record_at c.args.store.now.cells.records c.args.slot).place c.args.slot (free_at c.args.store.now.cells c.requires.stands c.args.slot c.requires.takeable.free));
+        ok = rw (c.new.ensures, c.read_used-block.ensures.value, c.slot.view_is) is.gives;
+        slot_below = rw (c.new.ensures, c.slot.view_is) (slot_below old c.requires.stands (record_at old.records c.args.slot).place c.args.slot by);
+        slot_new = rw (c.new.ensures, c.slot.view_is) (slot_new old c.requires.stands (record_at old.records c.args.slot).place c.args.slot by);
       };
-      refused = search rules;
-      cells = search rules;
-      touches = search rules;
+      refused = tt;
+      cells = tt;
+      touches = is.touches;
     }
