@@ -49,19 +49,20 @@ fn allocate(heap: &mut Heap, bytes: u64) -> Result<Ptr, Refusal>
     given
 }
 
-/// `Heap::free` of a block that has these bytes, and that each pool lies where it lay.
+/// `Heap::free_sized`, and that each pool lies where it lay.
 #[inline(always)]
-fn release(heap: &mut Heap, ptr: Ptr, size: u64) -> Result<(), Refusal>
-    requires { block_size_ptr ptr heap.old.content ≡ Ok size }
-    ensures ok { OnOk result (free_ptr ptr heap.old.content ≡ Ok heap.new.content) }
-    ensures ranges { OnOk result (map range_of heap.new.content.pools ≡ map range_of heap.old.content.pools) }
-    ensures live { OnOk result (IsLiveChange 1 size 0 0 heap.old.content heap.new.content) }
-    ensures refused { IfErr result (λ refusal. free_ptr ptr heap.old.content ≡ Err refusal) }
-    ensures unchanged { OnErr result (IsUnchanged heap.old heap.new) }
-    ensures bound { AtMost free_touches heap.old.touches heap.new.touches }
+fn release(heap: &mut Heap, ptr: Ptr, size: u64) -> bool
+    ensures found { (result ≡ true) ↔ (block_size_ptr ptr heap.old.content ≡ Ok size) }
+    ensures freed { result ≡ true → free_ptr ptr heap.old.content ≡ Ok heap.new.content }
+    ensures long { result ≡ true → 16 ≤ size }
+    ensures ranges { result ≡ true → map range_of heap.new.content.pools ≡ map range_of heap.old.content.pools }
+    ensures live { result ≡ true → IsLiveChange 1 size 0 0 heap.old.content heap.new.content }
+    ensures unchanged { result ≡ false → IsUnchanged heap.old heap.new }
+    ensures reads_one { result ≡ false → AtMost 1 heap.old.touches heap.new.touches }
+    ensures bound { AtMost (free_touches + 1) heap.old.touches heap.new.touches }
 {
     heap.keeps_good();
-    let freed = heap.free(ptr);
+    let freed = heap.free_sized(ptr, size);
     heap.keeps_good();
     freed
 }
@@ -201,16 +202,16 @@ pub extern "C" fn tlsf_placed_free(heap: &mut PlacedHeap, address: u64, word: u6
     ensures most { heap.new.figures.most_bytes ≡ max heap.old.figures.most_bytes heap.new.figures.bytes }
     ensures bound { AtMost (free_touches + 1) heap.old.handle.value.touches heap.new.handle.value.touches }
 {
-    let Some(block) = find(heap, address, word) else {
+    let Some(place) = place_at(&heap.pools, address) else {
         return number(Refusal::BadPointer);
     };
-    match release(heap.handle.heap(), block.ptr, block.size) {
-        Ok(()) => {
-            heap.figures.freed(block.size - FRONT);
-            SERVED
-        }
-        Err(refusal) => number(refusal),
+    let mark = mark_of(word, address);
+    let ptr = Ptr::new(place, mark.slot);
+    if !release(heap.handle.heap(), ptr, mark.size) {
+        return number(Refusal::BadPointer);
     }
+    heap.figures.freed(mark.size - FRONT);
+    SERVED
 }
 
 /// Whether a pool has the address, so that the eight bytes in front of it are the pool's.

@@ -1,13 +1,13 @@
 //! free: the block becomes free, is merged with its free neighbours, and enters its class's list.
 
-ghost use Rattle.std.specs.Prelude.{◌≡◌, ◌≢◌, false, ◌==◌, ◌&&◌, ◌%◌, is_some, Ok, Err, IfSome};
+ghost use Rattle.std.specs.Prelude.{◌≡◌, ◌≢◌, false, ◌==◌, ◌&&◌, ◌%◌, ◌+◌, ◌↔◌, true, is_some, Ok, Err, IfSome};
 ghost use Rattle.tlsf_class.specs.Classes.{unit, class};
 ghost use Rattle.tlsf_store.specs.declared.records.State.TheVariants.{Vacant};
 ghost use Rattle.tlsf_store.specs.Records.{record_at, is_live_state};
-ghost use Rattle.tlsf_heap.specs.Touches.{AtMost, free_touches};
+ghost use Rattle.tlsf_heap.specs.Touches.{AtMost, block_size_touches, free_touches};
 ghost use Rattle.tlsf_heap.specs.Content.{blocks_of};
 ghost use Rattle.tlsf_heap.specs.Free.{is_live};
-ghost use Rattle.tlsf_heap.specs.Pointer.{free_ptr};
+ghost use Rattle.tlsf_heap.specs.Pointer.{free_ptr, block_size_ptr};
 ghost use Rattle.tlsf_heap.specs.Inner.Edits.{unlinked_by};
 ghost use Rattle.tlsf_heap.specs.Inner.Nodes.{NodeState, InUse, Listed, Loose, is_listed_state};
 ghost use Rattle.tlsf_heap.specs.Inner.Following.{Stands, content_of};
@@ -19,7 +19,7 @@ use crate::chains::set_prev;
 use crate::free_lists::{put_first, unlink};
 use crate::span::Span;
 use crate::{Ptr, Refusal};
-use tlsf_class::class_of;
+use tlsf_class::{UNIT, class_of};
 use tlsf_store::{Record, Slot, State, Store};
 
 /// The block becomes free, and one free block with its free neighbours in the pool. At most 30 touches.
@@ -39,6 +39,26 @@ pub(crate) fn free(store: &mut Store, ptr: Ptr) -> Result<(), Refusal>
     Ok(())
 }
 
+/// Where the pointer's block is live and has `size` bytes, it becomes free. At most 31 touches, and one where it isn't.
+#[inline(always)]
+pub(crate) fn free_sized(store: &mut Store, ptr: Ptr, size: u64) -> bool
+    requires { Stands store.old.cells }
+    ensures stands { Stands store.new.cells }
+    ensures found { (result ≡ true) ↔ (block_size_ptr ptr (content_of store.old.cells) ≡ Ok size) }
+    ensures freed { result ≡ true → free_ptr ptr (content_of store.old.cells) ≡ Ok (content_of store.new.cells) }
+    ensures cells { result ≡ false → store.new.cells ≡ store.old.cells }
+    ensures reads_one { result ≡ false → AtMost block_size_touches store.old.touches store.new.touches }
+    ensures touches { AtMost (free_touches + 1) store.old.touches store.new.touches }
+{
+    if !has_block(store, ptr, size) {
+        return false;
+    }
+    let slot = Slot(ptr.slot());
+    let block = store.read_used(slot);
+    release(store, slot, &block);
+    true
+}
+
 /// The record of the live block that has the pointer's place and slot, if there is one. At most one
 /// touch.
 pub(crate) fn live(store: &mut Store, ptr: Ptr) -> Option<Record>
@@ -55,6 +75,22 @@ pub(crate) fn live(store: &mut Store, ptr: Ptr) -> Option<Record>
         return None;
     }
     Some(block)
+}
+
+/// Whether the pointer's block is live and has `size` bytes. At most one touch.
+#[inline(always)]
+pub(crate) fn has_block(store: &mut Store, ptr: Ptr, size: u64) -> bool
+    requires { Stands store.old.cells }
+    ensures value { (result ≡ true) ↔ (block_size_ptr ptr (content_of store.old.cells) ≡ Ok size) }
+    ensures left { Leaves store.old.cells block_size_touches store.old store.new }
+{
+    if u32::from(ptr.slot()) >= store.records() {
+        return false;
+    }
+    if size % u64::from(UNIT) != 0 {
+        return false;
+    }
+    store.is_live(Slot(ptr.slot()), ptr.place(), size)
 }
 
 /// Whether the record is of a live block that begins at the place.

@@ -2,12 +2,12 @@
 
 use crate::add_pool::add_pool;
 use crate::entries::entries;
-use crate::free::free;
+use crate::free::{free, free_sized, has_block};
 use crate::image::{Image, is_whole, put_image};
 use crate::load::stored;
 use crate::malloc::{malloc, malloc_or_own};
 use crate::memalign::memalign;
-use crate::readings::{block_size, first, has_block, largest_request, records_used, row};
+use crate::readings::{block_size, first, largest_request, records_used, row};
 use crate::realloc::realloc;
 use crate::remove_pool::remove_pool;
 use crate::walk::walk;
@@ -40,7 +40,7 @@ impl Model for Heap {
 }
 
 impl Heap {
-    ghost use Rattle.std.specs.Prelude.{◌≡◌, true, ℕ, ◌+◌, ◌*◌, ◌%◌, ◌<◌, ◌≤◌, ◌⊎◌, ◌↔◌, map, Some, None, Ok, Err, IfOk, IfErr, IsOk, MatchResult, OnOk, OnErr};
+    ghost use Rattle.std.specs.Prelude.{◌≡◌, true, ℕ, ◌+◌, ◌*◌, ◌%◌, ◌<◌, ◌≤◌, ◌⊎◌, ◌↔◌, map, Some, None, Ok, Err, IfOk, IfErr, IsOk, MatchResult, OnOk, OnErr, false};
     ghost use Rattle.tlsf_store.specs.declared.errors.StoreError.TheVariants.{BadCount};
     ghost use Rattle.tlsf_store.specs.Records.{most_records};
     ghost use Rattle.tlsf_heap.specs.Touches.{AtMost, add_pool_touches, remove_pool_touches, malloc_touches, malloc_or_own_touches, memalign_touches, free_touches, realloc_touches, block_size_touches};
@@ -245,6 +245,19 @@ impl Heap {
         ensures bound { AtMost free_touches self.old.touches self.new.touches }
     {
         free(&mut self.store, ptr)
+    }
+
+    /// The same, where the block has `size` bytes. The answer is whether a live block of this size has both the pointer's place
+    /// and its slot; else nothing changes. At most 31 touches, and one where none has.
+    #[inline(always)]
+    pub fn free_sized(&mut self, ptr: Ptr, size: u64) -> bool
+        ensures found { (result ≡ true) ↔ (block_size_ptr ptr self.old.content ≡ Ok size) }
+        ensures freed { result ≡ true → free_ptr ptr self.old.content ≡ Ok self.new.content }
+        ensures unchanged { result ≡ false → IsUnchanged self.old self.new }
+        ensures reads_one { result ≡ false → AtMost block_size_touches self.old.touches self.new.touches }
+        ensures bound { AtMost (free_touches + 1) self.old.touches self.new.touches }
+    {
+        free_sized(&mut self.store, ptr, size)
     }
 
     /// The block with room for `n` bytes, rounded up to the unit. It stays in its place where it can have them there:

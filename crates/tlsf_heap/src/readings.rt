@@ -1,6 +1,6 @@
 //! Readings: the rows of a pool, the size of a block, the records in use, and the greatest request.
 
-ghost use Rattle.std.specs.Prelude.{◌≡◌, true, ◌+◌, ◌-◌, ◌<◌, ◌≤◌, ◌↔◌, Ok, Err, IfOk, IfErr};
+ghost use Rattle.std.specs.Prelude.{◌≡◌, ◌+◌, ◌-◌, ◌<◌, ◌≤◌, Ok, Err, IfOk, IfErr};
 ghost use Rattle.tlsf_store.specs.Cells.{most_pools};
 ghost use Rattle.tlsf_heap.specs.Touches.{block_size_touches};
 ghost use Rattle.tlsf_heap.specs.Content.{used_records};
@@ -15,7 +15,7 @@ ghost use Rattle.tlsf_heap.specs.Inner.Answers.{Leaves};
 use crate::free::live;
 use crate::search::last_class;
 use crate::{Cursor, Ptr, Refusal, Row};
-use tlsf_class::{UNIT, low};
+use tlsf_class::low;
 use tlsf_store::{MOST_POOLS, Pool, Slot, Store};
 
 /// Half of the pool entries.
@@ -123,22 +123,6 @@ pub(crate) fn block_size(store: &mut Store, ptr: Ptr) -> Result<u32, Refusal>
         return Err(Refusal::BadPointer);
     };
     Ok(block.size)
-}
-
-/// Whether the pointer's block is live and has `size` bytes. At most one touch.
-#[inline(always)]
-pub(crate) fn has_block(store: &mut Store, ptr: Ptr, size: u64) -> bool
-    requires { Stands store.old.cells }
-    ensures value { (result ≡ true) ↔ (block_size_ptr ptr (content_of store.old.cells) ≡ Ok size) }
-    ensures left { Leaves store.old.cells block_size_touches store.old store.new }
-{
-    if u32::from(ptr.slot()) >= store.records() {
-        return false;
-    }
-    if size % u64::from(UNIT) != 0 {
-        return false;
-    }
-    store.is_live(Slot(ptr.slot()), ptr.place(), size)
 }
 
 /// How many records are in use: one a block. At most one touch.

@@ -1,11 +1,13 @@
 -- A pointer's live block, as a node at its position: its size and the free block behind it. What stands once it has
 -- another size in its place.
-use Rattle.std.proofs.Common.{◌≡◌, ◌≢◌, ℕ, ◌+◌, ◌%◌, ◌<◌, ◌≤◌, Bool, true, false, cond, List, ◌∷◌, length, refl, sym, ap, ◌∙◌, arith, Option, Some, None, option_map, inl, inr, [], unwrap_or, ◌-◌}
+use Rattle.std.proofs.Common.{◌≡◌, ◌≢◌, ℕ, ◌+◌, ◌%◌, ◌<◌, ◌≤◌, Bool, true, false, cond, List, ◌∷◌, length, refl, sym, ap, ◌∙◌, arith, Option, Some, None, Ok, Err, option_map, inl, inr, [], unwrap_or, ◌-◌}
 use Rattle.std.specs.Prelude.{◌||◌, is_some, nat_lt, nat_le, ◌==◌, ◌⊎◌}
 use Rattle.std.proofs.lemmas.Bool.{cases_Bool, ltb-true, ltb-false, leb-true, lt-ltb, le-ltb, le-leb, lt-leb, leb-false}
 use Rattle.tlsf_class.specs.Classes.{unit}
 use Rattle.tlsf_store.specs.Records.{record_at, vacant_count}
 use Rattle.tlsf_store.specs.Cells.{Cells}
+use Rattle.tlsf_heap.specs.declared.refusal.Refusal.TheVariants.{BadPointer}
+use Rattle.tlsf_heap.specs.Pointer.{Pointer, block_size_ptr}
 use Rattle.tlsf_heap.specs.Content.{Block, Content, blocks_of, size_at, used_records}
 use Rattle.tlsf_heap.specs.Free.{is_live, if_free, free_next, size_of}
 use Rattle.tlsf_heap.specs.Realloc.{fits_in_place, resized}
@@ -182,6 +184,13 @@ module _ (cells : Cells) (stands : Stands cells) (place slot : ℕ) (by : NodeAt
         | inl some ↦ lt-ltb (used_records (content_of cells)) (content_of cells).records (omega (arith, vacant_there cells stands, ltb-true 0 (vacant_count cells.records) some)) ∙ sym some
         | inr none ↦ le-ltb (used_records (content_of cells)) (content_of cells).records (omega (arith, vacant_there cells stands, ltb-false 0 (vacant_count cells.records) none)) ∙ sym none
       ]
+
+-- what has a size is live
+pub size_live : (cells : Cells) (place slot size : ℕ) → block_size_ptr (record { place = place; slot = slot }) (content_of cells) ≡ Ok size → is_live (λ owner. owner == slot) place (blocks_of (content_of cells).pools) ≡ true
+size_live cells place slot size is = elim (cases_Bool (is_live (λ owner. owner == slot) place (blocks_of (content_of cells).pools))) [
+  | inl live ↦ live
+  | inr none ↦ absurd (let e : Err BadPointer ≡ Ok size = sym (ap (λ b. cond b (Ok (size_at place (blocks_of (content_of cells).pools))) (Err BadPointer)) none) ∙ is in cc)
+]
 
 -- what is known of the block of a live pointer: its size, and that its slot is of a record
 pub size_known : (cells : Cells) (stands : Stands cells) (place slot : ℕ) → is_live (λ owner. owner == slot) place (blocks_of (content_of cells).pools) ≡ true → (block : Record) → block ≡ record_at cells.records slot → block.size ≡ size_at place (blocks_of (content_of cells).pools)

@@ -1,7 +1,7 @@
 -- The pointer's record tells whether its block is live and how large it is.
-use Rattle.std.proofs.Common.{◌≡◌, ◌&&◌, ℕ, nat_eq, ◌%◌, ◌<◌, true, cond, refl, sym, ap, ◌∙◌, arith, length, Ok, Err, inl, inr}
+use Rattle.std.proofs.Common.{◌≡◌, ◌&&◌, ℕ, nat_eq, ◌%◌, ◌<◌, true, cond, refl, sym, ap, ◌∙◌, arith, length, Ok, Err}
 use Rattle.std.specs.Prelude.{◌==◌, Result}
-use Rattle.std.proofs.lemmas.Bool.{cases_Bool, and_parts, eqb-true, eq-eqb}
+use Rattle.std.proofs.lemmas.Bool.{and_parts, eqb-true, eq-eqb}
 use Rattle.tlsf_class.specs.Classes.{unit}
 use Rattle.tlsf_store.specs.declared.records.Record.{Record}
 use Rattle.tlsf_store.specs.declared.records.State.TheVariants.{Live}
@@ -10,14 +10,13 @@ use Rattle.tlsf_store.specs.Cells.{Cells}
 use Rattle.tlsf_heap.specs.declared.refusal.Refusal.{Refusal}
 use Rattle.tlsf_heap.specs.declared.refusal.Refusal.TheVariants.{BadPointer}
 use Rattle.tlsf_heap.specs.Content.{blocks_of, size_at}
-use Rattle.tlsf_heap.specs.Free.{is_live}
 use Rattle.tlsf_heap.specs.Pointer.{Pointer, block_size_ptr}
 use Rattle.tlsf_heap.specs.Inner.Following.{Stands, content_of}
 use Rattle.tlsf_heap.specs.Inner.Nodes.{InUse}
 use Rattle.tlsf_heap.proofs.Inner.Live.{state_live, live_at, has_live}
-use Rattle.tlsf_heap.proofs.Inner.Resizing.{size_known, live_below}
+use Rattle.tlsf_heap.proofs.Inner.Resizing.{size_live, size_known, live_below}
 use Rattle.tlsf_heap.proofs.Inner.Steps.{whole_at, size_read, state_read, place_read}
-use Rattle.tlsf_heap.proofs.readings.has_block.Goals as goal
+use Rattle.tlsf_heap.proofs.free.has_block.Goals as goal
 
 -- a record that is of a live block with this place and size, or isn't
 is_record : (block : Record) (place size : ℕ) → (is_live_state block.state && (nat_eq block.place place && nat_eq block.size size)) ≡ true → (block.state ≡ Live) × (block.place ≡ place) × (block.size ≡ size)
@@ -42,21 +41,19 @@ module _ (cells : Cells) (stands : Stands cells) (place slot size : ℕ) where
     in_units : size % unit ≡ 0
 
   is_of : block_size_ptr (record { place = place; slot = slot }) (content_of cells) ≡ Ok size → IsOf
-  is_of is = elim (cases_Bool (is_live (λ owner. owner == slot) place (blocks_of (content_of cells).pools))) [
-    | inl live ↦
-        let by = live_at cells stands place slot live in
-        let whole = whole_at cells slot InUse by.at by.stands in
-        let told : Ok (size_at place (blocks_of (content_of cells).pools)) ≡ Ok size = sym (ap (λ b. cond b (Ok (size_at place (blocks_of (content_of cells).pools))) (Err BadPointer)) live) ∙ is in
-        let same : read.size ≡ size = size_known cells stands place slot live read refl ∙ (let s : size_at place (blocks_of (content_of cells).pools) ≡ size = cc in s) in
-        record {
-          below = (live_below cells stands place slot live).0;
-          live = state_read cells slot InUse by.at by.stands;
-          begins = place_read cells slot InUse by.at by.stands ∙ by.place_is;
-          has = same;
-          in_units = omega (arith, whole.in_units, same, size_read cells slot InUse by.at by.stands);
-        }
-    | inr none ↦ absurd (let e : Err BadPointer ≡ Ok size = sym (ap (λ b. cond b (Ok (size_at place (blocks_of (content_of cells).pools))) (Err BadPointer)) none) ∙ is in cc)
-  ]
+  is_of is =
+      let live = size_live cells place slot size is in
+      let by = live_at cells stands place slot live in
+      let whole = whole_at cells slot InUse by.at by.stands in
+      let told : Ok (size_at place (blocks_of (content_of cells).pools)) ≡ Ok size = sym (ap (λ b. cond b (Ok (size_at place (blocks_of (content_of cells).pools))) (Err BadPointer)) live) ∙ is in
+      let same : read.size ≡ size = size_known cells stands place slot live read refl ∙ (let s : size_at place (blocks_of (content_of cells).pools) ≡ size = cc in s) in
+      record {
+        below = (live_below cells stands place slot live).0;
+        live = state_read cells slot InUse by.at by.stands;
+        begins = place_read cells slot InUse by.at by.stands ∙ by.place_is;
+        has = same;
+        in_units = omega (arith, whole.in_units, same, size_read cells slot InUse by.at by.stands);
+      }
 
   -- and the other way round
   has_size : read.state ≡ Live → read.place ≡ place → read.size ≡ size → block_size_ptr (record { place = place; slot = slot }) (content_of cells) ≡ Ok size
