@@ -193,7 +193,7 @@ RARE static void *refuse_front(struct control *control, const void *ptr, size_t 
 }
 
 /* A request, by the status of the proved call. One for 0 bytes is none. */
-RARE static void *refuse_bytes(struct control *control, uint64_t status, const void *ptr, size_t bytes)
+RARE static void *refuse_bytes(struct control *control, const void *ptr, uint64_t status, size_t bytes)
 {
     static const enum tlsf_refusal kinds[16] = {[TLSF_NO_FIT] = TLSF_REFUSED_NO_FIT,
                                                 [TLSF_TABLE_FULL] = TLSF_REFUSED_TABLE_FULL,
@@ -205,7 +205,7 @@ RARE static void *refuse_bytes(struct control *control, uint64_t status, const v
 static inline void *hand_out(struct control *control, struct placed_block block, size_t bytes)
 {
     if (block.address == 0u) {
-        return refuse_bytes(control, block.word, NULL, bytes);
+        return refuse_bytes(control, NULL, block.word, bytes);
     }
     write_front((uintptr_t)block.address, block.word);
     control->most = (uint32_t)control->at.live.most_bytes;
@@ -215,7 +215,7 @@ static inline void *hand_out(struct control *control, struct placed_block block,
 void *tlsf_malloc(tlsf_t tlsf, size_t bytes)
 {
     ON_HEAP(tlsf);
-    if (control == NULL) {
+    if (__builtin_expect(control == NULL, 0)) {
         return NULL;
     }
     return hand_out(control, tlsf_placed_malloc(&control->at, bytes), bytes);
@@ -266,7 +266,7 @@ static void *resize(struct control *control, void *ptr, size_t size)
         = tlsf_placed_realloc(&control->at, (uintptr_t)ptr, size, &word, &copied);
     if (address == 0u) {
         return (enum tlsf_status)word == TLSF_BAD_POINTER ? refuse_front(control, ptr, size)
-                                                         : refuse_bytes(control, word, ptr, size);
+                                                         : refuse_bytes(control, ptr, word, size);
     }
     write_front((uintptr_t)ptr, (uintptr_t)ptr);
     void *now = hand_out(control, (struct placed_block){address, word}, size);

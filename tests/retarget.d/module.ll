@@ -130,14 +130,16 @@ start:
   ret i1 false
 }
 
-define noundef i64 @tlsf_placed_malloc(ptr noundef %a0, i64 noundef %a1, ptr noundef %a2) #0 {
+define { i64, i64 } @tlsf_placed_malloc(ptr noundef %a0, i64 noundef %a1) #0 {
 start:
-  ret i64 0
+  %r0 = load { i64, i64 }, ptr %a0, align 8
+  ret { i64, i64 } %r0
 }
 
-define noundef i64 @tlsf_placed_memalign(ptr noundef %a0, i64 noundef %a1, i64 noundef %a2, ptr noundef %a3) #0 {
+define { i64, i64 } @tlsf_placed_memalign(ptr noundef %a0, i64 noundef %a1, i64 noundef %a2) #0 {
 start:
-  ret i64 0
+  %r0 = load { i64, i64 }, ptr %a0, align 8
+  ret { i64, i64 } %r0
 }
 
 define noundef i64 @tlsf_placed_realloc(ptr noundef %a0, i64 noundef %a1, i64 noundef %a2, ptr noundef %a3, ptr noundef %a4) #0 {

@@ -133,7 +133,7 @@ impl Packed {
         requires below { IsBelow most_records next }
         ensures { self.new ≡ record self.old { size = size; state = state; next = next } }
     {
-        self.size_word = size + state as u32;
+        self.set_state(size, state);
         self.next = link_word(next);
     }
 

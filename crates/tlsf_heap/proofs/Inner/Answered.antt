@@ -1,6 +1,5 @@
 -- What is answered over cells that were read is answered over the cells before, and by a call that is equal there.
-use Rattle.std.proofs.Common.{◌≡◌, ℕ, ◌+◌, ◌≤◌, ap, ◌∙◌, subst, arith, Result, Err}
-use Rattle.std.specs.Prelude.{IfOk}
+use Rattle.std.proofs.Common.{◌≡◌, ℕ, ◌+◌, ◌∙◌, subst, arith, Result, Err}
 use Rattle.std.proofs.lemmas.Result.{IfOk-weaker, IfErr-weaker, on_err_weaker}
 use Rattle.tlsf_store.specs.Cells.{Cells}
 use Rattle.tlsf_store.specs.CountedCells.{CountedCells}

@@ -7,7 +7,7 @@ use Rattle.tlsf_class.specs.Classes.{unit}
 use Rattle.tlsf_store.specs.Records.{record_at, vacant_count}
 use Rattle.tlsf_store.specs.Cells.{Cells}
 use Rattle.tlsf_heap.specs.declared.refusal.Refusal.TheVariants.{BadPointer}
-use Rattle.tlsf_heap.specs.Pointer.{Pointer, block_size_ptr}
+use Rattle.tlsf_heap.specs.Pointer.{block_size_ptr}
 use Rattle.tlsf_heap.specs.Content.{Block, Content, blocks_of, size_at, used_records}
 use Rattle.tlsf_heap.specs.Free.{is_live, if_free, free_next, size_of}
 use Rattle.tlsf_heap.specs.Realloc.{fits_in_place, resized}

@@ -1,5 +1,5 @@
 -- What a served free leaves of blocks and ranges.
-use Rattle.std.proofs.Common.{◌≡◌, subst, Ok}
+use Rattle.std.proofs.Common.{◌≡◌, subst}
 use Rattle.std.specs.Prelude.{◌==◌, IfOk}
 use Rattle.tlsf_region.proofs.Ranges.{free_ranges, ranges}
 use Rattle.tlsf_c.proofs.LiveChanges.{freed_change}

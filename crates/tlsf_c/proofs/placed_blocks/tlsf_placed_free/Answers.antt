@@ -1,10 +1,9 @@
 -- The block that the address and the word mean is looked for under its slot, with its size.
-use Rattle.std.proofs.Common.{◌≡◌, ◌+◌, ◌*◌, ◌≤◌, ◌<◌, ℕ, true, List, map, sym, ap, ◌∙◌, subst, arith, Ok}
-use Rattle.tlsf_heap.specs.Counted.{Counted, range_of}
+use Rattle.std.proofs.Common.{◌≡◌, ℕ, true, sym, ap, ◌∙◌, subst, arith, Ok}
+use Rattle.tlsf_heap.specs.Counted.{Counted}
 use Rattle.tlsf_heap.specs.Pointer.{Pointer, free_ptr, block_size_ptr}
 use Rattle.tlsf_c.specs.Fronts.{told_size}
 use Rattle.tlsf_c.specs.LiveFigures.{IsLiveChange}
-use Rattle.tlsf_c.specs.PlacedPools.{AreEntriesOf}
 use Rattle.tlsf_c.specs.PlacedHeaps.{told_block}
 use Rattle.tlsf_c.proofs.PlacedLemmas.{live_in_found}
 use Rattle.tlsf_c.proofs.placed_blocks.tlsf_placed_free.Goals as goal

@@ -8,7 +8,7 @@ use Rattle.tlsf_heap.specs.Free.{is_live, after_free}
 use Rattle.tlsf_heap.specs.Inner.Following.{Stands, content_of}
 use Rattle.tlsf_heap.specs.Inner.Nodes.{InUse}
 use Rattle.tlsf_heap.specs.Inner.At.{At, StandsAt}
-use Rattle.tlsf_heap.proofs.Inner.Live.{NodeAt, live_at, freed_stands}
+use Rattle.tlsf_heap.proofs.Inner.Live.{live_at, freed_stands}
 use Rattle.tlsf_heap.proofs.Inner.Resizing.{size_live}
 use Rattle.tlsf_heap.proofs.Inner.Steps.{slot_used}
 use Rattle.tlsf_heap.proofs.free.free_sized.Goals as goal

@@ -1,16 +1,14 @@
 -- The pointer's record tells whether its block is live and how large it is.
 use Rattle.std.proofs.Common.{◌≡◌, ◌&&◌, ℕ, nat_eq, ◌%◌, ◌<◌, true, cond, refl, sym, ap, ◌∙◌, arith, length, Ok, Err}
-use Rattle.std.specs.Prelude.{◌==◌, Result}
 use Rattle.std.proofs.lemmas.Bool.{and_parts, eqb-true, eq-eqb}
 use Rattle.tlsf_class.specs.Classes.{unit}
 use Rattle.tlsf_store.specs.declared.records.Record.{Record}
 use Rattle.tlsf_store.specs.declared.records.State.TheVariants.{Live}
 use Rattle.tlsf_store.specs.Records.{record_at, is_live_state}
 use Rattle.tlsf_store.specs.Cells.{Cells}
-use Rattle.tlsf_heap.specs.declared.refusal.Refusal.{Refusal}
 use Rattle.tlsf_heap.specs.declared.refusal.Refusal.TheVariants.{BadPointer}
 use Rattle.tlsf_heap.specs.Content.{blocks_of, size_at}
-use Rattle.tlsf_heap.specs.Pointer.{Pointer, block_size_ptr}
+use Rattle.tlsf_heap.specs.Pointer.{block_size_ptr}
 use Rattle.tlsf_heap.specs.Inner.Following.{Stands, content_of}
 use Rattle.tlsf_heap.specs.Inner.Nodes.{InUse}
 use Rattle.tlsf_heap.proofs.Inner.Live.{state_live, live_at, has_live}

@@ -11,7 +11,7 @@ use Rattle.tlsf_heap.specs.Content.{IsSize}
 use Rattle.tlsf_heap.specs.Lists.{pick}
 use Rattle.tlsf_heap.specs.OwnClass.{own_first, picked_or_own, malloc_or_own, malloc_or_own_rounded}
 use Rattle.tlsf_heap.specs.Inner.Following.{Stands, content_of}
-use Rattle.tlsf_heap.specs.Inner.Answers.{Leaves, IsPickOf, IsTakeable, IsTakenFor, IsFirstFor}
+use Rattle.tlsf_heap.specs.Inner.Answers.{Leaves, IsPickOf, IsTakenFor, IsFirstFor}
 use Rattle.tlsf_heap.proofs.Content.Alignments.{round_size}
 use Rattle.tlsf_heap.proofs.Inner.Answered.{answered_as}
 use Rattle.tlsf_heap.proofs.Inner.TakenBlock.{pick_takeable, first_taken}
