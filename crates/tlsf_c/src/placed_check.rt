@@ -12,8 +12,8 @@ use crate::placed_blocks::FRONT;
 use crate::placed_heap::PlacedHeap;
 use crate::placed_loading::has_range;
 
-/// Whether the table of records is that of a heap, as it always is, and the program's figures are right: so many blocks
-/// are live, with so many bytes behind their fronts. There are more touches than records.
+/// Whether the table of records is that of a heap, as it always is, and the program's figures are right: as many blocks
+/// are live, with as many bytes behind their fronts. There are more touches than records.
 #[unsafe(no_mangle)]
 pub extern "C" fn tlsf_placed_check(heap: &mut PlacedHeap, blocks: u64, bytes: u64) -> bool
     ensures live { (result ≡ true) ↔ ((blocks ≡ live_blocks heap.old.handle.value.content) × (bytes + front * blocks ≡ live_bytes (blocks_of heap.old.handle.value.content.pools))) }
@@ -31,7 +31,7 @@ pub extern "C" fn tlsf_placed_check(heap: &mut PlacedHeap, blocks: u64, bytes: u
     live.blocks == blocks && live.bytes - FRONT * live.blocks == bytes
 }
 
-/// Whether the heap has a pool of this place and of so many bytes.
+/// Whether the heap has a pool of this place and size, in bytes.
 #[unsafe(no_mangle)]
 pub extern "C" fn tlsf_placed_has_pool(heap: &mut PlacedHeap, place: u32, bytes: u64) -> bool
     ensures yes { result ≡ true → Contains (map range_of heap.old.handle.value.content.pools) (place, bytes) }

@@ -73,7 +73,7 @@ const SITES: Help = Help {
     examples: "Examples:
   tlsf sites a.log                              who holds the memory of a.log
   tlsf sites --calls a.log                      the same, and who asks how often
-  xz -dc a.log.xz | tlsf sites -                the same of a log that is packed
+  xz -dc a.log.xz | tlsf sites -                the same of a compressed log
   tlsf sites --pool 65536 --records 500 a.log   the same on a heap that has no more",
 };
 
