@@ -72,9 +72,9 @@ uint64_t mark_of(const struct control *control)
     size_t word = 0;
     size_t live = offsetof(struct control, at.live);
     uint64_t sum = ODD * control->records;
-    for (size_t at = 0; at < live; at += WORD) {
+    for (size_t at = 0; at < offsetof(struct control, records); at += WORD) {
         (void)__builtin_memcpy(&word, (const unsigned char *)control + at, WORD);
-        sum += times(at) * word;
+        sum += at - live < sizeof control->at.live ? 0u : times(at) * word;
     }
     return sum;
 }
@@ -120,7 +120,7 @@ tlsf_t tlsf_create_records(void *mem, size_t bytes, uint32_t records)
     if (!tlsf_placed_places((uintptr_t)mem, bytes, sizeof *control, records, UINTPTR_MAX, &places)) {
         return NULL;
     }
-    *control = (struct control){.magic = (uintptr_t)mem + MAGIC, .records = records};
+    *control = (struct control){.at.owner = (uintptr_t)mem + MAGIC, .records = records};
     if (tlsf_heap_create_in((void *)(uintptr_t)places.table, TLSF_HEAP_TABLE_BYTES(records), records,
                             &control->at.heap) == TLSF_OK) {
         void *rest = (void *)(uintptr_t)places.pool;
@@ -208,14 +208,13 @@ static inline void *hand_out(struct control *control, struct placed_block block,
         return refuse_bytes(control, NULL, block.word, bytes);
     }
     write_front((uintptr_t)block.address, block.word);
-    control->most = (uint32_t)control->at.live.most_bytes;
     return (void *)(uintptr_t)block.address;
 }
 
 void *tlsf_malloc(tlsf_t tlsf, size_t bytes)
 {
     ON_HEAP(tlsf);
-    if (__builtin_expect(control == NULL, 0)) {
+    if (control == NULL) {
         return NULL;
     }
     return hand_out(control, tlsf_placed_malloc(&control->at, bytes), bytes);
@@ -237,19 +236,36 @@ void *tlsf_memalign(tlsf_t tlsf, size_t align, size_t bytes)
     return hand_out(control, block, bytes);
 }
 
-void tlsf_free(tlsf_t tlsf, void *ptr)
+/* Frees the block of a pointer into a pool. */
+static inline void free_block(struct control *control, void *ptr)
 {
-    ON_HEAP(tlsf);
-    uint64_t word = 0;
-    if (control == NULL) {
-        return;
-    }
-    if (!read_front(control, ptr, &word)) {
-        (void)refuse_pointer(control, ptr, 0);
-    } else if (tlsf_placed_free(&control->at, (uintptr_t)ptr, word) == TLSF_OK) {
+    if (tlsf_placed_free(&control->at, (uintptr_t)ptr, front_of(ptr)) == TLSF_OK) {
         write_front((uintptr_t)ptr, (uintptr_t)ptr);
     } else {
         (void)refuse_front(control, ptr, 0);
+    }
+}
+
+/* The same where the pointer isn't into the first pool. */
+RARE static void free_elsewhere(struct control *control, void *ptr)
+{
+    if (tlsf_placed_has(&control->at, (uintptr_t)ptr)) {
+        free_block(control, ptr);
+    } else {
+        (void)refuse_pointer(control, ptr, 0);
+    }
+}
+
+void tlsf_free(tlsf_t tlsf, void *ptr)
+{
+    ON_HEAP(tlsf);
+    if (control == NULL) {
+        return;
+    }
+    if (is_in_first(control, ptr)) {
+        free_block(control, ptr);
+    } else {
+        free_elsewhere(control, ptr);
     }
 }
 

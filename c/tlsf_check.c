@@ -115,7 +115,7 @@ static int check(struct control *control, uint32_t entry)
 {
     int lost = 0;
     if (control == NULL || control->mark != mark_of(control)
-        || control->most != control->at.live.most_bytes
+        || control->at.live.most_again != control->at.live.most_bytes
         || !tlsf_placed_check(&control->at, control->at.live.blocks, control->at.live.bytes)) {
         return -1;
     }

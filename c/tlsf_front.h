@@ -53,12 +53,13 @@ struct pool {
     struct control *control TLSF_HEAP_POINTER;
 };
 
-/* What is live: the bytes of the blocks behind their fronts, the most that there were, and how many
- * blocks there are. */
+/* What is live: the bytes of the blocks behind their fronts, the most that there were, how many
+ * blocks there are, and the most once more: 32 bits tell it. */
 struct live {
     uint64_t bytes;
     uint64_t most_bytes;
-    uint64_t blocks;
+    uint32_t blocks;
+    uint32_t most_again;
 };
 
 /* What is free: the bytes of the free blocks, with their fronts; for how many bytes tlsf_placed_malloc
@@ -70,9 +71,11 @@ struct free_figures {
     uint64_t largest_free;
 };
 
-/* A heap whose pools have addresses. It begins with a new heap, and zeros. Then pools come and go, and
- * blocks are asked for and freed, by the calls below alone: what is proved of them rests on that. */
+/* A heap whose pools have addresses. It begins with a word that no call reads or changes, a new heap,
+ * and zeros. Then pools come and go, and blocks are asked for and freed, by the calls below alone: what
+ * is proved of them rests on that. */
 struct placed {
+    uint64_t owner;
     tlsf_heap heap;
     struct pool pools[POOLS];
     struct live live;
@@ -157,16 +160,15 @@ bool tlsf_placed_move(struct placed *heap, uint32_t entry, uint64_t memory, uint
 bool tlsf_placed_moved_front(const struct placed *heap, const struct row *row, uint64_t from, uint64_t to,
                              uint64_t *word);
 
-/* What stands at the start of the memory handed in, in front of the table. */
+/* What stands at the start of the memory handed in, in front of the table. It begins with its owner:
+ * MAGIC and its own address. */
 struct control {
-    uintptr_t magic;
+    struct placed at;
     size_t refusals[TLSF_REFUSALS];
     tlsf_refusal_hook hook;
     void *user;
-    struct placed at;
-    uint32_t most; /* the most live bytes once more: 32 bits tell them */
     uint32_t records;
-    uint64_t mark; /* a sum over the records, and what stands in front of at.live */
+    uint64_t mark; /* a sum over all in front of it but at.live */
 };
 
 typedef char control_is_told[sizeof(struct control) == TLSF_CONTROL_BYTES ? 1 : -1];
@@ -177,11 +179,11 @@ typedef char control_is_told[sizeof(struct control) == TLSF_CONTROL_BYTES ? 1 : 
 /* A heap, where the program has one there; else null. */
 static inline struct control *control_of(void *tlsf)
 {
-    uintptr_t magic = 0;
+    uint64_t owner = 0;
     if (tlsf != NULL) {
-        (void)__builtin_memcpy(&magic, tlsf, sizeof magic);
+        (void)__builtin_memcpy(&owner, tlsf, sizeof owner);
     }
-    return magic == (uintptr_t)tlsf + MAGIC ? (struct control *)tlsf : NULL;
+    return owner == (uintptr_t)tlsf + MAGIC ? (struct control *)tlsf : NULL;
 }
 
 /* The word of a live block is written in front of its pointer, and a freed block's pointer itself: it
@@ -198,18 +200,16 @@ static inline uint64_t front_of(const void *ptr)
     return word;
 }
 
-/* Whether a pool has the pointer, for where the first has not. */
-RARE __attribute__((unused)) static bool is_elsewhere(const struct control *control, const void *ptr)
+static inline bool is_in_first(const struct control *control, const void *ptr)
 {
-    return tlsf_placed_has(&control->at, (uintptr_t)ptr);
+    return (uintptr_t)ptr - control->at.pools[0].first < control->at.pools[0].reach;
 }
 
 /* Whether a pointer lies in a pool of the heap: then the word in front of it. Whether that is the word
  * of a live block is the proved calls' to say. */
 static inline bool read_front(const struct control *control, const void *ptr, uint64_t *word)
 {
-    const struct pool *first = &control->at.pools[0];
-    bool has = (uintptr_t)ptr - first->first < first->reach || is_elsewhere(control, ptr);
+    bool has = is_in_first(control, ptr) || tlsf_placed_has(&control->at, (uintptr_t)ptr);
     if (has) {
         *word = front_of(ptr);
     }
@@ -224,7 +224,7 @@ static inline bool is_apart(const struct control *control, uint64_t address, uin
 }
 
 /* The mark that a whole control part has: a sum of the number of records, and of the words in front of
- * the live figures. */
+ * it, but for the live figures. */
 uint64_t mark_of(const struct control *control);
 
 /* How many live blocks of an entry's pool have a front that isn't what it was where the pool began at an

@@ -98,4 +98,5 @@ same_figures figures old new change are = record {
   blocks = omega (arith, are.blocks, change.blocks);
   bytes = omega (arith, are.bytes, change.bytes);
   most = are.most;
+  again = are.again;
 }

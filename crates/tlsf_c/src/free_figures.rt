@@ -83,7 +83,7 @@ pub extern "C" fn tlsf_placed_free_figures(heap: &mut PlacedHeap, out: &mut Free
     ensures figures { heap.new.figures ≡ heap.old.figures }
 {
     heap.handle.heap().keeps_good();
-    let live = heap.figures.bytes + FRONT * heap.figures.blocks;
+    let live = heap.figures.bytes + FRONT * u64::from(heap.figures.blocks);
     let bytes = bytes_of_pools(&heap.pools) - live;
     let largest = tlsf_heap_largest_request(&mut heap.handle);
     let most = most_free(largest);

@@ -58,11 +58,7 @@ fn allocate_aligned(heap: &mut Heap, align: u64, bytes: u64) -> Result<Ptr, Refu
 /// Where the heap refuses the address is 0. Then the word is the number of `BadAlign`, `ZeroSize`, `NoFit` or `TableFull`. It is
 /// that of `BadAlign` also where addresses aren't multiples of `align` as places are, in some pool.
 #[unsafe(no_mangle)]
-pub extern "C" fn tlsf_placed_memalign(
-    heap: &mut PlacedHeap,
-    align: u64,
-    bytes: u64,
-) -> PlacedBlock
+pub extern "C" fn tlsf_placed_memalign(heap: &mut PlacedHeap, align: u64, bytes: u64) -> PlacedBlock
     ensures given { 0 < result.address → IsGivenAt (λ slot. memalign_with_front align slot bytes) bytes result.address heap.old.pools heap.old.handle.value.content heap.new.handle.value.content }
     ensures live { 0 < result.address → IsLiveAt result.address result.word heap.old.pools heap.new.handle.value.content }
     ensures multiple { result.address % align ≡ 0 }

@@ -8,13 +8,15 @@ ghost use Rattle.tlsf_c.specs.PlacedPools.{IsPlaced, AreApart, IsEntryOf, IsEnte
 
 use crate::handle::Handle;
 use crate::live_count::count_live;
-use crate::live_figures::LiveFigures;
+use crate::live_figures::{LiveFigures, lowest_bits};
 use crate::placed_blocks::FRONT;
 use crate::placed_pool::PlacedPool;
 
 /// A heap that was loaded, and entries for its pools. It becomes a heap with addresses where they fit.
 #[repr(C)]
 pub struct LoadedHeap {
+    /// A word of the program's. No call reads or changes it.
+    pub owner: u64,
     /// The heap.
     pub handle: Handle,
     /// An entry for each of its pools. The others hold none.
@@ -185,10 +187,12 @@ pub extern "C" fn tlsf_placed_adopt(heap: &mut LoadedHeap) -> bool
     inner.keeps_good();
     let live = count_live(inner);
     let bytes = live.bytes - FRONT * live.blocks;
+    let most_bytes = heap.figures.most_bytes.max(bytes);
     heap.figures = LiveFigures {
         bytes,
-        most_bytes: heap.figures.most_bytes.max(bytes),
-        blocks: live.blocks,
+        most_bytes,
+        blocks: live.blocks as u32,
+        most_again: lowest_bits(most_bytes),
     };
     true
 }

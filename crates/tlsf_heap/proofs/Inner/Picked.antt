@@ -62,7 +62,7 @@ module _ (cells : Cells) (stands : Stands cells) where
           | inr apart ↦ absurd (omega (arith, stray, count-cons (strays cells.records) node nodes, ap (λ b. one_if (not b)) apart))
         ],
         (let P : List Node → Type 0 = λ ns. AreLinked in_list (list_views cells.records) None ns in
-        ap (λ v. v.prev) (subst P is (stands.represented.index.linked number)).0),
+            ap (λ v. v.prev) (subst P is (stands.represented.index.linked number)).0),
       )
 
   -- what search tells

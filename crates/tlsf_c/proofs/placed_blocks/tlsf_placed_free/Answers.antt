@@ -1,5 +1,5 @@
 -- The block that the address and the word mean is looked for under its slot, with its size.
-use Rattle.std.proofs.Common.{◌≡◌, ℕ, true, sym, ap, ◌∙◌, subst, arith, Ok}
+use Rattle.std.proofs.Common.{◌≡◌, ℕ, true, sym, ap, ◌∙◌, subst, arith, Ok, ◌%◌, ◌^◌}
 use Rattle.tlsf_heap.specs.Counted.{Counted}
 use Rattle.tlsf_heap.specs.Pointer.{Pointer, free_ptr, block_size_ptr}
 use Rattle.tlsf_c.specs.Fronts.{told_size}
@@ -17,13 +17,13 @@ pub returns-then-not-release-clause-found : goal.returns-then-not-release-clause
 returns-then-not-release-clause-found c = (
   λ none. absurd (omega (arith, none, c.number-then-not-release.ensures.positive)),
   λ live. (
-    let heap = c.args.heap.now in
-    let there = live_in_found c.args.address c.args.word c.in-Some.place heap.pools c.in-Some.ensures.0 heap.handle.value.content heap.apart c.in-Some.ensures.1 c.in-Some.ensures.2 live in
-    let same = block_is (goal.at.returns-then-not-release-clause-found c).After-release in
-    let here = subst (λ (p : Pointer). block_size_ptr p heap.handle.value.content ≡ Ok (told_size c.args.word c.args.address)) (sym same) there in
-    let inside = subst (λ (h : Counted). block_size_ptr c.new-ptr.result h.content ≡ Ok (told_size c.args.word c.args.address)) (sym c.heap.ensures.value) here in
-    let asked = subst (λ (n : ℕ). block_size_ptr c.new-ptr.result c.heap.result.now.content ≡ Ok n) (sym c.mark_of-mark.ensures.size) inside in
-    absurd (let yes : c.release.result ≡ true = c.release.ensures.found.1 asked in cc)),
+      let heap = c.args.heap.now in
+      let there = live_in_found c.args.address c.args.word c.in-Some.place heap.pools c.in-Some.ensures.0 heap.handle.value.content heap.apart c.in-Some.ensures.1 c.in-Some.ensures.2 live in
+      let same = block_is (goal.at.returns-then-not-release-clause-found c).After-release in
+      let here = subst (λ (p : Pointer). block_size_ptr p heap.handle.value.content ≡ Ok (told_size c.args.word c.args.address)) (sym same) there in
+      let inside = subst (λ (h : Counted). block_size_ptr c.new-ptr.result h.content ≡ Ok (told_size c.args.word c.args.address)) (sym c.heap.ensures.value) here in
+      let asked = subst (λ (n : ℕ). block_size_ptr c.new-ptr.result c.heap.result.now.content ≡ Ok n) (sym c.mark_of-mark.ensures.size) inside in
+      absurd (let yes : c.release.result ≡ true = c.release.ensures.found.1 asked in cc)),
 )
 
 pub invariant_of-heap-2-clause-figures_are : goal.invariant_of-heap-2-clause-figures_are
@@ -35,6 +35,7 @@ invariant_of-heap-2-clause-figures_are c =
       blocks = omega (arith, change.blocks, was.blocks, c.freed.ensures.blocks);
       bytes = omega (arith, change.blocks, change.bytes, was.bytes, long, c.freed.ensures.bytes, c.freed.ensures.blocks);
       most = omega (arith, was.most, c.freed.ensures.bytes, c.freed.ensures.most);
+      again = c.freed.ensures.again ∙ was.again ∙ ap (λ n. n % 2 ^ 32) (sym c.freed.ensures.most);
     }
 
 pub returns-clause-freed : goal.returns-clause-freed

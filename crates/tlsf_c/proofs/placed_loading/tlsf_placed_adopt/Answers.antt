@@ -21,6 +21,12 @@ overflow_sub-bytes c =
     let content = c.heap-inner.result.now.content in
     omega (arith, c.count_live-live.ensures.blocks, c.count_live-live.ensures.bytes, fronts_least content good)
 
+pub overflow_cast-heap : goal.overflow_cast-heap
+overflow_cast-heap c =
+    let good = c.keeps_good.ensures.good in
+    let content = c.heap-inner.result.now.content in
+    omega (arith, c.count_live-live.ensures.blocks, fronts_least content good, live_most content good)
+
 pub returns-clause-whole : goal.returns-clause-whole
 returns-clause-whole c = λ served.
     let good = c.keeps_good.ensures.good in
@@ -33,8 +39,9 @@ returns-clause-whole c = λ served.
     record {
       fit = subst (λ (rs : List (ℕ × ℕ)). FitEntries rs c.args.heap.now.pools) ranges (c.if-not-fit.ensures.yes refl);
       figures_are = record {
-        blocks = c.count_live-live.ensures.blocks ∙ sym blocks;
-        bytes = omega (arith, c.count_live-live.ensures.blocks, c.count_live-live.ensures.bytes, fronts_least content good, bytes);
-        most = omega (arith, c.max.ensures);
+        blocks = omega (arith, c.count_live-live.ensures.blocks, blocks, fronts_least content good, live_most content good);
+        bytes = omega (arith, c.count_live-live.ensures.blocks, c.count_live-live.ensures.bytes, fronts_least content good, live_most content good, bytes);
+        most = omega (arith, c.max-most_bytes.ensures);
+        again = c.lowest_bits.ensures;
       };
     }

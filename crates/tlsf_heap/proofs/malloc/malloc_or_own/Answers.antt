@@ -35,10 +35,14 @@ take-requires-clause-size c = sized (goal.at.take-requires-clause-size c).In_ok-
 
 -- the block that is picked is the one that is found
 picked_found : (cells : Cells) (stands : Stands cells) (asked class : ℕ) → IsPickOf asked class cells → IsFirstFor asked (picked_or_own asked (content_of cells) (pick asked (content_of cells).lists)) class cells
-picked_found cells stands asked class is = (is.0, is.1, record {
-  takeable = pick_takeable cells stands asked class is.0 is.2;
-  found = ap (λ (place : Option ℕ). picked_or_own asked (content_of cells) place) is.2.found;
-})
+picked_found cells stands asked class is = (
+  is.0,
+  is.1,
+  record {
+    takeable = pick_takeable cells stands asked class is.0 is.2;
+    found = ap (λ (place : Option ℕ). picked_or_own asked (content_of cells) place) is.2.found;
+  },
+)
 
 -- and where none is picked, the first of the own class
 own_found : (cells before : Cells) (asked class : ℕ) → before ≡ cells → pick asked (content_of cells).lists ≡ None → IsFirstFor asked (own_first asked (content_of before)) class before → IsFirstFor asked (picked_or_own asked (content_of cells) (pick asked (content_of cells).lists)) class cells
@@ -54,7 +58,7 @@ chosen c =
     elim c.match-pick.branch [
       | in-Some w ↦ subst P (sym w.class-is) (picked_found old c.requires asked w.in-Some.class w.in-Some.ensures.found)
       | in-None+in_ok-class-in-None w ↦ subst P (sym w.class-is)
-            (own_found old c.pick.new.store.cells asked w.in_ok-class-in-None.class c.pick.ensures.left.cells w.in-None.ensures.found (rw w.in_ok-class-in-None.ensures.ok_part at w.own_class.ensures.found))
+          (own_found old c.pick.new.store.cells asked w.in_ok-class-in-None.class c.pick.ensures.left.cells w.in-None.ensures.found (rw w.in_ok-class-in-None.ensures.ok_part at w.own_class.ensures.found))
     ]
 
 -- the cells are as they were
@@ -64,13 +68,13 @@ read c =
     let P : CountedCells → Type 0 = λ store. Leaves old.cells 5 old store in
     let chose : Leaves old.cells 5 old c.match-pick.store = elim c.match-pick.branch [
       | in-Some w ↦ subst P (sym w.store-is) (record {
-            cells = c.pick.ensures.left.cells;
-            touches = record { floor = c.pick.ensures.left.touches.floor; bound = omega (arith, c.pick.ensures.left.touches.bound) };
-          })
+        cells = c.pick.ensures.left.cells;
+        touches = record { floor = c.pick.ensures.left.touches.floor; bound = omega (arith, c.pick.ensures.left.touches.bound) };
+      })
       | in-None+in_ok-class-in-None w ↦ subst P (sym w.store-is) (record {
-            cells = w.own_class.ensures.left.cells ∙ c.pick.ensures.left.cells;
-            touches = record { floor = omega (arith, c.pick.ensures.left.touches.floor, w.own_class.ensures.left.touches.floor); bound = omega (arith, c.pick.ensures.left.touches.bound, w.own_class.ensures.left.touches.bound) };
-          })
+        cells = w.own_class.ensures.left.cells ∙ c.pick.ensures.left.cells;
+        touches = record { floor = omega (arith, c.pick.ensures.left.touches.floor, w.own_class.ensures.left.touches.floor); bound = omega (arith, c.pick.ensures.left.touches.bound, w.own_class.ensures.left.touches.bound) };
+      })
     ] in
     record {
       cells = c.first-slot.ensures.left.cells ∙ chose.cells;

@@ -37,5 +37,9 @@ pub returns-clause-found : goal.returns-clause-found
 returns-clause-found c =
     let cells : Cells = c.args.store.now.cells in
     let head = head_was cells c.args.asked c.class_of-class.result c.head.result (Some c.in_ok-slot.slot) c.class_of-class.ensures c.head.ensures.value c.in_ok-slot.was in
-    rw c.class_of-class.ensures (c.in_ok-slot.slot, head, own_taken cells c.requires.stands c.args.asked (class-lt c.args.asked) c.in_ok-slot.slot head
-    (omega (arith, c.if-block-asked.false, ap (λ (r : Record). r.size) c.read_used-block.ensures.value, ap (λ (x : Cells). (record_at x.records c.in_ok-slot.slot).size) c.head.ensures.left.cells)))
+    rw c.class_of-class.ensures (
+      c.in_ok-slot.slot,
+      head,
+      own_taken cells c.requires.stands c.args.asked (class-lt c.args.asked) c.in_ok-slot.slot head
+          (omega (arith, c.if-block-asked.false, ap (λ (r : Record). r.size) c.read_used-block.ensures.value, ap (λ (x : Cells). (record_at x.records c.in_ok-slot.slot).size) c.head.ensures.left.cells)),
+    )

@@ -125,7 +125,7 @@ taken c =
     elim c.if-block-asked.branch [
       | then-block-asked w ↦
           let left = whole_stands old c.requires.stands place slot asked by c.requires.size.positive c.requires.size.in_units picked w.take_whole.new.store.cells
-              (w.take_whole.ensures.leads by.at (rw read.left.cells by.stands)) (sym w.if-block-asked.true ∙ size) in
+          (w.take_whole.ensures.leads by.at (rw read.left.cells by.stands)) (sym w.if-block-asked.true ∙ size) in
           subst P (sym w.store-is) (record {
             stands = left.0;
             gives = left.1;
@@ -141,7 +141,7 @@ taken c =
           read_leaves mid w.unlink_first.new.store.cells slot c.args.class block (with_slot rest by.at) here same (rw read.value c.requires.takeable.of_class) w.unlink_first.ensures.cells in
           let room = room_left old c.requires.stands rest (rw read.left.cells at w.in-Some.ensures.within) (rw read.left.cells at w.in-Some.ensures.vacant) in
           let left = part_stands old c.requires.stands place slot asked by c.requires.size.positive c.requires.size.in_units picked w.split_off.new.store.cells rest
-              (w.split_off.ensures.leads Loose (at_unlisted by.at) refl (rw w.of.ensures loose)) (omega (arith, least, size, w.if-block-asked.false)) room in
+          (w.split_off.ensures.leads Loose (at_unlisted by.at) refl (rw w.of.ensures loose)) (omega (arith, least, size, w.if-block-asked.false)) room in
           subst P (sym w.store-is) (record {
             stands = left.0;
             gives = left.1;
