@@ -29,7 +29,7 @@ int tlsf_stats(tlsf_t tlsf, tlsf_figures *out)
                           .bytes_free = (size_t)figures.bytes,
                           .largest_request = (size_t)figures.largest_request,
                           .largest_free = (size_t)figures.largest_free,
-                          .records = control->records,
+                          .records = (uint32_t)control->records,
                           .records_used = tlsf_heap_records_used(&control->at.heap)};
     (void)memcpy(out->refusals, control->refusals, sizeof out->refusals);
     return 0;

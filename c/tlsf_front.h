@@ -167,7 +167,7 @@ struct control {
     size_t refusals[TLSF_REFUSALS];
     tlsf_refusal_hook hook;
     void *user;
-    uint32_t records;
+    size_t records;
     uint64_t mark; /* a sum over all in front of it but at.live */
 };
 
@@ -219,8 +219,8 @@ static inline bool read_front(const struct control *control, const void *ptr, ui
 /* Whether these bytes are none of the heap's own. */
 static inline bool is_apart(const struct control *control, uint64_t address, uint64_t bytes)
 {
-    return tlsf_placed_is_apart((uintptr_t)control, sizeof *control, control->records, address, bytes,
-                                UINTPTR_MAX);
+    return tlsf_placed_is_apart((uintptr_t)control, sizeof *control, (uint32_t)control->records, address,
+                                bytes, UINTPTR_MAX);
 }
 
 /* The mark that a whole control part has: a sum of the number of records, and of the words in front of

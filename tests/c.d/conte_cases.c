@@ -950,7 +950,7 @@ static void figures(void)
 /* A control part that has forgotten its pools: no call looks for a block's pool behind the eight. */
 static void forgotten_pools(void)
 {
-    enum { AT = 8 * sizeof(size_t) + 8, BYTES = 8 * 32 };
+    enum { AT = 8 + 8, BYTES = 8 * 32 };
     tlsf_t tlsf = tlsf_create_with_pool(memory, sizeof memory);
     void *one = tlsf_malloc(tlsf, 100);
     memset(memory + AT, 0, BYTES);

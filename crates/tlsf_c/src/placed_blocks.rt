@@ -110,8 +110,12 @@ pub(crate) fn place_block(pools: &[PlacedPool; 8], ptr: Ptr, size: u64) -> Place
     if first.has_place(ptr.place()) {
         return place_in(first, ptr, size);
     }
+    // One always has: nothing is handed out where the program's entries were spoiled.
     let Some(pool) = later_pool_of(pools, ptr.place()) else {
-        unreachable!();
+        return PlacedBlock {
+            address: 0,
+            word: 0,
+        };
     };
     place_in(pool, ptr, size)
 }
