@@ -71,8 +71,9 @@ uint64_t mark_of(const struct control *control)
 {
     size_t word = 0;
     size_t live = offsetof(struct control, at.live);
+    size_t end = offsetof(struct control, records);
     uint64_t sum = ODD * control->records;
-    for (size_t at = 0; at < offsetof(struct control, records); at += WORD) {
+    for (size_t at = 0; at < end; at += WORD) {
         (void)__builtin_memcpy(&word, (const unsigned char *)control + at, WORD);
         sum += at - live < sizeof control->at.live ? 0u : times(at) * word;
     }
