@@ -73,11 +73,13 @@ impl Packed {
         }
     }
 
-    /// The record as callers see it: a vacant one holds nothing, whatever links it to the next.
+    /// The record as callers see it: a vacant one holds nothing, whatever links it to the next. No record has another code: one
+    /// that was spoiled is no block's.
     pub(crate) fn unpack(&self) -> Record
         ensures { result ≡ seen self.now }
     {
-        if self.is_vacant() {
+        let code = self.size_word % UNIT;
+        if code == 0 || code > 2 {
             return Record::blank(State::Vacant);
         }
         self.unpack_used()
