@@ -66,7 +66,7 @@ static void calls(tlsf_heap *heap, struct run *run, uint32_t from, unsigned many
 }
 
 /* The bytes of a record that mean something, the others as zeros: of a vacant one the next, of a
- * live one no links of lists. Each state but vacant and live is free. */
+ * live one no links of lists. Each state but vacant and live means something of its own. */
 static void meaning(const unsigned char *record, unsigned char told[RECORD])
 {
     enum { VACANT = 0, LIVE = 2 };
@@ -77,8 +77,6 @@ static void meaning(const unsigned char *record, unsigned char told[RECORD])
     } else if (state == VACANT) {
         memset(told, 0, RECORD);
         memcpy(told + 10, record + 10, 2);
-    } else {
-        told[4] |= 15u;
     }
 }
 
