@@ -71,9 +71,9 @@ struct free_figures {
     uint64_t largest_free;
 };
 
-/* A heap whose pools have addresses. It begins with a word that no call reads or changes, a new heap,
- * and zeros. Then pools come and go, and blocks are asked for and freed, by the calls below alone: what
- * is proved of them rests on that. */
+/* A heap whose pools have addresses. It begins with a word that no call changes, a new heap, and zeros.
+ * Then pools come and go, and blocks are asked for and freed, by the calls below alone: what is proved
+ * of them rests on that. */
 struct placed {
     uint64_t owner;
     tlsf_heap heap;
@@ -106,8 +106,8 @@ struct places {
  * eight bytes in front of its address.
  *
  * tlsf_placed_malloc answers a live block, whose address is a multiple of 16. tlsf_placed_memalign does
- * the same, and the address is a multiple of `align`. tlsf_placed_free answers 0 exactly where the block at the
- * address is live and has this word, and TLSF_BAD_POINTER else. tlsf_placed_block_size answers the
+ * the same, and the address is a multiple of `align`. tlsf_placed_free answers 0 exactly where the block
+ * at the address is live and has this word, and TLSF_BAD_POINTER else. tlsf_placed_block_size answers the
  * bytes behind the front of that block, and 0 where there is none. tlsf_placed_realloc gives it room
  * for `bytes` bytes, and answers its address then, with the word in *word. It copies no byte: *copied
  * is how many the program copies there. Where it is refused it answers 0, and *word is the status.

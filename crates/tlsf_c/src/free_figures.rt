@@ -80,6 +80,7 @@ pub extern "C" fn tlsf_placed_free_figures(heap: &mut PlacedHeap, out: &mut Free
     ensures none { out.new.bytes ≡ 0 → (out.new.largest_request ≡ 0) × (out.new.largest_free ≡ 0) }
     ensures read { Reads 2 heap.old.handle.value heap.new.handle.value }
     ensures pools { heap.new.pools ≡ heap.old.pools }
+    ensures owner { heap.new.owner ≡ heap.old.owner }
     ensures figures { heap.new.figures ≡ heap.old.figures }
 {
     heap.handle.heap().keeps_good();

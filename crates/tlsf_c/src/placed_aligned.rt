@@ -66,6 +66,7 @@ pub extern "C" fn tlsf_placed_memalign(heap: &mut PlacedHeap, align: u64, bytes:
     ensures unlike { (All (IsAlike align) heap.old.pools → ⊥) → (result.address ≡ 0) × (result.word ≡ number BadAlign) }
     ensures unchanged { result.address ≡ 0 → IsUnchanged heap.old.handle.value heap.new.handle.value }
     ensures pools { heap.new.pools ≡ heap.old.pools }
+    ensures owner { heap.new.owner ≡ heap.old.owner }
     ensures most { heap.new.figures.most_bytes ≡ max heap.old.figures.most_bytes heap.new.figures.bytes }
     ensures bound { AtMost memalign_touches heap.old.handle.value.touches heap.new.handle.value.touches }
 {

@@ -110,7 +110,7 @@ pub(crate) fn place_block(pools: &[PlacedPool; 8], ptr: Ptr, size: u64) -> Place
     if first.has_place(ptr.place()) {
         return place_in(first, ptr, size);
     }
-    // One always has: nothing is handed out where the program's entries were spoiled.
+    // A pool always has the place. Where the program's entries were spoiled, nothing is handed out.
     let Some(pool) = later_pool_of(pools, ptr.place()) else {
         return PlacedBlock {
             address: 0,
@@ -144,10 +144,11 @@ pub extern "C" fn tlsf_placed_malloc(heap: &mut PlacedHeap, bytes: u64) -> Place
     ensures multiple { result.address % 16 ≡ 0 }
     ensures refused { result.address ≡ 0 → IsRefusedAt (λ slot. malloc_with_front slot bytes) result.word heap.old.handle.value heap.new.handle.value }
     ensures pools { heap.new.pools ≡ heap.old.pools }
+    ensures owner { heap.new.owner ≡ heap.old.owner }
     ensures most { heap.new.figures.most_bytes ≡ max heap.old.figures.most_bytes heap.new.figures.bytes }
     ensures bound { AtMost malloc_or_own_touches heap.old.handle.value.touches heap.new.handle.value.touches }
 {
-    // What is 0 less 1 is above it, too.
+    // 0 less 1 wraps round to the greatest number, so it is refused, too.
     if bytes.wrapping_sub(1) >= MOST {
         return PlacedBlock::refused(refusal_of(bytes));
     }
@@ -175,6 +176,7 @@ pub(crate) fn find(heap: &mut PlacedHeap, address: u64, word: u64) -> Option<Siz
     ensures long { IfSome result (λ found. 16 ≤ found.size) }
     ensures none { IfNone result (IsLiveAt address word heap.old.pools heap.old.handle.value.content → ⊥) }
     ensures pools { heap.new.pools ≡ heap.old.pools }
+    ensures owner { heap.new.owner ≡ heap.old.owner }
     ensures figures { heap.new.figures ≡ heap.old.figures }
     ensures read { Reads 1 heap.old.handle.value heap.new.handle.value }
 {
@@ -203,6 +205,7 @@ pub extern "C" fn tlsf_placed_free(heap: &mut PlacedHeap, address: u64, word: u6
     ensures unchanged { result ≢ 0 → IsUnchanged heap.old.handle.value heap.new.handle.value }
     ensures reads_one { result ≢ 0 → AtMost 1 heap.old.handle.value.touches heap.new.handle.value.touches }
     ensures pools { heap.new.pools ≡ heap.old.pools }
+    ensures owner { heap.new.owner ≡ heap.old.owner }
     ensures most { heap.new.figures.most_bytes ≡ max heap.old.figures.most_bytes heap.new.figures.bytes }
     ensures bound { AtMost (free_touches + 1) heap.old.handle.value.touches heap.new.handle.value.touches }
 {

@@ -20,6 +20,7 @@ pub extern "C" fn tlsf_placed_check(heap: &mut PlacedHeap, blocks: u64, bytes: u
     ensures unchanged { IsUnchanged heap.old.handle.value heap.new.handle.value }
     ensures each_read { heap.old.handle.value.touches + heap.old.handle.value.content.records < heap.new.handle.value.touches }
     ensures pools { heap.new.pools ≡ heap.old.pools }
+    ensures owner { heap.new.owner ≡ heap.old.owner }
     ensures figures { heap.new.figures ≡ heap.old.figures }
 {
     let inner = heap.handle.heap();
@@ -38,6 +39,7 @@ pub extern "C" fn tlsf_placed_has_pool(heap: &mut PlacedHeap, place: u32, bytes:
     ensures no { result ≡ false → Contains (map range_of heap.old.handle.value.content.pools) (place, bytes) → ⊥ }
     ensures unchanged { IsUnchanged heap.old.handle.value heap.new.handle.value }
     ensures pools { heap.new.pools ≡ heap.old.pools }
+    ensures owner { heap.new.owner ≡ heap.old.owner }
     ensures figures { heap.new.figures ≡ heap.old.figures }
 {
     let ranges = heap.handle.heap().pools();

@@ -32,6 +32,7 @@ pub extern "C" fn tlsf_placed_moved_front(
     ensures slot { (behind : ℕ) → from + behind < 2 ^ 64 → to + behind < 2 ^ 64 → told_slot word.new (to + behind) ≡ told_slot word.old (from + behind) }
     ensures size { (behind : ℕ) → from + behind < 2 ^ 64 → to + behind < 2 ^ 64 → told_size word.new (to + behind) ≡ told_size word.old (from + behind) }
     ensures pools { heap.new.pools ≡ heap.old.pools }
+    ensures owner { heap.new.owner ≡ heap.old.owner }
     ensures figures { heap.new.figures ≡ heap.old.figures }
     ensures read { Reads block_size_touches heap.old.handle.value heap.new.handle.value }
 {

@@ -12,7 +12,7 @@ use crate::placed_pool::PlacedPool;
 /// A heap, where each of its pools lies in memory, and figures. It begins with a new heap, and zeros behind it.
 #[repr(C)]
 pub struct PlacedHeap {
-    /// A word of the program's. No call reads or changes it.
+    /// A word of the program's, which no call changes.
     pub owner: u64,
     /// The heap.
     pub handle: Handle,

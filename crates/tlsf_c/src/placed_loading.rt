@@ -15,7 +15,7 @@ use crate::placed_pool::PlacedPool;
 /// A heap that was loaded, and entries for its pools. It becomes a heap with addresses where they fit.
 #[repr(C)]
 pub struct LoadedHeap {
-    /// A word of the program's. No call reads or changes it.
+    /// A word of the program's, which no call changes.
     pub owner: u64,
     /// The heap.
     pub handle: Handle,
@@ -177,6 +177,7 @@ pub extern "C" fn tlsf_placed_adopt(heap: &mut LoadedHeap) -> bool
     ensures most { result ≡ true → heap.new.figures.most_bytes ≡ max heap.old.figures.most_bytes heap.new.figures.bytes }
     ensures figures { result ≡ false → heap.new.figures ≡ heap.old.figures }
     ensures pools { heap.new.pools ≡ heap.old.pools }
+    ensures owner { heap.new.owner ≡ heap.old.owner }
     ensures unchanged { IsUnchanged heap.old.handle.value heap.new.handle.value }
 {
     let ranges = heap.handle.heap().pools();

@@ -38,6 +38,7 @@ pub extern "C" fn tlsf_placed_add_pool(
     ensures reason { result ≢ 0 → is_alignment align ≡ true → memory + bytes < 2 ^ 64 → CanBePlaced (first_in memory) (bytes_in memory bytes) → All (IsClearOf (first_in memory) (bytes_in memory bytes - front)) heap.old.pools → IsPoolRefused align (first_in memory) (bytes_in memory bytes) result heap.old.pools heap.old.handle.value.content }
     ensures unchanged { result ≢ 0 → IsUnchanged heap.old.handle.value heap.new.handle.value × (heap.new.pools ≡ heap.old.pools) }
     ensures figures { heap.new.figures ≡ heap.old.figures }
+    ensures owner { heap.new.owner ≡ heap.old.owner }
     ensures bound { AtMost add_pool_touches heap.old.handle.value.touches heap.new.handle.value.touches }
 {
     if !is_alignment(align) {

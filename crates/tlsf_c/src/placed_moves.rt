@@ -24,6 +24,7 @@ pub extern "C" fn tlsf_placed_move(
     ensures refused { result ≡ false → entry < 8 → (pool : PlacedPool) → slice_index_or heap.old.pools entry pool ≡ pool → FitsMemory memory bytes last pool → ⊥ }
     ensures pools { result ≡ false → heap.new.pools ≡ heap.old.pools }
     ensures figures { heap.new.figures ≡ heap.old.figures }
+    ensures owner { heap.new.owner ≡ heap.old.owner }
     ensures unchanged { heap.new.handle.value ≡ heap.old.handle.value }
 {
     if entry >= 8 || memory > last || bytes > last - memory || memory > u64::MAX - (FRONT + 15) {

@@ -104,6 +104,7 @@ pub(crate) fn add_pool_at(
     ensures reason { result ≢ 0 → CanBePlaced first bytes → All (IsClearOf first (bytes - 8)) heap.old.pools → (result ≡ status_of (add_pool place bytes heap.old.handle.value.content)) ⊎ ((result ≡ number PoolsFull) × All (λ pool. 0 < pool.reach) heap.old.pools) }
     ensures unchanged { result ≢ 0 → IsUnchanged heap.old.handle.value heap.new.handle.value × (heap.new.pools ≡ heap.old.pools) }
     ensures figures { heap.new.figures ≡ heap.old.figures }
+    ensures owner { heap.new.owner ≡ heap.old.owner }
     ensures bound { AtMost add_pool_touches heap.old.handle.value.touches heap.new.handle.value.touches }
 {
     if !can_be_placed(first, bytes) || !is_clear(&heap.pools, first, bytes - FRONT) {
@@ -139,6 +140,7 @@ pub extern "C" fn tlsf_placed_remove_pool(heap: &mut PlacedHeap, entry: u32) -> 
     ensures unchanged { result ≢ 0 → IsUnchanged heap.old.handle.value heap.new.handle.value × (heap.new.pools ≡ heap.old.pools) }
     ensures reason { result ≢ 0 → entry < 8 → (pool : PlacedPool) → slice_index_or heap.old.pools entry pool ≡ pool → 0 < pool.reach → result ≡ status_of (remove_pool pool.place heap.old.handle.value.content) }
     ensures figures { heap.new.figures ≡ heap.old.figures }
+    ensures owner { heap.new.owner ≡ heap.old.owner }
     ensures bound { AtMost remove_pool_touches heap.old.handle.value.touches heap.new.handle.value.touches }
 {
     if entry >= 8 {

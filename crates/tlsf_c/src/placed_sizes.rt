@@ -28,6 +28,7 @@ pub extern "C" fn tlsf_placed_block_size(heap: &mut PlacedHeap, address: u64, wo
     ensures size { IsLiveAt address word heap.old.pools heap.old.handle.value.content → result ≡ told_size word address - front }
     ensures live { 0 < result → IsLiveAt address word heap.old.pools heap.old.handle.value.content }
     ensures pools { heap.new.pools ≡ heap.old.pools }
+    ensures owner { heap.new.owner ≡ heap.old.owner }
     ensures figures { heap.new.figures ≡ heap.old.figures }
     ensures read { Reads block_size_touches heap.old.handle.value heap.new.handle.value }
 {
@@ -142,6 +143,7 @@ pub extern "C" fn tlsf_placed_realloc(
     ensures moves { 0 < result → result ≢ address → copied.new ≡ min (told_size word.old address - front) (told_size word.new result - front) }
     ensures refused { result ≡ 0 → IsNotResized address word.old bytes word.new heap.old.pools heap.old.handle.value heap.new.handle.value }
     ensures pools { heap.new.pools ≡ heap.old.pools }
+    ensures owner { heap.new.owner ≡ heap.old.owner }
     ensures most { heap.new.figures.most_bytes ≡ max heap.old.figures.most_bytes heap.new.figures.bytes }
     ensures bound { AtMost (realloc_touches + 2) heap.old.handle.value.touches heap.new.handle.value.touches }
 {

@@ -66,6 +66,7 @@ pub extern "C" fn tlsf_placed_walk(
     ensures unchanged { IsUnchanged heap.old.handle.value heap.new.handle.value }
     ensures read { entry < 8 → (pool : PlacedPool) → slice_index_or heap.old.pools entry pool ≡ pool → Reads (walk_touches (rows_from pool.place heap.old.handle.value.content.pools)) heap.old.handle.value heap.new.handle.value }
     ensures pools { heap.new.pools ≡ heap.old.pools }
+    ensures owner { heap.new.owner ≡ heap.old.owner }
     ensures figures { heap.new.figures ≡ heap.old.figures }
 {
     if entry >= 8 {

@@ -44,7 +44,7 @@ pub(crate) fn unlink(store: &mut Store, block: &Record)
     store.set_next_free(prev, block.next_free);
 }
 
-/// The same of a block that is the first of the list, which is of this class. At most five touches.
+/// Takes the first free block of this class's list out of it. At most five touches.
 pub(crate) fn unlink_first(store: &mut Store, class: Class, block: &Record)
     requires first { block.now.prev_free ≡ None }
     requires next_used { IsUsed store.old.cells.records block.now.next_free }

@@ -247,8 +247,8 @@ impl Heap {
         free(&mut self.store, ptr)
     }
 
-    /// The same, where the block has `size` bytes. The answer is whether a live block of this size has both the pointer's place
-    /// and its slot; else nothing changes. At most 31 touches, and one where none has.
+    /// As `free`, of a block that has `size` bytes. The answer is whether a live block of this size has both the pointer's place
+    /// and its slot. Where none has, nothing changes, and one touch is made at most. At most 31 touches.
     #[inline(always)]
     pub fn free_sized(&mut self, ptr: Ptr, size: u64) -> bool
         ensures found { (result ≡ true) ↔ (block_size_ptr ptr self.old.content ≡ Ok size) }

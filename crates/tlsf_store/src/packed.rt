@@ -73,8 +73,8 @@ impl Packed {
         }
     }
 
-    /// The record as callers see it: a vacant one holds nothing, whatever links it to the next. No record has another code: one
-    /// that was spoiled is no block's.
+    /// The record as callers see it: a vacant one holds nothing, whatever links it to the next. Where memory was spoiled a record
+    /// may have another code, and is read as vacant.
     pub(crate) fn unpack(&self) -> Record
         ensures { result ≡ seen self.now }
     {
