@@ -14,12 +14,16 @@ mod LivePools
 mod LiveRows
 mod LoadLemmas
 mod PlacedLemmas
+mod PlacedOneSize
+mod PlacedRunLemmas
+mod PlacedRunRows
 mod PlacedVectors
 mod PlacesLeft
 mod PassedRows
 mod RangesMoved
 mod RoomLemmas
 mod ReallocGives
+mod Refusing
 mod ResizedBlock
 mod SavedLemmas
 mod Stands

@@ -14,6 +14,7 @@ pub mod PlacedFronts
 pub mod PlacedHeaps
 pub mod PlacedPools
 pub mod PlacedRows
+pub mod PlacedRuns
 pub mod PoolPlaces
 pub mod RangeMoves
 pub mod Room

@@ -1,14 +1,22 @@
 //! Laws of the definitions, each the contract of a function that does nothing.
 
-ghost use Rattle.std.specs.Prelude.{◌≡◌, ◌≢◌, ℕ, ◌+◌, ◌<◌, ◌≤◌};
+ghost use Rattle.std.specs.Prelude.{◌≡◌, ◌≢◌, ℕ, ◌+◌, ◌*◌, ◌<◌, ◌≤◌, List, Some, Ok};
 ghost use Rattle.tlsf_heap.specs.declared.refusal.Refusal.{Refusal};
+ghost use Rattle.tlsf_class.specs.Classes.{unit};
 ghost use Rattle.tlsf_heap.specs.declared.image.rule.Rule.{Rule};
+ghost use Rattle.tlsf_heap.specs.Content.{Content};
+ghost use Rattle.tlsf_heap.specs.OneSize.{HasRecords};
+ghost use Rattle.tlsf_heap.specs.Pools.{created, add_pool};
+ghost use Rattle.tlsf_heap.specs.Sizing.{class_size, sure_pool, sure_records};
 ghost use Rattle.tlsf_c.specs.Status.{bad_count, number};
 ghost use Rattle.tlsf_c.specs.Saving.{broken_number, no_room};
-ghost use Rattle.tlsf_c.specs.Fronts.{told_size};
+ghost use Rattle.tlsf_c.specs.Fronts.{front, told_size};
 ghost use Rattle.tlsf_c.specs.PlacedHeaps.{IsLiveAt};
+ghost use Rattle.tlsf_c.specs.PlacedRuns.{Call, Told, CallRun, CallsStayWithin, CallsStayOfSize, AreServedCalls};
+ghost use Rattle.tlsf_c.specs.declared.placed_pool.PlacedPool.{PlacedPool};
 
 use crate::placed_heap::PlacedHeap;
+use tlsf_heap::laws::smaller_asks_less;
 
 /// A C program can tell any two statuses apart.
 pub fn statuses_differ()
@@ -26,3 +34,22 @@ pub fn live_blocks_are_apart(heap: &mut PlacedHeap)
 {
     heap.handle.heap().keeps_good();
 }
+
+/// A heap with addresses that has one pool of the sure bytes refuses no call for a block, in whatever order blocks are asked for,
+/// resized and given back. Fronts count in the bytes of the pool. Each call asks for at most `largest` bytes, at an alignment of
+/// at most 16. It finds at most `blocks` live blocks, which have at most `bytes` bytes, each asked for and rounded up to 16.
+pub fn sure_bytes_are_enough()
+    ensures { (blocks bytes largest size least records base pool : ℕ) (pools : List PlacedPool) (calls : List Call) (tolds : List Told) (old new : Content ℕ) (run : CallRun pools calls tolds old new)
+        → class_size 1 (largest + front) ≡ Some size → sure_pool blocks (bytes + blocks * unit) (Some size) ≡ Some least → least ≤ pool → sure_records blocks ≤ records → add_pool base pool (created records) ≡ Ok old
+        → CallsStayWithin blocks bytes largest pools calls tolds old new run → AreServedCalls pools calls tolds old new run }
+{
+    smaller_asks_less();
+}
+
+/// A heap with addresses whose blocks, with their fronts, all have one size, the lowest of a class, and that has one pool of the
+/// bytes of as many blocks, refuses no call for a block while fewer are live: in whatever order they are asked for and given back.
+pub fn blocks_of_one_size_are_enough()
+    ensures { (blocks size records base pool : ℕ) (pools : List PlacedPool) (calls : List Call) (tolds : List Told) (old new : Content ℕ) (run : CallRun pools calls tolds old new)
+        → add_pool base pool (created records) ≡ Ok old → class_size 1 size ≡ Some size → blocks * size ≤ pool → HasRecords blocks size pool records
+        → CallsStayOfSize blocks size pools calls tolds old new run → AreServedCalls pools calls tolds old new run }
+{}

@@ -5,7 +5,9 @@ ghost use Rattle.tlsf_heap.specs.declared.refusal.Refusal.TheVariants.{BadAlign}
 ghost use Rattle.tlsf_heap.specs.Counted.{IsUnchanged, range_of};
 ghost use Rattle.tlsf_heap.specs.Memalign.{is_alignment, memalign};
 ghost use Rattle.tlsf_heap.specs.Pointer.{block_size_ptr};
+ghost use Rattle.tlsf_heap.specs.Room.{HasRoomAligned};
 ghost use Rattle.tlsf_heap.specs.Served.{IsServed};
+ghost use Rattle.tlsf_c.specs.Fronts.{front};
 ghost use Rattle.tlsf_heap.specs.Touches.{AtMost, memalign_touches};
 ghost use Rattle.tlsf_c.specs.LiveFigures.{IsLiveChange};
 ghost use Rattle.tlsf_c.specs.Lying.{LiesIn};
@@ -45,6 +47,7 @@ fn allocate_aligned(heap: &mut Heap, align: u64, bytes: u64) -> Result<Ptr, Refu
     ensures ranges { OnOk result (map range_of heap.new.content.pools ≡ map range_of heap.old.content.pools) }
     ensures refused { IfErr result (λ refusal. (slot : ℕ) → memalign slot align bytes heap.old.content ≡ Err refusal) }
     ensures unchanged { OnErr result (IsUnchanged heap.old heap.new) }
+    ensures room { OnErr result (is_alignment align ≡ true → HasRoomAligned align bytes heap.old.content → ⊥) }
     ensures bound { AtMost memalign_touches heap.old.touches heap.new.touches }
 {
     heap.keeps_good();
@@ -56,7 +59,8 @@ fn allocate_aligned(heap: &mut Heap, align: u64, bytes: u64) -> Result<Ptr, Refu
 /// A live block of at least `bytes` bytes, as by `tlsf_placed_malloc`, whose address is a multiple of `align`. At most 35 touches.
 ///
 /// Where the heap refuses the address is 0. Then the word is the number of `BadAlign`, `ZeroSize`, `NoFit` or `TableFull`. It is
-/// that of `BadAlign` also where addresses aren't multiples of `align` as places are, in some pool.
+/// that of `BadAlign` also where addresses aren't multiples of `align` as places are, in some pool. Else it refuses no block of some
+/// bytes for which, with the front, it has room.
 #[unsafe(no_mangle)]
 pub extern "C" fn tlsf_placed_memalign(heap: &mut PlacedHeap, align: u64, bytes: u64) -> PlacedBlock
     ensures given { 0 < result.address → IsGivenAt (λ slot. memalign_with_front align slot bytes) bytes result.address heap.old.pools heap.old.handle.value.content heap.new.handle.value.content }
@@ -65,6 +69,7 @@ pub extern "C" fn tlsf_placed_memalign(heap: &mut PlacedHeap, align: u64, bytes:
     ensures refused { result.address ≡ 0 → All (IsAlike align) heap.old.pools → IsRefusedAt (λ slot. memalign_with_front align slot bytes) result.word heap.old.handle.value heap.new.handle.value }
     ensures unlike { (All (IsAlike align) heap.old.pools → ⊥) → (result.address ≡ 0) × (result.word ≡ number BadAlign) }
     ensures unchanged { result.address ≡ 0 → IsUnchanged heap.old.handle.value heap.new.handle.value }
+    ensures room { 0 < bytes → is_alignment align ≡ true → All (IsAlike align) heap.old.pools → HasRoomAligned align (bytes + front) heap.old.handle.value.content → 0 < result.address }
     ensures pools { heap.new.pools ≡ heap.old.pools }
     ensures owner { heap.new.owner ≡ heap.old.owner }
     ensures most { heap.new.figures.most_bytes ≡ max heap.old.figures.most_bytes heap.new.figures.bytes }

@@ -6,9 +6,10 @@ ghost use Rattle.tlsf_heap.specs.Content.{Content};
 ghost use Rattle.tlsf_heap.specs.Counted.{IsUnchanged, Reads, range_of};
 ghost use Rattle.tlsf_heap.specs.OwnClass.{malloc_or_own};
 ghost use Rattle.tlsf_heap.specs.Pointer.{free_ptr, block_size_ptr};
+ghost use Rattle.tlsf_heap.specs.Room.{HasRoom};
 ghost use Rattle.tlsf_heap.specs.Served.{IsServed};
 ghost use Rattle.tlsf_heap.specs.Touches.{AtMost, malloc_or_own_touches, free_touches};
-ghost use Rattle.tlsf_c.specs.Fronts.{told_slot, told_size};
+ghost use Rattle.tlsf_c.specs.Fronts.{front, told_slot, told_size};
 ghost use Rattle.tlsf_c.specs.LiveFigures.{IsLiveChange};
 ghost use Rattle.tlsf_c.specs.Lying.{LiesIn};
 ghost use Rattle.tlsf_c.specs.PlacedPools.{IsPlaced, HasPlace, HasAddress, IsAt};
@@ -41,6 +42,7 @@ fn allocate(heap: &mut Heap, bytes: u64) -> Result<Ptr, Refusal>
     ensures ranges { OnOk result (map range_of heap.new.content.pools ≡ map range_of heap.old.content.pools) }
     ensures refused { IfErr result (λ refusal. (slot : ℕ) → malloc_or_own slot bytes heap.old.content ≡ Err refusal) }
     ensures unchanged { OnErr result (IsUnchanged heap.old heap.new) }
+    ensures room { OnErr result (HasRoom bytes heap.old.content → ⊥) }
     ensures bound { AtMost malloc_or_own_touches heap.old.touches heap.new.touches }
 {
     heap.keeps_good();
@@ -136,13 +138,15 @@ fn refusal_of(bytes: u64) -> Refusal
 /// A live block of at least `bytes` bytes, with eight bytes in front of its address. The caller puts its word there, and hands
 /// back both. At most 23 touches.
 ///
-/// Where the heap refuses the address is 0. Then the word is the number of `ZeroSize`, `NoFit` or `TableFull`.
+/// Where the heap refuses the address is 0. Then the word is the number of `ZeroSize`, `NoFit` or `TableFull`. It refuses no block
+/// of some bytes for which, with the front, it has room.
 #[unsafe(no_mangle)]
 pub extern "C" fn tlsf_placed_malloc(heap: &mut PlacedHeap, bytes: u64) -> PlacedBlock
     ensures given { 0 < result.address → IsGivenAt (λ slot. malloc_with_front slot bytes) bytes result.address heap.old.pools heap.old.handle.value.content heap.new.handle.value.content }
     ensures live { 0 < result.address → IsLiveAt result.address result.word heap.old.pools heap.new.handle.value.content }
     ensures multiple { result.address % 16 ≡ 0 }
     ensures refused { result.address ≡ 0 → IsRefusedAt (λ slot. malloc_with_front slot bytes) result.word heap.old.handle.value heap.new.handle.value }
+    ensures room { 0 < bytes → HasRoom (bytes + front) heap.old.handle.value.content → 0 < result.address }
     ensures pools { heap.new.pools ≡ heap.old.pools }
     ensures owner { heap.new.owner ≡ heap.old.owner }
     ensures most { heap.new.figures.most_bytes ≡ max heap.old.figures.most_bytes heap.new.figures.bytes }

@@ -4,6 +4,7 @@ ghost use Rattle.std.specs.Prelude.{◌≡◌, ◌≢◌, ◌+◌, ◌-◌, ◌*
 ghost use Rattle.tlsf_heap.specs.declared.refusal.Refusal.{Refusal};
 ghost use Rattle.tlsf_heap.specs.Counted.{IsUnchanged, Reads, range_of};
 ghost use Rattle.tlsf_heap.specs.Pointer.{realloc_ptr, block_size_ptr};
+ghost use Rattle.tlsf_heap.specs.Room.{HasRoom};
 ghost use Rattle.tlsf_heap.specs.Served.{IsMoved};
 ghost use Rattle.tlsf_heap.specs.Touches.{AtMost, realloc_touches, block_size_touches};
 ghost use Rattle.tlsf_c.specs.Fronts.{front, told_size, IsLostFront};
@@ -98,6 +99,7 @@ fn resize(handle: &mut Handle, block: Sized, bytes: u64) -> Result<Sized, u32>
     ensures ranges { OnOk result (map range_of handle.new.value.content.pools ≡ map range_of handle.old.value.content.pools) }
     ensures refused { IfErr result (λ status. (refusal : Refusal) × (status ≡ number refusal) × (realloc_ptr (Some block.ptr) bytes block.ptr.slot handle.old.value.content ≡ Err refusal)) }
     ensures unchanged { OnErr result (IsUnchanged handle.old.value handle.new.value) }
+    ensures room { OnErr result (HasRoom bytes handle.old.value.content → ⊥) }
     ensures bound { AtMost (realloc_touches + block_size_touches) handle.old.value.touches handle.new.value.touches }
 {
     handle.heap().keeps_good();
@@ -127,7 +129,7 @@ fn to_copy(stays: bool, had: u64, has: u64) -> u64
 /// stands in front of it. At most 56 touches.
 ///
 /// Where that is refused the answer is 0, and all is as it was. Then `word` gets the number of `BadPointer` unless the block is
-/// live, and else that of `NoFit` or `TableFull`.
+/// live, and else that of `NoFit` or `TableFull`. A live block isn't refused bytes for which, with the front, the heap has room.
 #[unsafe(no_mangle)]
 pub extern "C" fn tlsf_placed_realloc(
     heap: &mut PlacedHeap,
@@ -142,6 +144,7 @@ pub extern "C" fn tlsf_placed_realloc(
     ensures stays { 0 < result → result ≡ address → copied.new ≡ 0 }
     ensures moves { 0 < result → result ≢ address → copied.new ≡ min (told_size word.old address - front) (told_size word.new result - front) }
     ensures refused { result ≡ 0 → IsNotResized address word.old bytes word.new heap.old.pools heap.old.handle.value heap.new.handle.value }
+    ensures room { IsLiveAt address word.old heap.old.pools heap.old.handle.value.content → HasRoom (bytes + front) heap.old.handle.value.content → 0 < result }
     ensures pools { heap.new.pools ≡ heap.old.pools }
     ensures owner { heap.new.owner ≡ heap.old.owner }
     ensures most { heap.new.figures.most_bytes ≡ max heap.old.figures.most_bytes heap.new.figures.bytes }

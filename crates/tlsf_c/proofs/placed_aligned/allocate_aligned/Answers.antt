@@ -3,6 +3,7 @@ use Rattle.std.proofs.Common.{rules, IfOk}
 use Rattle.std.proofs.lemmas.Result.{IfOk-weaker}
 use Rattle.tlsf_c.proofs.GivenBlock.{IsGiven, aligned_given, given_size, given_lies, given_in_units}
 use Rattle.tlsf_c.proofs.LiveChanges.{given_change}
+use Rattle.tlsf_c.proofs.Refusing.{aligned_without}
 use Rattle.tlsf_c.proofs.placed_aligned.allocate_aligned.Goals as goal
 
 pub returns : goal.returns
@@ -24,5 +25,6 @@ returns c =
       ranges = IfOk-weaker result _ _ (λ ptr is. is.same_ranges) given;
       refused = search rules;
       unchanged = search rules;
+      room = aligned_without c.args.align bytes old result c.memalign-given.ensures.room c.memalign-given.ensures.refused.refused;
       bound = search rules;
     }

@@ -1,10 +1,13 @@
 -- A place at the alignment has an address at the alignment where pools lie alike.
-use Rattle.std.proofs.Common.{rules, ℕ, ◌+◌, ◌*◌, ◌/◌, map, sym, ◌∙◌, subst, arith}
+use Rattle.std.proofs.Common.{rules, ◌≡◌, Some, None, ℕ, ◌+◌, ◌*◌, ◌/◌, map, sym, ◌∙◌, subst, arith}
 use Rattle.std.proofs.lemmas.List.Elements.{All-contains}
 use Rattle.tlsf_heap.specs.declared.refusal.Refusal.TheVariants.{ZeroSize, NoFit, BadAlign}
 use Rattle.tlsf_heap.specs.Counted.{Counted, range_of}
 use Rattle.tlsf_heap.specs.Memalign.{memalign}
+use Rattle.tlsf_heap.specs.Room.{HasRoomAligned}
 use Rattle.tlsf_heap.specs.Served.{IsServed}
+use Rattle.tlsf_class.specs.Rounding.{round}
+use Rattle.tlsf_class.proofs.RoundingLaws.{round_above}
 use Rattle.tlsf_c.specs.Lying.{LiesIn}
 use Rattle.tlsf_c.specs.PlacedHeaps.{memalign_with_front}
 use Rattle.tlsf_c.specs.PlacedPools.{IsAlike}
@@ -65,3 +68,21 @@ returns-in-Ok-clause-multiple c =
 
 pub returns-in-Ok-clause-unlike : goal.returns-in-Ok-clause-unlike
 returns-in-Ok-clause-unlike c = λ unlike. absurd (unlike (c.are_alike.ensures.yes c.if-not-are_alike.false))
+
+pub returns-then-not-is_alignment-clause-room : goal.returns-then-not-is_alignment-clause-room
+returns-then-not-is_alignment-clause-room c = λ some is alike room. elim c.then-not-is_alignment.branch [
+  | then-not-is_alignment-via-then-not-is_alignment w ↦ (let isn't = sym c.is_alignment.ensures ∙ w.if-not-is_alignment.true in absurd (cc))
+  | then-not-is_alignment-via-else-not-is_alignment+then-not-are_alike w ↦ absurd (w.are_alike.ensures.no w.if-not-are_alike.true alike)
+]
+
+pub returns-then-bytes-eq0-clause-room : goal.returns-then-bytes-eq0-clause-room
+returns-then-bytes-eq0-clause-room c = λ some is alike room. absurd (omega (arith, some, c.if-bytes-eq0.true))
+
+pub returns-then-bytes-gt-MOST-clause-room : goal.returns-then-bytes-gt-MOST-clause-room
+returns-then-bytes-gt-MOST-clause-room c = λ some is alike room. (
+    let none : round (c.args.bytes + 8) ≡ None = round_above (c.args.bytes + 8) (omega (arith, c.if-bytes-gt-MOST.true)) in
+    let rounds : round (c.args.bytes + 8) ≡ Some room.m = room.rounds in
+    absurd (cc))
+
+pub returns-in-Err-clause-room : goal.returns-in-Err-clause-room
+returns-in-Err-clause-room c = λ some is alike room. absurd (c.in-Err.ensures.room is (subst (λ (h : Counted). HasRoomAligned c.args.align (c.args.bytes + 8) h.content) (sym c.heap.ensures.value) room))

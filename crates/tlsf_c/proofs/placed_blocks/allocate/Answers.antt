@@ -1,8 +1,10 @@
 -- What a served malloc leaves of blocks and ranges.
 use Rattle.std.proofs.Common.{rules, IfOk}
 use Rattle.std.proofs.lemmas.Result.{IfOk-weaker}
+use Rattle.tlsf_heap.specs.Room.{HasRoom}
 use Rattle.tlsf_c.proofs.GivenBlock.{IsGiven, or_own_given, given_size, given_lies, given_in_units}
 use Rattle.tlsf_c.proofs.LiveChanges.{given_change}
+use Rattle.tlsf_c.proofs.Refusing.{never_with}
 use Rattle.tlsf_c.proofs.placed_blocks.allocate.Goals as goal
 
 pub returns : goal.returns
@@ -23,5 +25,6 @@ returns c =
       ranges = IfOk-weaker result _ _ (λ ptr is. is.same_ranges) given;
       refused = search rules;
       unchanged = search rules;
+      room = never_with (HasRoom bytes old) result c.malloc_or_own-given.ensures.room;
       bound = search rules;
     }

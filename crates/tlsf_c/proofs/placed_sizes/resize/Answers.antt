@@ -3,9 +3,11 @@ use Rattle.std.proofs.Common.{rules, ◌≡◌, ℕ, ◌%◌, map, Some, Ok, sym
 use Rattle.tlsf_heap.specs.Content.{Content}
 use Rattle.tlsf_heap.specs.Counted.{Counted, range_of}
 use Rattle.tlsf_heap.specs.Pointer.{realloc_ptr, block_size_ptr}
+use Rattle.tlsf_heap.specs.Room.{HasRoom}
 use Rattle.tlsf_c.specs.LiveFigures.{IsLiveChange}
 use Rattle.tlsf_c.specs.Lying.{LiesIn}
 use Rattle.tlsf_c.proofs.LiveChanges.{resized_change}
+use Rattle.tlsf_c.proofs.Refusing.{never_on, resized_without}
 use Rattle.tlsf_c.proofs.ResizedBlock.{live_units, size_told, same_ranges, holds_bytes, lies_still}
 use Rattle.tlsf_c.proofs.placed_sizes.resize.Goals as goal
 
@@ -48,5 +50,16 @@ returns c =
       ranges = ap (λ (k : Content ℕ). map range_of k.pools) c.block_size.ensures.read.unchanged.content ∙ same_ranges ptr given c.args.bytes old.content new good served ∙ ap (λ (h : Counted). map range_of h.content.pools) c.heap.ensures.value;
       refused = search rules;
       unchanged = search rules;
+      room = search rules;
       bound = search rules;
     }
+
+pub returns-in_err-new-clause-room : goal.returns-in_err-new-clause-room
+returns-in_err-new-clause-room c =
+    let ptr = c.args.block.ptr in
+    let old = c.heap.result.now in
+    let told_before = subst (λ (h : Counted). block_size_ptr ptr h.content ≡ Ok c.args.block.size) (sym c.heap.ensures.value) c.requires.sized in
+    let why = c.in_err-new.ensures.refused in
+    never_on (HasRoom c.args.bytes c.args.handle.now.value.content) c.from_residual.result (λ room.
+    resized_without ptr c.args.bytes c.args.block.size old.content why.0 c.keeps_good.ensures.good (λ e. absurd (omega (arith, e, c.requires.some))) told_before why.2
+    (subst (λ (h : Counted). HasRoom c.args.bytes h.content) (sym c.heap.ensures.value) room))

@@ -1,11 +1,14 @@
 -- A refusal hangs on no slot, and a block lies in a pool with its front.
 use Rattle.std.specs.Prelude.{List, Contains}
-use Rattle.std.proofs.Common.{◌≡◌, ℕ, rules, ◌+◌, ◌-◌, min, map, Some, Err, inl, inr, refl, sym, ap, ◌∙◌, subst, arith}
+use Rattle.std.proofs.Common.{◌≡◌, ℕ, rules, ◌+◌, ◌-◌, min, map, Some, None, Err, inl, inr, refl, sym, ap, ◌∙◌, subst, arith}
 use Rattle.tlsf_heap.specs.declared.refusal.Refusal.TheVariants.{BadPointer, NoFit}
 use Rattle.tlsf_heap.specs.Content.{Content}
 use Rattle.tlsf_heap.specs.Counted.{range_of}
 use Rattle.tlsf_heap.specs.Pointer.{Pointer, realloc_ptr}
+use Rattle.tlsf_heap.specs.Room.{HasRoom}
 use Rattle.tlsf_heap.specs.Served.{IsMoved}
+use Rattle.tlsf_class.specs.Rounding.{round}
+use Rattle.tlsf_class.proofs.RoundingLaws.{round_above}
 use Rattle.std.proofs.lemmas.Bool.{eq-eqb, ne_eqb}
 use Rattle.tlsf_c.specs.Fronts.{front, told_slot, told_size}
 use Rattle.tlsf_c.specs.Lying.{LiesIn}
@@ -95,3 +98,15 @@ returns-in-Ok-clause-moves c = λ some apart.
     c.to_copy.ensures.moves (ne_eqb c.place_block-now.result.address c.args.address apart)
     ∙ ap (λ (n : ℕ). min (n - front) (c.in-Ok.new.size - front)) had_is
     ∙ ap (λ (n : ℕ). min (told_size c.args.word.now c.args.address - front) (n - front)) has_is
+
+pub returns-in_default-clause-room : goal.returns-in_default-clause-room
+returns-in_default-clause-room c = λ live room. absurd (c.in_default.ensures.none live)
+
+pub returns-then-bytes-gt-MOST-clause-room : goal.returns-then-bytes-gt-MOST-clause-room
+returns-then-bytes-gt-MOST-clause-room c = λ live room. (
+    let none : round (c.args.bytes + 8) ≡ None = round_above (c.args.bytes + 8) (omega (arith, c.if-bytes-gt-MOST.true)) in
+    let rounds : round (c.args.bytes + 8) ≡ Some room.m = room.rounds in
+    absurd (cc))
+
+pub returns-in-Err-clause-room : goal.returns-in-Err-clause-room
+returns-in-Err-clause-room c = λ live room. absurd (c.in-Err.ensures.room (subst (HasRoom (c.args.bytes + 8)) (sym c.find.ensures.read.unchanged.content) room))

@@ -1,0 +1,94 @@
+-- A worked run of calls on a heap with addresses, by the definitions. The word was reckoned outside.
+use Rattle.std.proofs.Common.{◌≡◌, ℕ, ◌+◌, ◌∷◌, [], refl, arith, List, Some, Result, Ok, Err, lit≤, lit<}
+use Rattle.tlsf_class.specs.Classes.{class, need, low}
+use Rattle.tlsf_class.specs.Rounding.{rounded}
+use Rattle.tlsf_heap.specs.declared.refusal.Refusal.{Refusal}
+use Rattle.tlsf_heap.specs.declared.refusal.Refusal.TheVariants.{NoFit}
+use Rattle.tlsf_heap.specs.Content.{Content}
+use Rattle.tlsf_heap.specs.Counted.{Counted}
+use Rattle.tlsf_heap.specs.Free.{after_free}
+use Rattle.tlsf_heap.specs.OwnClass.{malloc_or_own}
+use Rattle.tlsf_heap.specs.Pools.{created, with_pool}
+use Rattle.tlsf_heap.specs.Sizing.{class_size, sure_pool}
+use Rattle.tlsf_c.specs.declared.placed_pool.PlacedPool.{PlacedPool}
+use Rattle.tlsf_c.specs.PlacedHeaps.{malloc_with_front}
+use Rattle.tlsf_c.specs.PlacedRuns.{Call, ask, give_back, Told, CallStep, CallRun, CallsStayWithin}
+
+-- one block of 100 bytes is 112 with its front, and a pool of 336 bytes is enough: as tlsf_sure_bytes reckons it
+enough_row : (class_size 1 108 ≡ Some 112) × (sure_pool 1 (112 + 16) (Some 112) ≡ Some 336)
+unfolding class need low rounded
+enough_row = (refl, refl)
+
+abbrev empty : Content ℕ
+empty = with_pool 0 336 (created 5)
+
+abbrev left_by : Content ℕ → Result (ℕ × Content ℕ) Refusal → Content ℕ
+left_by content (Ok new) = new.1
+left_by content (Err refusal) = content
+
+abbrev one_block : Content ℕ
+one_block = left_by empty (malloc_with_front 3 100 empty)
+
+-- the pool's first block has the address 4,112
+abbrev pools : List PlacedPool
+pools = record { first = 4112; reach = 328; place = 0; number = 0; owner = 0 } ∷ []
+
+abbrev counted_of : ℕ → Content ℕ → Counted
+counted_of touches content = record { content = content; touches = touches; rows = [] }
+
+abbrev told : ℕ → ℕ → Told
+told address word = record { address = address; word = word }
+
+abbrev calls : List Call
+calls = ask 100 ∷ []
+
+abbrev tolds : List Told
+tolds = told 4112 3366696039589512271 ∷ []
+
+run_row : CallRun pools calls tolds empty one_block
+unfolding class need low rounded
+run_row = (
+  counted_of 0 empty,
+  counted_of 5 one_block,
+  refl,
+  (
+    (λ some. record {
+      pointer = record { place = 0; slot = 3 };
+      pool = record { first = 4112; reach = 328; place = 0; number = 0; owner = 0 };
+      served = record { ok = refl; slot_below = lit< tt; slot_new = refl };
+      of_pools = (0, lit< tt, refl);
+      at = record { has = (lit≤ tt, lit< tt); address_is = refl };
+      ends = lit≤ tt;
+    }),
+    (λ none. absurd (omega (arith, none))),
+  ),
+  refl,
+)
+
+-- it keeps to the bounds of one block
+within_row : CallsStayWithin 1 112 100 pools calls tolds empty one_block run_row
+unfolding class need low rounded run_row
+within_row = ((λ some. record { few = lit≤ tt; small = lit≤ tt; least = lit≤ tt }), tt)
+
+-- the block is given back by its address and its word, and the heap is as it was
+abbrev given_back : Content ℕ
+given_back = after_free 0 one_block
+
+back_row : CallStep pools (give_back 4112 3366696039589512271) (told 0 0) (counted_of 5 one_block) (counted_of 9 given_back)
+unfolding class need low rounded
+back_row = (
+  (λ live. refl),
+  (λ served. record {
+    place = 0;
+    pool = record { first = 4112; reach = 328; place = 0; number = 0; owner = 0 };
+    of_pools = (0, lit< tt, refl);
+    at = record { has = (lit≤ tt, lit< tt); address_is = refl };
+    freed = refl;
+  }),
+  (λ refused. absurd (refused refl)),
+)
+
+-- where the pool is smaller, a request may be refused
+small_row : malloc_or_own {A = ℕ} 3 108 (with_pool 0 96 (created 5)) ≡ Err NoFit
+unfolding class need low rounded
+small_row = refl
