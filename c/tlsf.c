@@ -223,7 +223,7 @@ void *tlsf_malloc(tlsf_t tlsf, size_t bytes)
 
 void *tlsf_memalign(tlsf_t tlsf, size_t align, size_t bytes)
 {
-    if (align <= UNIT && (align & (align - 1u)) == 0u) {
+    if (align - 1u < UNIT && (align & (align - 1u)) == 0u) {
         return tlsf_malloc(tlsf, bytes);
     }
     ON_HEAP(tlsf);

@@ -165,8 +165,10 @@ size_t tlsf_sure_bytes(uint32_t blocks, size_t bytes, size_t largest);
                + (size_t)TLSF_SURE_POOL(blocks, bytes, largest) \
          : 0u)
 #define TLSF_SURE_POOL(blocks, bytes, largest) \
-    ((uint64_t)(bytes) + (uint64_t)(blocks) * 16u + 16u \
-     + ((uint64_t)(blocks) + 1u) * (TLSF_CLASS_SIZE(TLSF_WITH_FRONT(largest)) - 16u))
+    (((uint64_t)(bytes) + (uint64_t)(blocks) * 16u \
+      + ((uint64_t)(blocks) + 1u) * (TLSF_CLASS_SIZE(TLSF_WITH_FRONT(largest)) - 16u)) \
+         / 16u * 16u \
+     + 16u)
 #define TLSF_WITH_FRONT(bytes) (((uint64_t)(bytes) + 23u) / 16u * 16u)
 #define TLSF_CLASS_SIZE(units) \
     (((units) + TLSF_CLASS_STEP(units) - 1u) & ~(TLSF_CLASS_STEP(units) - 1u))

@@ -109,12 +109,24 @@ static int lost_in(struct control *control, uint32_t entry)
     return is ? lost_fronts(control, entry, pool->first, false) : 1;
 }
 
+/* Whether the table leads to its records: it begins with their address and their number, and they lie
+ * 16 bytes in front of it. No call changes that, and the proved check follows it. */
+static bool leads_to_records(const struct control *control)
+{
+    const unsigned char *table = (const unsigned char *)control->at.heap.at;
+    uintptr_t records = 0;
+    uint64_t count = 0;
+    (void)__builtin_memcpy(&records, table, sizeof records);
+    (void)__builtin_memcpy(&count, &table[8], sizeof count);
+    return count == control->records && records == (uintptr_t)table - UNIT - UNIT * control->records;
+}
+
 /* Of one pool, or of all. The table is read where the control part is whole, and the fronts where the
  * table is, and agrees with the control part. */
 static int check(struct control *control, uint32_t entry)
 {
     int lost = 0;
-    if (control == NULL || control->mark != mark_of(control)
+    if (control == NULL || control->mark != mark_of(control) || !leads_to_records(control)
         || control->at.live.most_again != control->at.live.most_bytes
         || !tlsf_placed_check(&control->at, control->at.live.blocks, control->at.live.bytes)) {
         return -1;

@@ -101,7 +101,8 @@ static inline uint32_t tlsf_heap_class_size(uint64_t align, uint64_t bytes)
     return size > 1056964608u ? 0u : (uint32_t)size;
 }
 
-/* The bytes of one pool that is always enough, in whatever order the program asks and gives back.
+/* The bytes of one pool that is always enough, in whatever order the program asks and gives back: a
+ * multiple of 16.
  * These conditions have to hold. At most `blocks` blocks are live. They have at most `bytes` bytes
  * together, each rounded up to 16. `class_size` is the greatest tlsf_heap_class_size of the
  * requests. The heap has 2 * blocks + 3 records. Answers 0 where no pool is enough. The proved
@@ -116,7 +117,7 @@ static inline uint32_t tlsf_heap_sure_pool(uint64_t blocks, uint64_t bytes, uint
         || bytes > TLSF_HEAP_GREATEST) {
         return 0;
     }
-    pool = bytes + (blocks + 1u) * too_small + TLSF_HEAP_UNIT;
+    pool = ((bytes + (blocks + 1u) * too_small) / TLSF_HEAP_UNIT + 1u) * TLSF_HEAP_UNIT;
     return pool > TLSF_HEAP_GREATEST ? 0u : (uint32_t)pool;
 }
 

@@ -89,7 +89,7 @@ int tlsf_load(void *mem, size_t bytes, const void *image, size_t length, const t
         (void)memset(control, 0, sizeof *control);
         return status;
     }
-    control->at.owner = (uintptr_t)mem + MAGIC;
+    control->at.owner = (uint64_t)(uintptr_t)mem + MAGIC;
     control->mark = mark_of(control);
     return status;
 }

@@ -39,12 +39,15 @@ typedef struct tlsf_part {
 } tlsf_part;
 
 /* A part in use: its heap, the address of its first block, its bytes from there on, and the bytes from
- * one block to the next. A program doesn't read or write it. */
+ * one block to the next. A program doesn't read or write it. A block's pointer is where it begins, or
+ * further on where an alignment was asked for. `further` has a bit for each block: where it is set, the
+ * block begins with its pointer. */
 struct tlsf_part_heap {
     tlsf_t heap;
     unsigned char *first;
     size_t bytes;
     size_t block;
+    unsigned char *further;
     tlsf_part told;
 };
 
@@ -52,7 +55,8 @@ struct tlsf_part_heap {
 typedef struct tlsf_parts {
     struct tlsf_part_heap parts[TLSF_PARTS_MOST];
     uint32_t count;
-    size_t asked; /* by the call that is under way */
+    size_t asked;        /* by the call that is under way */
+    const void *pointer; /* that it was given, or null */
     tlsf_refusal_hook hook;
     void *user;
     size_t refusals[TLSF_REFUSALS];
@@ -70,11 +74,12 @@ typedef struct tlsf_parts {
 #define TLSF_PART(largest, blocks) {largest, blocks},
 #define TLSF_PART_ADDED(largest, blocks) +TLSF_PART_BYTES(largest, blocks)
 #define TLSF_PARTS_OWN ((sizeof(tlsf_parts) + 7u) / 8u * 8u)
-/* Those of one part: its heap with a record for each block, 8 bytes to the next multiple of 16, and
- * the blocks. */
+/* Those of one part: its heap with a record for each block, 8 bytes to the next multiple of 16, the
+ * blocks, and a bit for each. */
 #define TLSF_PART_BYTES(largest, blocks) \
-    (TLSF_SIZE_RECORDS(blocks) + 8u \
+    (TLSF_SIZE_RECORDS(blocks) + 8u + TLSF_PART_BITS(blocks) \
      + (size_t)(TLSF_CLASS_SIZE(TLSF_WITH_FRONT(largest)) * (uint64_t)(blocks)))
+#define TLSF_PART_BITS(blocks) (((size_t)(blocks) + 63u) / 64u * 8u)
 
 /* The bytes of memory that these parts take. Answers 0 where they can't be made. There are one to
  * eight, in order of size. Each has from 1 to 65,535 blocks, which have at most 1,073,741,808 bytes
@@ -98,10 +103,11 @@ static inline size_t tlsf_parts_bytes(const tlsf_part *told, uint32_t count)
 static inline void tlsf_parts_tell(enum tlsf_refusal what, const void *ptr, size_t bytes, void *user)
 {
     tlsf_parts *parts = (tlsf_parts *)user;
+    (void)ptr;
     (void)bytes;
     parts->refusals[what]++;
     if (parts->hook != NULL) {
-        parts->hook(what, ptr, parts->asked, parts->user);
+        parts->hook(what, parts->pointer, parts->asked, parts->user);
     }
 }
 
@@ -116,6 +122,8 @@ static inline bool tlsf_parts_add(tlsf_parts *parts, unsigned char *at, tlsf_par
     part->block = (size_t)TLSF_CLASS_SIZE(TLSF_WITH_FRONT(told.largest));
     part->bytes = part->block * told.blocks;
     part->first = pool + 8;
+    part->further = at + front + 8u + part->bytes;
+    (void)memset(part->further, 0, TLSF_PART_BITS(told.blocks));
     part->heap = tlsf_create_records(at, front, told.blocks);
     tlsf_set_refusal_hook(part->heap, tlsf_parts_tell, parts);
     parts->count++;
@@ -129,13 +137,13 @@ static inline tlsf_parts *tlsf_parts_create(void *mem, size_t bytes, const tlsf_
 {
     tlsf_parts *parts = (tlsf_parts *)mem;
     size_t needed = tlsf_parts_bytes(told, count);
-    unsigned char *at = (unsigned char *)mem + TLSF_PARTS_OWN;
+    size_t at = TLSF_PARTS_OWN;
     bool good = needed != 0u && needed <= bytes && mem != NULL && (uintptr_t)mem % 8u == 0u;
     if (good) {
         (void)memset(parts, 0, sizeof *parts);
     }
     for (uint32_t k = 0; k < count && good; k++) {
-        good = tlsf_parts_add(parts, at, told[k]);
+        good = tlsf_parts_add(parts, (unsigned char *)mem + at, told[k]);
         at += TLSF_PART_BYTES(told[k].largest, told[k].blocks);
     }
     return good ? parts : NULL;
@@ -168,6 +176,7 @@ static inline unsigned char *tlsf_parts_refuse(tlsf_parts *parts, enum tlsf_refu
 {
     if (parts != NULL) {
         parts->asked = bytes;
+        parts->pointer = ptr;
         tlsf_parts_tell(what, ptr, bytes, parts);
     }
     return NULL;
@@ -183,14 +192,7 @@ static inline struct tlsf_part_heap *tlsf_parts_for(tlsf_parts *parts, size_t by
     return k < parts->count ? &parts->parts[k] : NULL;
 }
 
-/* What an aligned block keeps in the 8 bytes in front of its pointer, which isn't where it begins. */
-static inline uint64_t tlsf_parts_mark(const unsigned char *ptr, const unsigned char *block)
-{
-    return ((uint64_t)(ptr - block) + 1u) * 0x9e3779b97f4a7c15u + (uintptr_t)ptr;
-}
-
-/* The part that a pointer lies in, or none. *block is where its block begins: before the pointer if
- * the block is aligned, else at the pointer. */
+/* The part that a pointer lies in, or none. *block is where the block at the pointer begins. */
 static inline struct tlsf_part_heap *tlsf_parts_of(tlsf_parts *parts, const void *ptr,
                                                    unsigned char **block)
 {
@@ -203,23 +205,47 @@ static inline struct tlsf_part_heap *tlsf_parts_of(tlsf_parts *parts, const void
     if (k == parts->count) {
         return NULL;
     }
-    size_t offset = (uintptr_t)ptr - (uintptr_t)part->first;
-    size_t start = offset / part->block * part->block;
-    uint64_t mark = 0;
-    if (offset - start >= 16u) {
-        (void)__builtin_memcpy(&mark, part->first + offset - 8u, sizeof mark);
-    }
-    bool aligned = mark != 0u && mark == tlsf_parts_mark(part->first + offset, part->first + start);
-    *block = part->first + (aligned ? start : offset);
+    *block = part->first + ((uintptr_t)ptr - (uintptr_t)part->first) / part->block * part->block;
     return part;
 }
 
-/* Takes the mark of an aligned block away. */
-static inline void tlsf_parts_unmark(unsigned char *ptr, const unsigned char *block)
+/* The byte of `further` that has a block's bit, and the bit. */
+static inline unsigned char *tlsf_parts_bit(const struct tlsf_part_heap *part,
+                                            const unsigned char *block, unsigned char *bit)
 {
-    if (ptr != block) {
-        (void)memset(ptr - 8, 0, 8);
+    size_t number = ((uintptr_t)block - (uintptr_t)part->first) / part->block;
+    *bit = (unsigned char)(1u << number % 8u);
+    return &part->further[number / 8u];
+}
+
+/* The one pointer that a live block has: what begins there is no other block's. */
+static inline unsigned char *tlsf_parts_pointer(const struct tlsf_part_heap *part,
+                                                unsigned char *block)
+{
+    unsigned char *ptr = block;
+    unsigned char bit = 0;
+    if ((*tlsf_parts_bit(part, block, &bit) & bit) != 0u) {
+        (void)__builtin_memcpy(&ptr, block, sizeof ptr);
     }
+    return ptr;
+}
+
+/* The block's pointer is where it begins, from now on. */
+static inline void tlsf_parts_at_start(const struct tlsf_part_heap *part, unsigned char *block)
+{
+    unsigned char bit = 0;
+    unsigned char *byte = tlsf_parts_bit(part, block, &bit);
+    *byte = (unsigned char)(*byte & ~(unsigned)bit);
+}
+
+/* The block's pointer is this one further on. In front of it stand zeros, as in front of no block. */
+static inline void tlsf_parts_further(const struct tlsf_part_heap *part, unsigned char *block,
+                                      unsigned char *ptr)
+{
+    unsigned char bit = 0;
+    *tlsf_parts_bit(part, block, &bit) |= bit;
+    (void)memset(ptr - 8, 0, 8);
+    (void)__builtin_memcpy(block, &ptr, sizeof ptr);
 }
 
 /* A block for `room` bytes, in a call that asks for `bytes` bytes. */
@@ -230,6 +256,7 @@ static inline unsigned char *tlsf_parts_ask(tlsf_parts *parts, size_t room, size
         return tlsf_parts_refuse(parts, TLSF_REFUSED_NO_FIT, bytes, NULL);
     }
     parts->asked = bytes;
+    parts->pointer = NULL;
     return (unsigned char *)tlsf_malloc(part->heap, part->block - 8u);
 }
 
@@ -251,12 +278,10 @@ static inline void *tlsf_parts_aligned_alloc(tlsf_parts *parts, size_t align, si
     unsigned char *block = good ? tlsf_parts_ask(parts, room, bytes)
                                 : tlsf_parts_refuse(parts, TLSF_REFUSED_ALIGNMENT, bytes, NULL);
     size_t skip = block == NULL ? 0u : (align - (uintptr_t)block % align) % align;
-    if (skip == 0u) {
-        return block;
+    if (skip != 0u) {
+        tlsf_parts_further(tlsf_parts_for(parts, room), block, block + skip);
     }
-    uint64_t mark = tlsf_parts_mark(block + skip, block);
-    (void)__builtin_memcpy(block + skip - 8, &mark, sizeof mark);
-    return block + skip;
+    return block == NULL ? NULL : block + skip;
 }
 
 /* Answers a block of `count` times `size` bytes, all zero. A product above SIZE_MAX is refused. */
@@ -268,18 +293,22 @@ static inline void *tlsf_parts_calloc(tlsf_parts *parts, size_t count, size_t si
 }
 
 /* Frees the block of a pointer, in a call that asks for `bytes` bytes. A pointer that no live block
- * has is refused. */
+ * has is refused. Where a block begins that has its pointer further on, it is stale. */
 static inline void tlsf_parts_release(tlsf_parts *parts, void *ptr, size_t bytes)
 {
     unsigned char *block = NULL;
     struct tlsf_part_heap *part = tlsf_parts_of(parts, ptr, &block);
-    if (part == NULL) {
+    unsigned char *own = part == NULL ? NULL : tlsf_parts_pointer(part, block);
+    if (part == NULL || (ptr == block && ptr != own)) {
         (void)tlsf_parts_refuse(parts, TLSF_REFUSED_POINTER, bytes, ptr);
-    } else {
-        parts->asked = bytes;
-        tlsf_parts_unmark((unsigned char *)ptr, block);
-        tlsf_free(part->heap, block);
+        return;
     }
+    parts->asked = bytes;
+    parts->pointer = ptr;
+    if (ptr == own && own != block && tlsf_live_size(part->heap, block) != 0u) {
+        tlsf_parts_at_start(part, block);
+    }
+    tlsf_free(part->heap, ptr == own ? block : ptr);
 }
 
 /* Frees the block. Does nothing where the pointer is null, or no live block has it. */
@@ -295,15 +324,17 @@ static inline size_t tlsf_parts_live_size(tlsf_parts *parts, const void *ptr)
 {
     unsigned char *block = NULL;
     const struct tlsf_part_heap *part = parts == NULL ? NULL : tlsf_parts_of(parts, ptr, &block);
-    size_t size = part == NULL ? 0u : tlsf_live_size(part->heap, block);
-    return size == 0u ? 0u : size - (size_t)((const unsigned char *)ptr - block);
+    bool own = part != NULL && tlsf_parts_pointer(part, block) == ptr;
+    size_t size = own ? tlsf_live_size(part->heap, block) : 0u;
+    return size == 0u ? 0u : size - ((uintptr_t)ptr - (uintptr_t)block);
 }
 
 /* Moves the bytes of an aligned block to where it begins, in pieces that don't overlap. */
-static inline void *tlsf_parts_to_start(unsigned char *ptr, unsigned char *block, size_t bytes)
+static inline void *tlsf_parts_to_start(const struct tlsf_part_heap *part, unsigned char *ptr,
+                                        unsigned char *block, size_t bytes)
 {
-    size_t step = (size_t)(ptr - block);
-    tlsf_parts_unmark(ptr, block);
+    size_t step = (uintptr_t)ptr - (uintptr_t)block;
+    tlsf_parts_at_start(part, block);
     for (size_t at = 0; at < bytes; at += step) {
         (void)memcpy(block + at, ptr + at, bytes - at < step ? bytes - at : step);
     }
@@ -325,8 +356,9 @@ static inline void *tlsf_parts_realloc(tlsf_parts *parts, void *ptr, size_t byte
         tlsf_parts_release(parts, ptr, bytes);
         return NULL;
     }
-    if (tlsf_parts_of(parts, ptr, &block) == tlsf_parts_for(parts, bytes)) {
-        return bytes <= has ? ptr : tlsf_parts_to_start((unsigned char *)ptr, block, has);
+    const struct tlsf_part_heap *part = tlsf_parts_of(parts, ptr, &block);
+    if (part == tlsf_parts_for(parts, bytes)) {
+        return bytes <= has ? ptr : tlsf_parts_to_start(part, (unsigned char *)ptr, block, has);
     }
     void *other = tlsf_parts_malloc(parts, bytes);
     if (other != NULL) {
@@ -371,8 +403,11 @@ static inline size_t tlsf_parts_refusals(const tlsf_parts *parts, enum tlsf_refu
 /* Checks each part as tlsf_check does. Answers 0 where all is whole, else less than 0. */
 static inline int tlsf_parts_check(const tlsf_parts *parts)
 {
-    int faults = parts == NULL ? -1 : 0;
-    for (uint32_t k = 0; parts != NULL && k < parts->count; k++) {
+    int faults = 0;
+    if (parts == NULL) {
+        return -1;
+    }
+    for (uint32_t k = 0; k < parts->count; k++) {
         faults += tlsf_check(parts->parts[k].heap);
     }
     return faults;

@@ -279,13 +279,13 @@ static void alignments(unsigned char *large)
                       && tlsf_block_size(blocks[k]) == 104;
         }
         refused = refused && tlsf_memalign(tlsf, 1 << 22, 1) == NULL
-                  && tlsf_memalign(tlsf, 48, 1) == NULL && tlsf_memalign(tlsf, SIZE_MAX, 1) == NULL;
+                  && tlsf_memalign(tlsf, 48, 1) == NULL && tlsf_memalign(tlsf, SIZE_MAX, 1) == NULL
+                  && tlsf_memalign(tlsf, 0, 100) == NULL;
         whole = whole && tlsf_check(tlsf) == 0;
         for (int k = 0; k <= 21; k++) {
             tlsf_free(tlsf, blocks[(k * 5) % 22]);
         }
-        aligned = aligned && tlsf_memalign(tlsf, 0, 100) != NULL;
-        whole = whole && has(pool, 1, 1);
+        whole = whole && has(pool, 0, 1);
     }
     expect(aligned, "each alignment up to 2^21, in pools at any address");
     expect(refused, "an alignment above it, or that is no power of two");
@@ -825,8 +825,9 @@ static void refused_requests(void)
     good = tlsf_memalign(tlsf, 48, 1) == NULL && was_told(&told, 1, TLSF_REFUSED_ALIGNMENT, NULL, 1)
            && tlsf_memalign(tlsf, 3, 2) == NULL && was_told(&told, 1, TLSF_REFUSED_ALIGNMENT, NULL, 2)
            && tlsf_memalign(tlsf, 1 << 22, 1) == NULL
-           && was_told(&told, 1, TLSF_REFUSED_ALIGNMENT, NULL, 1);
-    expect(good && refused(tlsf, TLSF_REFUSED_ALIGNMENT) == 3, "alignments are told");
+           && was_told(&told, 1, TLSF_REFUSED_ALIGNMENT, NULL, 1) && tlsf_memalign(tlsf, 0, 5) == NULL
+           && was_told(&told, 1, TLSF_REFUSED_ALIGNMENT, NULL, 5);
+    expect(good && refused(tlsf, TLSF_REFUSED_ALIGNMENT) == 4, "alignments are told");
     tlsf_free(tlsf, NULL);
     good = tlsf_malloc(tlsf, 0) == NULL && tlsf_memalign(tlsf, 48, 0) == NULL
            && tlsf_realloc(tlsf, NULL, 0) == NULL && tlsf_realloc(tlsf, one, 0) == NULL;
@@ -1000,6 +1001,30 @@ static void pieces_of_control(tlsf_t tlsf)
         }
     }
     expect(told, "pieces of it that are overwritten or copied are told");
+}
+
+/* Each byte of the table in turn, with each of its bits: where it leads to its records they are told, and
+ * no other leads the check astray. The records lie between two pieces of 16 bytes, and the rest is behind. */
+static void each_byte_of_table(void)
+{
+    enum { RECORDS = 40 };
+    tlsf_t tlsf = tlsf_create_records(memory, tlsf_size_records(RECORDS), RECORDS);
+    pool_t pool = tlsf_add_pool(tlsf, other_memory, 4096);
+    void *one = tlsf_malloc(tlsf, 100);
+    size_t leads = control_part() + 16 + 16 * RECORDS + 16, told = 0, wanted = 0;
+    for (size_t at = control_part(); at < tlsf_size_records(RECORDS); at++) {
+        bool is = (at >= leads && at < leads + sizeof(void *)) || (at >= leads + 8 && at < leads + 16);
+        for (int way = 0; way < 8; way++) {
+            memory[at] ^= 1u << way;
+            bool tells = tlsf_check(tlsf) < 0;
+            bool same = tells == (tlsf_check_pool(pool) < 0);
+            told += is && tells && same;
+            wanted += is;
+            memory[at] ^= 1u << way;
+        }
+    }
+    expect(one != NULL && told == wanted && wanted == 8 * (8 + sizeof(void *)) && tlsf_check(tlsf) == 0,
+           "a table that leads elsewhere than to its records is told");
 }
 
 /* An entry behind the eight, which says that it is the hundredth: its last four bytes are its number. */
@@ -1282,6 +1307,7 @@ int main(void)
     figures();
     forgotten_pools();
     spoiled_control();
+    each_byte_of_table();
     table_of_before();
     ninth_pool();
     ends();

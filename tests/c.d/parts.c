@@ -26,9 +26,13 @@ static uint64_t below(uint64_t bound)
 
 /* ---- the bytes ---- */
 
-/* 2,130 blocks of 80 bytes and 16 more for each record; the heap's 1,696, its start, and twice 8. */
+/* 2,130 blocks of 80 bytes and 16 more for each record; the heap's 1,696, its start, twice 8, and a bit
+ * for each block in 34 words of 8 bytes. */
 #define START (sizeof(void *) == 8 ? 368 : 336)
-_Static_assert(TLSF_PART_BYTES(64, 2130) == 2130 * (80 + 16) + 1696 + START + 16, "a part");
+_Static_assert(TLSF_PART_BYTES(64, 2130) == 2130 * (80 + 16) + 1696 + START + 16 + 34 * 8, "a part");
+_Static_assert(TLSF_PART_BYTES(64, 64) - TLSF_PART_BYTES(64, 63) == 80 + 16
+                   && TLSF_PART_BYTES(64, 65) - TLSF_PART_BYTES(64, 64) == 80 + 16 + 8,
+               "a word for 64 blocks");
 #define LIST(part) part(64, 2130) part(2048, 41) part(335872, 1)
 _Static_assert(TLSF_PARTS_BYTES(LIST) - TLSF_PARTS_OWN
                    == TLSF_PART_BYTES(64, 2130) + TLSF_PART_BYTES(2048, 41)
@@ -195,9 +199,48 @@ static void bad_pointers(void)
                && tlsf_parts_aligned_alloc(parts, (size_t)1 << 20, SIZE_MAX) == NULL
                && was_told(TLSF_REFUSED_NO_FIT, NULL, SIZE_MAX),
            "bad alignments");
+    bool sums = true;
+    for (size_t align = 32; align <= 4096; align *= 2) {
+        sums = sums && tlsf_parts_aligned_alloc(parts, align, SIZE_MAX) == NULL
+               && was_told(TLSF_REFUSED_NO_FIT, NULL, SIZE_MAX)
+               && tlsf_parts_aligned_alloc(parts, align, SIZE_MAX - align + 32) == NULL
+               && was_told(TLSF_REFUSED_NO_FIT, NULL, SIZE_MAX - align + 32);
+    }
+    expect(sums, "bytes and an alignment that are above SIZE_MAX together");
     memset(large - 8, 1, 8);
     tlsf_parts_free(parts, large);
     expect(was_told(TLSF_REFUSED_FRONT, large, 0) && tlsf_parts_check(parts) < 0, "a spoiled front");
+}
+
+/* A block that is free again, and then another's, with its pointer further on. */
+static void stale_pointers(void)
+{
+    tlsf_parts *parts = of_list();
+    unsigned char *stale = (unsigned char *)tlsf_parts_malloc(parts, 1500);
+    tlsf_parts_free(parts, stale);
+    unsigned char *aligned = (unsigned char *)tlsf_parts_aligned_alloc(parts, 512, 1200);
+    memset(aligned, 7, tlsf_parts_live_size(parts, aligned));
+    expect(stale < aligned && aligned < stale + 1500 && told.count == 0, "an aligned block in its place");
+    tlsf_parts_free(parts, stale);
+    expect(was_told(TLSF_REFUSED_POINTER, stale, 0) && tlsf_parts_live_size(parts, stale) == 0
+               && tlsf_parts_realloc(parts, stale, 10) == NULL
+               && was_told(TLSF_REFUSED_POINTER, stale, 10),
+           "the stale pointer is refused");
+    unsigned char *other = (unsigned char *)tlsf_parts_malloc(parts, 1500);
+    expect(other != NULL && (other + 1500 <= stale || stale + 1500 <= other)
+               && aligned[0] == 7 && aligned[1199] == 7,
+           "the live block stays its own");
+    tlsf_parts_free(parts, aligned);
+    expect(told.count == 0 && tlsf_parts_live_size(parts, aligned) == 0, "it is freed by its own pointer");
+    unsigned char *again = (unsigned char *)tlsf_parts_malloc(parts, 1500);
+    tlsf_parts_free(parts, aligned);
+    expect(again == stale && was_told(TLSF_REFUSED_FRONT, aligned, 0) == (again[0] != 0)
+               && tlsf_parts_live_size(parts, again) >= 1500,
+           "and its pointer is stale where a plain block begins before it");
+    told.count = 0;
+    tlsf_parts_free(parts, again);
+    tlsf_parts_free(parts, other);
+    expect(told.count == 0 && tlsf_parts_check(parts) == 0, "all are freed, and whole");
 }
 
 static void without_parts(void)
@@ -234,6 +277,9 @@ static struct held held[SLOTS];
 static tlsf_part limits[TLSF_PARTS_MOST];
 static uint32_t count, live[TLSF_PARTS_MOST], most[TLSF_PARTS_MOST];
 static uint64_t calls, refused;
+/* Pointers of blocks that were freed, or moved. */
+enum { STALE = 64 };
+static unsigned char *stale[STALE];
 
 /* The part that a request counts for: `count` for none. */
 static uint32_t part_of(uint64_t asked)
@@ -327,6 +373,7 @@ static bool resizes(tlsf_parts *parts, struct held *block)
                     || is_marked(at, old.bytes - (old.bytes < 64 ? old.bytes : 64), old.bytes,
                                  old.byte));
     live[old.part]--;
+    stale[below(STALE)] = old.at;
     if (good) {
         hold(block, at, size, part);
     }
@@ -337,6 +384,7 @@ static bool frees(tlsf_parts *parts, struct held *block)
 {
     bool own = is_own(block);
     calls++;
+    stale[below(STALE)] = block->at;
     if (below(2) == 0) {
         tlsf_parts_free(parts, block->at);
     } else {
@@ -345,6 +393,48 @@ static bool frees(tlsf_parts *parts, struct held *block)
     live[block->part]--;
     block->at = NULL;
     return own && told.count == 0;
+}
+
+/* ---- pointers that no live block has ---- */
+
+static bool is_held(const unsigned char *ptr)
+{
+    int k = 0;
+    while (k < SLOTS && held[k].at != ptr) {
+        k++;
+    }
+    return k < SLOTS;
+}
+
+/* A pointer that was a block's once, or into a block, or the program's own, or none. */
+static unsigned char *no_pointer(void)
+{
+    static unsigned char own[64];
+    const struct held *block = &held[below(SLOTS)];
+    uint64_t kind = below(8);
+    unsigned char *ptr = kind < 5 ? stale[below(STALE)]
+                         : kind == 5 ? own + 16 * below(4)
+                         : block->at == NULL ? NULL
+                                             : block->at + 1 + below(block->bytes + 1);
+    return ptr == NULL || is_held(ptr) ? NULL : ptr;
+}
+
+/* It is refused by each call, and told as it is. */
+static bool refuses(tlsf_parts *parts)
+{
+    unsigned char *ptr = no_pointer();
+    size_t asked = (size_t)below(3000);
+    bool frees_it = below(2) == 0;
+    if (ptr == NULL) {
+        return true;
+    }
+    calls++;
+    if (frees_it) {
+        tlsf_parts_free(parts, ptr);
+    }
+    bool none = frees_it || tlsf_parts_realloc(parts, ptr, asked) == NULL;
+    enum tlsf_refusal what = told.what == TLSF_REFUSED_FRONT ? told.what : TLSF_REFUSED_POINTER;
+    return none && was_told(what, ptr, frees_it ? 0 : asked) && tlsf_parts_live_size(parts, ptr) == 0;
 }
 
 /* The figures are those of the program. */
@@ -372,7 +462,7 @@ static bool runs(tlsf_parts *parts)
         } else {
             good = turn < 3 ? resizes(parts, block) : (grows && turn != 3) || frees(parts, block);
         }
-        good = good && (step % 500 != 0 || agrees(parts));
+        good = good && (below(4) != 0 || refuses(parts)) && (step % 500 != 0 || agrees(parts));
     }
     return good && agrees(parts);
 }
@@ -380,6 +470,7 @@ static bool runs(tlsf_parts *parts)
 static void set_limits(void)
 {
     memset(held, 0, sizeof held);
+    memset(stale, 0, sizeof stale);
     memset(live, 0, sizeof live);
     memset(most, 0, sizeof most);
     count = 0;
@@ -414,6 +505,7 @@ int main(int words, char **word)
     bad_parts();
     full_parts();
     bad_pointers();
+    stale_pointers();
     without_parts();
     while (good && calls < wanted) {
         good = program();

@@ -77,6 +77,16 @@ static void sure_pools(void)
     bool same = tlsf_heap_sure_pool(60, 60 * 1040, tlsf_heap_class_size(1, 1040)) == 125856
                 && tlsf_heap_sure_pool(3, 448, 320) == 1680 && tlsf_heap_sure_pool(0, 0, 16) == 16;
     expect(same, "the worked pools");
+    expect(tlsf_heap_sure_pool(10, 1000, 112) == 2064 && tlsf_heap_sure_pool(10, 1008, 112) == 2080,
+           "bytes that are no multiple of 16: the least pool above what refuses");
+    same = true;
+    for (int k = 0; k < VALUES; k++) {
+        uint64_t blocks = below(1000), bytes = any_size() / 2, size = low(1 + below(CLASSES / 2));
+        uint64_t refusing = bytes + (blocks + 1) * (size - 16), pool = tlsf_heap_sure_pool(blocks, bytes, (uint32_t)size);
+        bool small = refusing < 1073741808;
+        same = same && (small ? pool % 16 == 0 && pool > refusing && pool <= refusing + 16 : pool == 0);
+    }
+    expect(same, "the sure pools of 100,000 programs are the least multiples of 16 above what refuses");
     same = tlsf_heap_sure_pool(32767, 16, 16) == 0 && tlsf_heap_sure_pool(1, 16, 0) == 0
            && tlsf_heap_sure_pool(1, 1073741808, 16) == 0
            && tlsf_heap_sure_pool(1, UINT64_MAX, 16) == 0
