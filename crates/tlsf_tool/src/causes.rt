@@ -17,6 +17,8 @@ pub(crate) struct Causes {
     pub output: Cause,
     /// Of the image that is written.
     pub image: Cause,
+    /// Whether what is read is standard input.
+    pub is_standard: Cell<bool>,
 }
 
 impl Causes {
@@ -26,13 +28,14 @@ impl Causes {
             input: Cell::new(None),
             output: Cell::new(None),
             image: Cell::new(None),
+            is_standard: Cell::new(false),
         }
     }
 
-    /// Tells on standard error which stream failed, and why. What is read and the image have these names. Answers whether
-    /// one failed.
+    /// Tells on standard error which stream failed, and why. What is read has this name, unless it is standard input, and so has
+    /// the image. Answers whether one failed.
     pub fn tell(&self, rt: &HostRuntime, input: &str, image: &str) -> bool {
-        let input = if input == "-" {
+        let input = if self.is_standard.get() {
             "standard input"
         } else {
             input

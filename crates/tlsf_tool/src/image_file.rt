@@ -3,14 +3,14 @@
 ghost use Rattle.std.specs.Prelude.{IfOk};
 ghost use Rattle.tlsf_tool.specs.Files.{IsAboveStreams};
 
-use crate::files::{above_streams, make_file};
+use crate::files::{FileNumber, above_streams, are_one, make_file};
 use std::alloc::AllocError;
-use std::fs::{File, Metadata, OpenOptions};
-use std::io::Write;
+use std::fs::{File, Metadata, OpenOptions, TryLockError};
+use std::io::{ErrorKind, Write};
 use std::os::unix::fs::{MetadataExt, OpenOptionsExt, fchown};
 use std::{fs, io};
 
-/// How many names are tried for a file beside an image.
+/// How many names are tried for a file beside an image. A name is free again once no run holds its file.
 const MOST_NAMES: u32 = 1000;
 
 /// The rights of a new file, without those that the caller's umask takes.
@@ -24,9 +24,18 @@ const MINE_ALONE: u32 = 0o600;
 pub(crate) struct ImageFile<'a> {
     rt: &'a HostRuntime,
     file: File,
-    /// The names of the file and of the image, until the file takes the image's place; none where the image itself is
-    /// written.
-    beside: Option<Beside>,
+    target: Target,
+}
+
+/// What the file is.
+#[derive(Drop)]
+enum Target {
+    /// One beside the image, until it takes the image's place.
+    Beside(Beside),
+    /// The image itself, which keeps its older bytes until the first are written.
+    Older,
+    /// The image itself.
+    Image,
 }
 
 /// The name of a file beside an image, and that of the image.
@@ -68,37 +77,79 @@ fn name_beside(rt: &HostRuntime, image: &str, number: u32) -> Result<String, All
     }
 }
 
-/// Makes a file with these rights beside the image, where that can be.
+/// Whether this run alone holds the file, and the name still leads to it. Where the file system has no locks, it is taken as held.
+fn is_held(rt: &HostRuntime, file: &File, name: &str) -> bool {
+    let is_locked = !matches!(file.try_lock(), Err(TryLockError::WouldBlock));
+    is_locked && are_one(FileNumber::of_file(file), FileNumber::of_name(rt, name))
+}
+
+/// Removes the file of this name, if a run that was killed left it: then nobody has its lock.
+fn remove_if_left(rt: &HostRuntime, name: &str) {
+    if let Ok(file) = open_to_write(rt, name) {
+        if file.try_lock().is_ok() && is_held(rt, &file, name) {
+            let _ = fs::remove_file(rt, name);
+        }
+    }
+}
+
+/// Removes what killed runs left beside the image, up to the first name that no file has.
+fn remove_left(rt: &HostRuntime, image: &str) -> Result<(), AllocError> {
+    for number in 0..MOST_NAMES {
+        let name = name_beside(rt, image, number)?;
+        if fs::symlink_metadata(rt, name.as_str()).is_err() {
+            return Ok(());
+        }
+        remove_if_left(rt, name.as_str());
+    }
+    Ok(())
+}
+
+/// Whether this is the error of a folder that takes no new file of such a name.
+fn takes_none(error: &io::Error) -> bool {
+    matches!(
+        error.kind(),
+        ErrorKind::PermissionDenied | ErrorKind::ReadOnlyFilesystem | ErrorKind::InvalidFilename
+    )
+}
+
+/// Makes a file with these rights beside the image. The answer is `None` where the folder takes no new file.
 ///
 /// # Errors
 ///
-/// `OutOfMemory` where memory is refused for its name.
+/// `OutOfMemory` where memory is refused for its name; that of the folder, as where the disk is full; `AlreadyExists` where other
+/// runs hold the files of all names.
 fn make_beside(rt: &HostRuntime, image: String, rights: u32) -> io::Result<Option<(File, Beside)>> {
+    remove_left(rt, image.as_str())?;
     for number in 0..MOST_NAMES {
         let name = name_beside(rt, image.as_str(), number)?;
         match make_new(rt, name.as_str(), rights) {
-            Ok(file) => return Ok(Some((file, Beside { file: name, image }))),
-            Err(error) if error.kind() == io::ErrorKind::AlreadyExists => {}
-            Err(_) => return Ok(None),
+            Ok(file) => {
+                if is_held(rt, &file, name.as_str()) {
+                    return Ok(Some((file, Beside { file: name, image })));
+                }
+            }
+            Err(error) if error.kind() == ErrorKind::AlreadyExists => {}
+            Err(error) if takes_none(&error) => return Ok(None),
+            Err(error) => return Err(error),
         }
     }
-    Ok(None)
+    Err(io::Error::from(ErrorKind::AlreadyExists))
 }
 
 /// Whether there is no file of this name, and no link that leads nowhere either. The empty name is none.
 fn is_missing(rt: &HostRuntime, name: &str, error: &io::Error) -> bool {
     !name.is_empty()
-        && error.kind() == io::ErrorKind::NotFound
+        && error.kind() == ErrorKind::NotFound
         && fs::symlink_metadata(rt, name).is_err()
 }
 
 impl<'a> ImageFile<'a> {
-    /// Makes a file beside the image of this name. Where the image is no regular file, or no file can be made beside it, the
-    /// image itself is made or emptied.
+    /// Makes a file beside the image of this name. Where the image is no regular file, it is written itself. So it is where its
+    /// folder takes no new file: then it keeps its older bytes until the first are written.
     ///
     /// # Errors
     ///
-    /// Those of opening the image; `OutOfMemory` where memory is refused for a name.
+    /// Those of opening the image, or of making the file beside it; `OutOfMemory` where memory is refused for a name.
     pub fn make(rt: &'a HostRuntime, image: &str) -> io::Result<ImageFile<'a>> {
         match fs::metadata(rt, image) {
             Ok(standing) if standing.is_file() => ImageFile::over(rt, image, &standing),
@@ -110,8 +161,8 @@ impl<'a> ImageFile<'a> {
     /// The image itself, made or emptied.
     fn itself(rt: &'a HostRuntime, image: &str) -> io::Result<ImageFile<'a>> {
         let file = make_file(rt, image)?;
-        let beside = None;
-        Ok(ImageFile { rt, file, beside })
+        let target = Target::Image;
+        Ok(ImageFile { rt, file, target })
     }
 
     /// A file beside an image that there isn't yet.
@@ -125,28 +176,34 @@ impl<'a> ImageFile<'a> {
     /// A file beside an image that there is, by the end of its links. It gets the image's owner and rights, as far as that
     /// can be.
     fn over(rt: &'a HostRuntime, image: &str, standing: &Metadata) -> io::Result<ImageFile<'a>> {
-        drop(open_to_write(rt, image)?);
+        let older = open_to_write(rt, image)?;
         let path = match fs::canonicalize(rt, image) {
             Ok(path) => path,
-            Err(error) if error.kind() == io::ErrorKind::OutOfMemory => return Err(error),
-            Err(_) => return ImageFile::itself(rt, image),
+            Err(error) if error.kind() == ErrorKind::OutOfMemory => return Err(error),
+            Err(_) => return Ok(ImageFile::older(rt, older)),
         };
         let Some((file, beside)) = make_beside(rt, path.into_string(), MINE_ALONE)? else {
-            return ImageFile::itself(rt, image);
+            return Ok(ImageFile::older(rt, older));
         };
         let _ = fchown(&file, Some(standing.uid()), Some(standing.gid()));
         let _ = file.set_permissions(standing.permissions());
         Ok(ImageFile::of(rt, file, beside))
     }
 
+    /// The image itself, open to be written.
+    fn older(rt: &'a HostRuntime, file: File) -> ImageFile<'a> {
+        let target = Target::Older;
+        ImageFile { rt, file, target }
+    }
+
     fn of(rt: &'a HostRuntime, file: File, beside: Beside) -> ImageFile<'a> {
-        let beside = Some(beside);
-        ImageFile { rt, file, beside }
+        let target = Target::Beside(beside);
+        ImageFile { rt, file, target }
     }
 
     /// Removes the file that took no image's place.
     pub fn leave(self) {
-        if let Some(beside) = &self.beside {
+        if let Target::Beside(beside) = &self.target {
             let _ = fs::remove_file(self.rt, beside.file.as_str());
         }
     }
@@ -164,15 +221,19 @@ fn replace(rt: &HostRuntime, beside: &Beside) -> io::Result<()> {
 
 impl Write for ImageFile<'_> {
     fn write(&mut self, buf: &[u8]) -> io::Result<usize> {
+        if let Target::Older = &self.target {
+            self.file.set_len(0)?;
+            self.target = Target::Image;
+        }
         self.file.write(buf)
     }
 
     /// The image is whole: it takes its place.
     fn flush(&mut self) -> io::Result<()> {
-        if let Some(beside) = &self.beside {
+        if let Target::Beside(beside) = &self.target {
             self.file.sync_all()?;
             replace(self.rt, beside)?;
-            self.beside = None;
+            self.target = Target::Image;
         }
         Ok(())
     }

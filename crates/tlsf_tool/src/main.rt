@@ -91,6 +91,7 @@ fn apart<R: Drop>(run: &Run<'_>, input: Input<R>) -> Result<Input<R>, ToolFault>
 /// Opens a file to read it, which this path leads to.
 fn open_path(run: &Run<'_>, name: String, is_standard: bool) -> Result<Input<File>, ToolFault> {
     let path = if is_standard {
+        run.reads_standard_input();
         STANDARD_INPUT
     } else {
         name.as_str()
@@ -104,6 +105,7 @@ fn open_path(run: &Run<'_>, name: String, is_standard: bool) -> Result<Input<Fil
 
 /// Standard input, which is open.
 fn standard_input(run: &Run<'_>, name: String) -> Result<Input<Stdin>, ToolFault> {
+    run.reads_standard_input();
     let file = run.rt.stdin();
     let number = FileNumber::of_name(run.rt, STANDARD_INPUT);
     apart(run, Input { file, number, name })
@@ -127,7 +129,7 @@ fn report<R: Read + Drop>(
         &mut writer,
         &mut errors,
     );
-    tell_bad_heap(run.rt, status, settings);
+    tell_bad_heap(run, status, settings);
     Ok(run.end(status, log.name.as_str(), ""))
 }
 
@@ -177,7 +179,7 @@ fn reread(run: &Run<'_>, what: Rereading, log: String) -> Result<u8, ToolFault> 
         &mut errors,
         &run.notice,
     );
-    tell_bad_reading(run.rt, status, what);
+    tell_bad_reading(run, status, what);
     Ok(run.end_again(status, log.name.as_str()))
 }
 
@@ -223,7 +225,7 @@ fn save<R: Read + Drop>(
     );
     drop(sink);
     file.leave();
-    tell_bad_heap(run.rt, status, settings);
+    tell_bad_heap(run, status, settings);
     if status == BAD_SETTINGS {
         let _ = make_file(run.rt, image.as_str());
     }
@@ -245,7 +247,7 @@ fn size(run: &Run<'_>, bounds: Bounds) -> u8 {
     let mut writer = run.unbuffered();
     let mut errors = run.errors();
     let status = serve_size(bounds, &mut writer, &mut errors);
-    tell_bad_bounds(run.rt, status, bounds);
+    tell_bad_bounds(run, status, bounds);
     run.end(status, "", "")
 }
 
@@ -345,7 +347,7 @@ fn tell(rt: &HostRuntime, causes: &Causes, fault: &ToolFault) -> u8 {
         }
     }
     if let ToolFault::CannotOpen(name) = fault {
-        let _ = causes.tell(rt, name.as_str(), name.as_str());
+        run.tell_cause(name.as_str(), name.as_str());
     }
     fault.status()
 }

@@ -9,11 +9,14 @@ use crate::shown::Shown;
 use mtrace_log::{FromRead, ToWrite};
 use mtrace_replay::RunFault;
 use std::fs::File;
-use std::io;
-use std::io::{BufWriter, Read, Stderr, Stdout, Write};
+use std::io::{BufWriter, IsTerminal, Read, Stderr, Stdout, Write};
+use std::{env, io};
 
 /// The status where a file can't be read or written.
 const FILE_FAILED: u8 = 3;
+
+/// Where this variable of the environment is 1, the cause of a fault is told wherever standard error goes.
+const TELL_CAUSES: &str = "TLSF_CAUSES";
 
 /// The name under which the system tells of the file that is standard output.
 const STANDARD_OUTPUT: &str = "/dev/stdout";
@@ -77,6 +80,11 @@ impl<'a> Run<'a> {
         answer
     }
 
+    /// Keeps that standard input is read.
+    pub fn reads_standard_input(&self) {
+        self.causes.is_standard.set(true);
+    }
+
     /// Keeps that an image can't be made where its log is.
     pub fn refuse_image(&self) {
         let answer: io::Result<()> = Err(io::Error::other("image file is input file"));
@@ -95,10 +103,24 @@ impl<'a> Run<'a> {
         are_one(file, FileNumber::of_regular(self.rt, STANDARD_OUTPUT))
     }
 
+    /// Whether the cause of a fault is told behind its line: on a terminal, or where it is asked for. Elsewhere the line stands
+    /// alone.
+    pub fn tells_causes(&self) -> bool {
+        self.rt.stderr().is_terminal()
+            || matches!(env::var(self.rt, TELL_CAUSES), Ok(told) if told.as_str() == "1")
+    }
+
+    /// Tells which file failed, and why, where causes are told.
+    pub fn tell_cause(&self, input: &str, image: &str) {
+        if self.tells_causes() {
+            let _ = self.causes.tell(self.rt, input, image);
+        }
+    }
+
     /// Ends a run of this status: where a file failed, tells which one, and why.
     pub fn end(&self, status: u8, input: &str, image: &str) -> u8 {
         if status == FILE_FAILED {
-            let _ = self.causes.tell(self.rt, input, image);
+            self.tell_cause(input, image);
         }
         status
     }
@@ -106,7 +128,7 @@ impl<'a> Run<'a> {
     /// Ends a run that read its log more than once. Where a file failed, it tells which one, and why; where no call failed, that the
     /// log has fewer lines than at first.
     pub fn end_again(&self, status: u8, log: &str) -> u8 {
-        if status == FILE_FAILED && !self.causes.tell(self.rt, log, "") {
+        if status == FILE_FAILED && self.tells_causes() && !self.causes.tell(self.rt, log, "") {
             let log = Shown(log);
             let _ = eprintln!(self.rt; "tlsf: {log} has fewer lines than when it was read first");
         }
