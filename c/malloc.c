@@ -113,8 +113,11 @@ static bool make_heap(void)
     size_t bytes = of_parts != 0 ? of_parts : tlsf_size_records((uint32_t)records) + pool;
     void *memory = mmap(NULL, bytes, PROT_READ | PROT_WRITE,
                         MAP_PRIVATE | MAP_ANONYMOUS | MAP_NORESERVE, -1, 0);
-    if (list != NULL && of_parts == 0) {
+    if (list != NULL && count == 0) {
         say(STDERR_FILENO, "TLSF_PARTS tells no parts, as 64:2130,2048:41: one pool serves\n");
+    } else if (list != NULL && of_parts == 0) {
+        say(STDERR_FILENO, "TLSF_PARTS has to tell larger and larger parts, each of 1 to %u blocks and at most "
+                           "%u bytes: one pool serves\n", TLSF_HEAP_RECORDS_MOST, TLSF_HEAP_GREATEST);
     }
     if (memory == MAP_FAILED) {
         return false;

@@ -1,7 +1,8 @@
 /* Each call of malloc's family, for a program on libtlsf_malloc.so: what it answers, errno,
  * threads, and forks while threads ask. With the word `refused` pointers that are no live block's
  * are freed, which the C library's own malloc wouldn't bear. With `served` it writes how many times
- * one byte is served. With `hold` it ends with blocks held; with `spoil_front` or `spoil_table` with
+ * one byte is served, with `usable` how many bytes four blocks have. With `refused_twice` two requests
+ * are refused. With `hold` it ends with blocks held; with `spoil_front` or `spoil_table` with
  * bytes changed that aren't its own. With `locks` it asks while another thread has the lock. With
  * `alone` there are no threads and no forks. */
 #define _GNU_SOURCE
@@ -193,6 +194,10 @@ static void aligned(void)
     expect(posix_memalign(&out, 64, huge) == ENOMEM && out == &out, "posix_memalign of too much: ENOMEM, and out stays");
     errno = 0;
     expect(memalign(64, huge) == NULL && errno == ENOMEM, "memalign of too much: ENOMEM");
+    errno = 0;
+    expect(valloc(huge) == NULL && errno == ENOMEM, "valloc of too much: ENOMEM");
+    errno = 0;
+    expect(pvalloc(huge) == NULL && errno == ENOMEM, "pvalloc of too much: ENOMEM");
     void *page = valloc(10), *pages = pvalloc(10);
     expect(is_at(page, 4096) && is_at(pages, 4096) && malloc_usable_size(pages) >= 4096, "valloc and pvalloc");
     free(page);
@@ -397,13 +402,22 @@ static void spoil(bool table)
     }
 }
 
-static unsigned served(void)
+static unsigned served(size_t bytes)
 {
     unsigned times = 0;
-    for (void *volatile block = malloc(1); block != NULL; block = malloc(1)) {
+    for (void *volatile block = malloc(bytes); block != NULL; block = malloc(bytes)) {
         times++;
     }
     return times;
+}
+
+/* The bytes of three blocks, and of one that begins behind the start of its part's block. */
+static void usable(void)
+{
+    void *plain = malloc(1), *more = malloc(65), *most = malloc(1000), *aligned = memalign(512, 100);
+    size_t step = (512 - (uintptr_t)aligned % 512) % 512;
+    printf("%zu %zu %zu %zu\n", malloc_usable_size(plain), malloc_usable_size(more), malloc_usable_size(most), step);
+    printf("%d\n", malloc_usable_size(aligned) >= 100 && malloc_usable_size(aligned) <= malloc_usable_size(most));
 }
 
 int main(int count, char **words)
@@ -414,7 +428,17 @@ int main(int count, char **words)
         return 0;
     }
     if (count > 1 && strcmp(words[1], "served") == 0) {
-        printf("%u\n", served());
+        printf("%u\n", served(1));
+        return 0;
+    }
+    if (count > 1 && strcmp(words[1], "refused_twice") == 0) {
+        void *volatile again = NULL;
+        served(100);
+        again = malloc(200);
+        return again != NULL;
+    }
+    if (count > 1 && strcmp(words[1], "usable") == 0) {
+        usable();
         return 0;
     }
     if (count > 1 && strncmp(words[1], "spoil", 5) == 0) {

@@ -84,6 +84,25 @@ static bool same_figures(tlsf_t one, tlsf_t other)
            && a.largest_request == b.largest_request;
 }
 
+static void count_row(void *ptr, size_t size, int used, void *user)
+{
+    (void)ptr, (void)size, (void)used;
+    ++*(unsigned *)user;
+}
+
+/* Each of so many pools, whose entries lie 32 bytes apart, is whole by itself, and is walked. */
+static bool pools_are_whole(tlsf_t tlsf, unsigned pools)
+{
+    bool whole = tlsf_get_pool(tlsf) != NULL;
+    for (unsigned k = 0; k < pools && whole; k++) {
+        pool_t pool = (unsigned char *)tlsf_get_pool(tlsf) + 32 * k;
+        unsigned rows = 0;
+        tlsf_walk_pool(pool, count_row, &rows);
+        whole = tlsf_check_pool(pool) == 0 && rows > 0;
+    }
+    return whole;
+}
+
 /* The heap in other memory goes on as the one that was saved: each call answers the same there. */
 static void goes_on(void)
 {
@@ -95,6 +114,7 @@ static void goes_on(void)
     same = same && load_moved(IMAGE) == 0;
     expect(same, "an image is loaded, with pools in other memory");
     expect(tlsf_check(other_control) == 0 && tlsf_check(tlsf) == 0 && same_figures(tlsf, other_control), "it is whole, with the figures of the heap saved");
+    expect(pools_are_whole(other_control, POOLS), "so is each pool");
     void *others[BLOCKS];
     for (int k = 0; k < BLOCKS; k++) {
         others[k] = moved(blocks[k]);
@@ -137,7 +157,13 @@ static void stays(void)
     for (int k = 0; k < BLOCKS; k++) {
         good = good && tlsf_live_size(control, blocks[k]) == sizes[k];
     }
-    expect(good && tlsf_check(control) == 0, "a heap is loaded where it was");
+    expect(good && tlsf_check(control) == 0 && pools_are_whole(control, POOLS), "a heap is loaded where it was");
+    tlsf_figures figures;
+    good = tlsf_stats(control, &figures) == 0;
+    for (int what = 0; what < TLSF_REFUSALS; what++) {
+        good = good && figures.refusals[what] == 0;
+    }
+    expect(good, "it has refused nothing, whatever stood in its memory");
 }
 
 /* What isn't an image of the heap is refused, and then the pools are as they were. */
@@ -237,6 +263,107 @@ static void one_piece(void)
     }
 }
 
+/* What an image says of whose a pool is, and of its number, counts for nothing. */
+static void others_entries(void)
+{
+    tlsf_t tlsf = make();
+    memset(blocks, 0, sizeof blocks);
+    fill(tlsf, 500);
+    bool good = tlsf_save(tlsf, image, IMAGE) == IMAGE;
+    for (int k = 0; k < 8; k++) {
+        memset(image + 24 + 32 * k + 20, 0xa5, 12);
+    }
+    memcpy(there, here, sizeof here);
+    expect(good && load_moved(IMAGE) == 0 && tlsf_check(other_control) == 0 && pools_are_whole(other_control, POOLS),
+           "numbers and owners of an image's pools are those of the heap that is loaded");
+}
+
+/* Eight pools of more than 64 KB. The first is in the piece of the control part, before and after. */
+enum { LARGE = 200000, LARGE_RECORDS = 8 * LARGE / 1000 + 100, PIECE = 65536 + LARGE, LARGE_POOLS = 8 };
+
+struct large {
+    unsigned char *piece, *pools[LARGE_POOLS];
+    void *last[LARGE_POOLS];
+};
+
+static bool make_large(struct large *large)
+{
+    large->piece = (unsigned char *)malloc(PIECE);
+    bool made = large->piece != NULL && tlsf_create_records(large->piece, PIECE, LARGE_RECORDS) != NULL;
+    for (int k = 1; k < LARGE_POOLS; k++) {
+        large->pools[k] = (unsigned char *)malloc(LARGE);
+        made = made && large->pools[k] != NULL;
+    }
+    return made;
+}
+
+/* Fills one pool after the other with blocks of 1,000 bytes. */
+static bool fill_large(struct large *large)
+{
+    bool filled = true;
+    for (int k = 0; k < LARGE_POOLS && filled; k++) {
+        filled = k == 0 || tlsf_add_pool(large->piece, large->pools[k], LARGE) != NULL;
+        for (void *block = tlsf_malloc(large->piece, 1000); block != NULL; block = tlsf_malloc(large->piece, 1000)) {
+            large->last[k] = (unsigned char *)block > (unsigned char *)large->last[k] ? block : large->last[k];
+        }
+    }
+    return filled;
+}
+
+/* A front of the last block of each pool, at more than 64 KB, is looked at. */
+static bool last_fronts_are_told(const struct large *large)
+{
+    bool told = tlsf_check(large->piece) == 0;
+    for (unsigned k = 0; k < LARGE_POOLS; k++) {
+        unsigned char *front = (unsigned char *)large->last[k] - 8;
+        *front ^= 1;
+        for (unsigned other = 0; other < LARGE_POOLS; other++) {
+            told = told && tlsf_check_pool((unsigned char *)tlsf_get_pool(large->piece) + 32 * other) == (other == k ? -1 : 0);
+        }
+        told = told && tlsf_check(large->piece) == -1;
+        *front ^= 1;
+    }
+    return told;
+}
+
+static void free_large(struct large *large)
+{
+    for (int k = 1; k < LARGE_POOLS; k++) {
+        free(large->pools[k]);
+    }
+    free(large->piece);
+}
+
+static void eight_large_pools(void)
+{
+    static unsigned char saved[TLSF_IMAGE_BYTES(LARGE_RECORDS)];
+    static struct large from, to;
+    tlsf_memory memory[8] = {{NULL, 0}};
+    bool good = make_large(&from) && make_large(&to) && fill_large(&from) && pools_are_whole(from.piece, LARGE_POOLS);
+    expect(good && last_fronts_are_told(&from), "the last block of each of eight pools is looked at");
+    good = good && tlsf_save(from.piece, saved, sizeof saved) == sizeof saved;
+    memcpy(to.piece, from.piece, PIECE);
+    memset(to.piece, 0xff, tlsf_size_records(LARGE_RECORDS));
+    for (int k = 1; k < LARGE_POOLS; k++) {
+        memory[k] = (tlsf_memory){to.pools[k], LARGE};
+        memcpy(to.pools[k], from.pools[k], LARGE);
+    }
+    good = good && (uintptr_t)to.piece % 16 == (uintptr_t)from.piece % 16
+           && tlsf_load(to.piece, PIECE, saved, sizeof saved, memory) == 0;
+    expect(good && tlsf_check(to.piece) == 0 && pools_are_whole(to.piece, LARGE_POOLS) && same_figures(from.piece, to.piece),
+           "eight pools are loaded, the first in what is left of the heap's memory");
+    for (int k = 0; k < LARGE_POOLS; k++) {
+        size_t at = (size_t)((unsigned char *)from.last[k] - (k == 0 ? from.piece : from.pools[k]));
+        void *block = (k == 0 ? to.piece : to.pools[k]) + at;
+        good = good && tlsf_live_size(to.piece, block) == 1000;
+        tlsf_free(to.piece, block);
+        good = good && tlsf_live_size(to.piece, block) == 0;
+    }
+    expect(good && tlsf_check(to.piece) == 0, "the last block of each is live there, and freed");
+    free_large(&from);
+    free_large(&to);
+}
+
 int main(void)
 {
     goes_on();
@@ -244,5 +371,7 @@ int main(void)
     refused();
     spoiled();
     one_piece();
+    others_entries();
+    eight_large_pools();
     return cases_end();
 }

@@ -14,15 +14,19 @@ enum { THREADS = 4, STEPS = 20000, HELD = 40 };
 static _Alignas(16) unsigned char memory[1 << 18], more[1 << 14], last[4096];
 static pthread_mutex_t lock;
 static size_t takes;
-static bool wrong, is_held;
+static bool wrong, is_held, ends;
 static tlsf_t heap;
 
+/* Where `ends` is set, another thread ends the heap while this one waits for the lock. */
 void take_lock(void *tlsf)
 {
     wrong = pthread_mutex_lock(&lock) != 0 || wrong;
     wrong = tlsf != heap || wrong;
     takes++;
     is_held = true;
+    if (ends) {
+        memset(heap, 0, sizeof(uint64_t));
+    }
 }
 
 void give_lock(void *tlsf)
@@ -206,6 +210,49 @@ static void each_call(void)
     expect(good && took(1) && !wrong, "each call takes the lock of its heap once, and gives it back");
 }
 
+/* The heap, as before it was ended. */
+static void begin_again(void)
+{
+    ends = false;
+    heap = memory;
+    tlsf_create_with_pool(memory, sizeof memory);
+}
+
+/* Each call looks for its heap with the lock: what ended before is gone. */
+static void ended_while_waiting(void)
+{
+    static unsigned char image[1 << 17];
+    tlsf_figures figures;
+    size_t bytes = 0;
+    bool none = true;
+    for (int call = 0; call < 13; call++) {
+        begin_again();
+        void *one = tlsf_malloc(heap, 100);
+        pool_t pool = tlsf_get_pool(heap);
+        ends = true;
+        switch (call) {
+        case 0: none = none && tlsf_malloc(heap, 100) == NULL; break;
+        case 1: none = none && tlsf_memalign(heap, 64, 100) == NULL; break;
+        case 2: none = none && tlsf_realloc(heap, one, 300) == NULL; break;
+        case 3: tlsf_free(heap, one); break;
+        case 4: none = none && tlsf_live_size(heap, one) == 0; break;
+        case 5: none = none && tlsf_stats(heap, &figures) == -1; break;
+        case 6: none = none && tlsf_check(heap) == -1; break;
+        case 7: none = none && tlsf_check_pool(pool) == -1; break;
+        case 8: tlsf_walk_pool(pool, see, &bytes); break;
+        case 9: none = none && tlsf_add_pool(heap, more, sizeof more) == NULL; break;
+        case 10: tlsf_remove_pool(heap, pool); break;
+        case 11: none = none && tlsf_get_pool(heap) == NULL; break;
+        default: none = none && tlsf_save(heap, image, sizeof image) == 0; break;
+        }
+        ends = false;
+        uint64_t owner = 0;
+        memcpy(&owner, memory, sizeof owner);
+        none = none && owner == 0;
+    }
+    expect(none && bytes == 0 && !wrong, "a heap that ends while a call waits for its lock has no blocks");
+}
+
 int main(void)
 {
     static struct worker workers[THREADS];
@@ -235,5 +282,6 @@ int main(void)
     expect(good, "and all is given back");
     each_call();
     callbacks();
+    ended_while_waiting();
     return cases_end();
 }

@@ -82,6 +82,19 @@ static bool is_bad(uint32_t count, tlsf_part first, tlsf_part second)
            && tlsf_parts_create(memory, sizeof memory, told, count) == NULL;
 }
 
+/* Five parts of 1,056,964,608 bytes each: more than 32 bits tell. */
+static void large_parts(void)
+{
+    tlsf_part five[5];
+    size_t sum = TLSF_PARTS_OWN;
+    for (uint32_t k = 0; k < 5; k++) {
+        five[k] = (tlsf_part){16777200u + k, 63};
+        sum += TLSF_PART_BYTES(16777200u + k, 63);
+    }
+    expect(tlsf_parts_bytes(five, 5) == (sizeof(size_t) == 8 ? sum : 0) && tlsf_parts_bytes(five, 1) != 0,
+           "parts whose bytes have no size_t can't be made");
+}
+
 static void bad_parts(void)
 {
     const tlsf_part one = {16, 1}, two = {32, 1};
@@ -241,6 +254,20 @@ static void stale_pointers(void)
     tlsf_parts_free(parts, again);
     tlsf_parts_free(parts, other);
     expect(told.count == 0 && tlsf_parts_check(parts) == 0, "all are freed, and whole");
+}
+
+/* The hook that was set last is told, with its own user. */
+static void hooks(void)
+{
+    struct told first = {0, TLSF_REFUSALS, NULL, 0}, second = first;
+    tlsf_parts *parts = of_list();
+    tlsf_parts_set_refusal_hook(parts, tell, &first);
+    tlsf_parts_set_refusal_hook(parts, tell, &second);
+    bool none = tlsf_parts_malloc(parts, SIZE_MAX) == NULL;
+    expect(none && first.count == 0 && second.count == 1 && second.bytes == SIZE_MAX && told.count == 0,
+           "another user of the hook");
+    tlsf_parts_set_refusal_hook(parts, NULL, NULL);
+    expect(tlsf_parts_malloc(parts, SIZE_MAX) == NULL && second.count == 1, "no hook");
 }
 
 static void without_parts(void)
@@ -502,10 +529,12 @@ int main(int words, char **word)
     uint64_t wanted = words > 1 ? strtoull(word[1], NULL, 10) : CALLS;
     bool good = true;
     bytes();
+    large_parts();
     bad_parts();
     full_parts();
     bad_pointers();
     stale_pointers();
+    hooks();
     without_parts();
     while (good && calls < wanted) {
         good = program();

@@ -16,4 +16,6 @@ pub record IsMovedTo (memory bytes last entry : ℕ) (old new : List PlacedPool)
   pub first_is : (d : PlacedPool) → (slice_index_or new entry d).first ≡ first_in memory
   pub reach_stays : (d : PlacedPool) → (slice_index_or new entry d).reach ≡ (slice_index_or old entry d).reach
   pub place_stays : (d : PlacedPool) → (slice_index_or new entry d).place ≡ (slice_index_or old entry d).place
+  pub number_stays : (d : PlacedPool) → (slice_index_or new entry d).number ≡ (slice_index_or old entry d).number
+  pub owner_stays : (d : PlacedPool) → (slice_index_or new entry d).owner ≡ (slice_index_or old entry d).owner
   pub others : (k : ℕ) (d : PlacedPool) → k ≢ entry → slice_index_or new k d ≡ slice_index_or old k d

@@ -68,10 +68,14 @@ pub record IsEnteredAt (first bytes place entry : ℕ) (old new : List PlacedPoo
   pub first_is : (d : PlacedPool) → (slice_index_or new entry d).first ≡ first
   pub reach_is : (d : PlacedPool) → (slice_index_or new entry d).reach + front ≡ bytes
   pub place_is : (d : PlacedPool) → (slice_index_or new entry d).place ≡ place
+  pub number_stays : (d : PlacedPool) → (slice_index_or new entry d).number ≡ (slice_index_or old entry d).number
+  pub owner_stays : (d : PlacedPool) → (slice_index_or new entry d).owner ≡ (slice_index_or old entry d).owner
   pub others : (k : ℕ) (d : PlacedPool) → k ≢ entry → slice_index_or new k d ≡ slice_index_or old k d
 
 -- the entry holds none
 pub record IsVacatedAt (entry : ℕ) (old new : List PlacedPool) : Type 0 where
   pub within : entry < length old
   pub vacant : (d : PlacedPool) → (slice_index_or new entry d).reach ≡ 0
+  pub number_stays : (d : PlacedPool) → (slice_index_or new entry d).number ≡ (slice_index_or old entry d).number
+  pub owner_stays : (d : PlacedPool) → (slice_index_or new entry d).owner ≡ (slice_index_or old entry d).owner
   pub others : (k : ℕ) (d : PlacedPool) → k ≢ entry → slice_index_or new k d ≡ slice_index_or old k d

@@ -7,6 +7,7 @@ ghost use Rattle.tlsf_heap.specs.Content.{blocks_of};
 ghost use Rattle.tlsf_heap.specs.Counted.{Reads};
 ghost use Rattle.tlsf_c.specs.FreeFigures.{free_bytes, entry_bytes, IsLargestWithFront, AreFreeWithin, IsBelowClass};
 ghost use Rattle.tlsf_c.specs.Fronts.{front};
+ghost use Rattle.tlsf_c.specs.Kept.{Keeps};
 ghost use Rattle.tlsf_c.specs.PlacedPools.{IsPlaced};
 
 use crate::figures::tlsf_heap_largest_request;
@@ -79,8 +80,7 @@ pub extern "C" fn tlsf_placed_free_figures(heap: &mut PlacedHeap, out: &mut Free
     ensures near { class (out.new.largest_request + front) ≡ class (out.new.largest_free + front) }
     ensures none { out.new.bytes ≡ 0 → (out.new.largest_request ≡ 0) × (out.new.largest_free ≡ 0) }
     ensures read { Reads 2 heap.old.handle.value heap.new.handle.value }
-    ensures pools { heap.new.pools ≡ heap.old.pools }
-    ensures owner { heap.new.owner ≡ heap.old.owner }
+    ensures kept { Keeps heap.old heap.new }
     ensures figures { heap.new.figures ≡ heap.old.figures }
 {
     heap.handle.heap().keeps_good();

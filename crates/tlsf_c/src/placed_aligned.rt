@@ -9,6 +9,7 @@ ghost use Rattle.tlsf_heap.specs.Room.{HasRoomAligned};
 ghost use Rattle.tlsf_heap.specs.Served.{IsServed};
 ghost use Rattle.tlsf_c.specs.Fronts.{front};
 ghost use Rattle.tlsf_heap.specs.Touches.{AtMost, memalign_touches};
+ghost use Rattle.tlsf_c.specs.Kept.{Keeps};
 ghost use Rattle.tlsf_c.specs.LiveFigures.{IsLiveChange};
 ghost use Rattle.tlsf_c.specs.Lying.{LiesIn};
 ghost use Rattle.tlsf_c.specs.PlacedPools.{IsAlike};
@@ -70,8 +71,7 @@ pub extern "C" fn tlsf_placed_memalign(heap: &mut PlacedHeap, align: u64, bytes:
     ensures unlike { (All (IsAlike align) heap.old.pools → ⊥) → (result.address ≡ 0) × (result.word ≡ number BadAlign) }
     ensures unchanged { result.address ≡ 0 → IsUnchanged heap.old.handle.value heap.new.handle.value }
     ensures room { 0 < bytes → is_alignment align ≡ true → All (IsAlike align) heap.old.pools → HasRoomAligned align (bytes + front) heap.old.handle.value.content → 0 < result.address }
-    ensures pools { heap.new.pools ≡ heap.old.pools }
-    ensures owner { heap.new.owner ≡ heap.old.owner }
+    ensures kept { Keeps heap.old heap.new }
     ensures most { heap.new.figures.most_bytes ≡ max heap.old.figures.most_bytes heap.new.figures.bytes }
     ensures bound { AtMost memalign_touches heap.old.handle.value.touches heap.new.handle.value.touches }
 {

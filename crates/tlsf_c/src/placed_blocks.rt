@@ -10,6 +10,7 @@ ghost use Rattle.tlsf_heap.specs.Room.{HasRoom};
 ghost use Rattle.tlsf_heap.specs.Served.{IsServed};
 ghost use Rattle.tlsf_heap.specs.Touches.{AtMost, malloc_or_own_touches, free_touches};
 ghost use Rattle.tlsf_c.specs.Fronts.{front, told_slot, told_size};
+ghost use Rattle.tlsf_c.specs.Kept.{Keeps};
 ghost use Rattle.tlsf_c.specs.LiveFigures.{IsLiveChange};
 ghost use Rattle.tlsf_c.specs.Lying.{LiesIn};
 ghost use Rattle.tlsf_c.specs.PlacedPools.{IsPlaced, HasPlace, HasAddress, IsAt};
@@ -147,8 +148,7 @@ pub extern "C" fn tlsf_placed_malloc(heap: &mut PlacedHeap, bytes: u64) -> Place
     ensures multiple { result.address % 16 ≡ 0 }
     ensures refused { result.address ≡ 0 → IsRefusedAt (λ slot. malloc_with_front slot bytes) result.word heap.old.handle.value heap.new.handle.value }
     ensures room { 0 < bytes → HasRoom (bytes + front) heap.old.handle.value.content → 0 < result.address }
-    ensures pools { heap.new.pools ≡ heap.old.pools }
-    ensures owner { heap.new.owner ≡ heap.old.owner }
+    ensures kept { Keeps heap.old heap.new }
     ensures most { heap.new.figures.most_bytes ≡ max heap.old.figures.most_bytes heap.new.figures.bytes }
     ensures bound { AtMost malloc_or_own_touches heap.old.handle.value.touches heap.new.handle.value.touches }
 {
@@ -179,8 +179,7 @@ pub(crate) fn find(heap: &mut PlacedHeap, address: u64, word: u64) -> Option<Siz
     ensures some { IfSome result (λ found. (found.ptr ≡ told_block found.ptr.place address word) × ((pool : PlacedPool) × Contains heap.old.pools pool × IsAt pool found.ptr.place address) × (block_size_ptr found.ptr heap.old.handle.value.content ≡ Ok (told_size word address)) × (found.size ≡ told_size word address)) }
     ensures long { IfSome result (λ found. 16 ≤ found.size) }
     ensures none { IfNone result (IsLiveAt address word heap.old.pools heap.old.handle.value.content → ⊥) }
-    ensures pools { heap.new.pools ≡ heap.old.pools }
-    ensures owner { heap.new.owner ≡ heap.old.owner }
+    ensures kept { Keeps heap.old heap.new }
     ensures figures { heap.new.figures ≡ heap.old.figures }
     ensures read { Reads 1 heap.old.handle.value heap.new.handle.value }
 {
@@ -208,8 +207,7 @@ pub extern "C" fn tlsf_placed_free(heap: &mut PlacedHeap, address: u64, word: u6
     ensures refused { result ≢ 0 → result ≡ number BadPointer }
     ensures unchanged { result ≢ 0 → IsUnchanged heap.old.handle.value heap.new.handle.value }
     ensures reads_one { result ≢ 0 → AtMost 1 heap.old.handle.value.touches heap.new.handle.value.touches }
-    ensures pools { heap.new.pools ≡ heap.old.pools }
-    ensures owner { heap.new.owner ≡ heap.old.owner }
+    ensures kept { Keeps heap.old heap.new }
     ensures most { heap.new.figures.most_bytes ≡ max heap.old.figures.most_bytes heap.new.figures.bytes }
     ensures bound { AtMost (free_touches + 1) heap.old.handle.value.touches heap.new.handle.value.touches }
 {

@@ -6,6 +6,7 @@ ghost use Rattle.tlsf_heap.specs.Counted.{IsUnchanged, range_of};
 ghost use Rattle.tlsf_heap.specs.Implied.{live_blocks};
 ghost use Rattle.tlsf_heap.specs.Room.{live_bytes};
 ghost use Rattle.tlsf_c.specs.Fronts.{front};
+ghost use Rattle.tlsf_c.specs.Kept.{Keeps};
 
 use crate::live_count::count_live;
 use crate::placed_blocks::FRONT;
@@ -19,8 +20,7 @@ pub extern "C" fn tlsf_placed_check(heap: &mut PlacedHeap, blocks: u64, bytes: u
     ensures live { (result ≡ true) ↔ ((blocks ≡ live_blocks heap.old.handle.value.content) × (bytes + front * blocks ≡ live_bytes (blocks_of heap.old.handle.value.content.pools))) }
     ensures unchanged { IsUnchanged heap.old.handle.value heap.new.handle.value }
     ensures each_read { heap.old.handle.value.touches + heap.old.handle.value.content.records < heap.new.handle.value.touches }
-    ensures pools { heap.new.pools ≡ heap.old.pools }
-    ensures owner { heap.new.owner ≡ heap.old.owner }
+    ensures kept { Keeps heap.old heap.new }
     ensures figures { heap.new.figures ≡ heap.old.figures }
 {
     let inner = heap.handle.heap();
@@ -38,8 +38,7 @@ pub extern "C" fn tlsf_placed_has_pool(heap: &mut PlacedHeap, place: u32, bytes:
     ensures yes { result ≡ true → Contains (map range_of heap.old.handle.value.content.pools) (place, bytes) }
     ensures no { result ≡ false → Contains (map range_of heap.old.handle.value.content.pools) (place, bytes) → ⊥ }
     ensures unchanged { IsUnchanged heap.old.handle.value heap.new.handle.value }
-    ensures pools { heap.new.pools ≡ heap.old.pools }
-    ensures owner { heap.new.owner ≡ heap.old.owner }
+    ensures kept { Keeps heap.old heap.new }
     ensures figures { heap.new.figures ≡ heap.old.figures }
 {
     let ranges = heap.handle.heap().pools();

@@ -4,6 +4,7 @@ ghost use Rattle.std.specs.Prelude.{◌≡◌, ℕ, ◌+◌, ◌^◌, ◌<◌, �
 ghost use Rattle.tlsf_heap.specs.Counted.{Reads};
 ghost use Rattle.tlsf_heap.specs.Touches.{block_size_touches};
 ghost use Rattle.tlsf_c.specs.Fronts.{told_slot, told_size};
+ghost use Rattle.tlsf_c.specs.Kept.{Keeps};
 ghost use Rattle.tlsf_c.specs.PlacedFronts.{IsFrontOf};
 
 use crate::placed_blocks::{FRONT, find};
@@ -31,8 +32,7 @@ pub extern "C" fn tlsf_placed_moved_front(
     ensures whole { (result ≡ true) ↔ IsFrontOf row.now word.new heap.old.pools heap.old.handle.value.content }
     ensures slot { (behind : ℕ) → from + behind < 2 ^ 64 → to + behind < 2 ^ 64 → told_slot word.new (to + behind) ≡ told_slot word.old (from + behind) }
     ensures size { (behind : ℕ) → from + behind < 2 ^ 64 → to + behind < 2 ^ 64 → told_size word.new (to + behind) ≡ told_size word.old (from + behind) }
-    ensures pools { heap.new.pools ≡ heap.old.pools }
-    ensures owner { heap.new.owner ≡ heap.old.owner }
+    ensures kept { Keeps heap.old heap.new }
     ensures figures { heap.new.figures ≡ heap.old.figures }
     ensures read { Reads block_size_touches heap.old.handle.value heap.new.handle.value }
 {

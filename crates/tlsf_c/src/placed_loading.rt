@@ -4,6 +4,7 @@ ghost use Rattle.std.specs.Prelude.{◌≡◌, ℕ, ◌+◌, ◌*◌, ◌^◌, �
 ghost use Rattle.std.specs.List.{AllWithin};
 ghost use Rattle.tlsf_heap.specs.Counted.{IsUnchanged, range_of};
 ghost use Rattle.tlsf_c.specs.Adopting.{FitEntries, IsWhole};
+ghost use Rattle.tlsf_c.specs.Kept.{StandsWhere};
 ghost use Rattle.tlsf_c.specs.PlacedPools.{IsPlaced, AreApart, IsEntryOf, IsEntered, placed_range};
 
 use crate::handle::Handle;
@@ -178,6 +179,7 @@ pub extern "C" fn tlsf_placed_adopt(heap: &mut LoadedHeap) -> bool
     ensures figures { result ≡ false → heap.new.figures ≡ heap.old.figures }
     ensures pools { heap.new.pools ≡ heap.old.pools }
     ensures owner { heap.new.owner ≡ heap.old.owner }
+    ensures stands { StandsWhere heap.old.handle heap.new.handle }
     ensures unchanged { IsUnchanged heap.old.handle.value heap.new.handle.value }
 {
     let ranges = heap.handle.heap().pools();

@@ -1,11 +1,12 @@
 //! Memory becomes a pool of a heap with addresses.
 
 ghost use Rattle.std.specs.Prelude.{◌≡◌, ◌≢◌, ◌+◌, ◌-◌, ◌^◌, ◌<◌, All, true, false};
-ghost use Rattle.tlsf_heap.specs.declared.refusal.Refusal.TheVariants.{BadAlign};
+ghost use Rattle.tlsf_heap.specs.declared.refusal.Refusal.TheVariants.{BadAlign, BadPool};
 ghost use Rattle.tlsf_heap.specs.Counted.{IsUnchanged};
 ghost use Rattle.tlsf_heap.specs.Memalign.{is_alignment};
 ghost use Rattle.tlsf_heap.specs.Touches.{AtMost, add_pool_touches};
 ghost use Rattle.tlsf_c.specs.Fronts.{front};
+ghost use Rattle.tlsf_c.specs.Kept.{StandsWhere};
 ghost use Rattle.tlsf_c.specs.PlacedPools.{CanBePlaced, IsClearOf};
 ghost use Rattle.tlsf_c.specs.PoolPlaces.{first_in, bytes_in, IsPoolAdded, IsPoolRefused};
 ghost use Rattle.tlsf_c.specs.Status.{number};
@@ -35,10 +36,13 @@ pub extern "C" fn tlsf_placed_add_pool(
     ensures placed { result ≡ 0 → CanBePlaced (first_in memory) (bytes_in memory bytes) × All (IsClearOf (first_in memory) (bytes_in memory bytes - front)) heap.old.pools }
     ensures within { result ≡ 0 → memory + bytes < 2 ^ 64 }
     ensures bad_align { is_alignment align ≡ false → result ≡ number BadAlign }
+    ensures beyond { is_alignment align ≡ true → 2 ^ 64 ≤ memory + bytes → result ≡ number BadPool }
+    ensures no_place { is_alignment align ≡ true → (CanBePlaced (first_in memory) (bytes_in memory bytes) × All (IsClearOf (first_in memory) (bytes_in memory bytes - front)) heap.old.pools → ⊥) → result ≡ number BadPool }
     ensures reason { result ≢ 0 → is_alignment align ≡ true → memory + bytes < 2 ^ 64 → CanBePlaced (first_in memory) (bytes_in memory bytes) → All (IsClearOf (first_in memory) (bytes_in memory bytes - front)) heap.old.pools → IsPoolRefused align (first_in memory) (bytes_in memory bytes) result heap.old.pools heap.old.handle.value.content }
     ensures unchanged { result ≢ 0 → IsUnchanged heap.old.handle.value heap.new.handle.value × (heap.new.pools ≡ heap.old.pools) }
     ensures figures { heap.new.figures ≡ heap.old.figures }
     ensures owner { heap.new.owner ≡ heap.old.owner }
+    ensures stands { StandsWhere heap.old.handle heap.new.handle }
     ensures bound { AtMost add_pool_touches heap.old.handle.value.touches heap.new.handle.value.touches }
 {
     if !is_alignment(align) {

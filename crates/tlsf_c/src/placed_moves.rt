@@ -2,6 +2,7 @@
 
 ghost use Rattle.std.specs.Prelude.{◌≡◌, ◌≢◌, ℕ, ◌+◌, ◌-◌, ◌^◌, ◌<◌, ◌≤◌, length, slice_index_or, true, false};
 ghost use Rattle.tlsf_heap.specs.Counted.{IsUnchanged};
+ghost use Rattle.tlsf_c.specs.Kept.{StandsWhere};
 ghost use Rattle.tlsf_c.specs.Moving.{FitsMemory, IsMovedTo};
 
 use crate::placed_blocks::FRONT;
@@ -25,6 +26,7 @@ pub extern "C" fn tlsf_placed_move(
     ensures pools { result ≡ false → heap.new.pools ≡ heap.old.pools }
     ensures figures { heap.new.figures ≡ heap.old.figures }
     ensures owner { heap.new.owner ≡ heap.old.owner }
+    ensures stands { StandsWhere heap.old.handle heap.new.handle }
     ensures unchanged { heap.new.handle.value ≡ heap.old.handle.value }
 {
     if entry >= 8 || memory > last || bytes > last - memory || memory > u64::MAX - (FRONT + 15) {

@@ -5,6 +5,7 @@ ghost use Rattle.tlsf_heap.specs.declared.refusal.Refusal.TheVariants.{BadPool, 
 ghost use Rattle.tlsf_heap.specs.Counted.{IsUnchanged, range_of};
 ghost use Rattle.tlsf_heap.specs.Pools.{add_pool, remove_pool};
 ghost use Rattle.tlsf_heap.specs.Touches.{AtMost, add_pool_touches, remove_pool_touches};
+ghost use Rattle.tlsf_c.specs.Kept.{StandsWhere};
 ghost use Rattle.tlsf_c.specs.LiveFigures.{IsLiveChange};
 ghost use Rattle.tlsf_c.specs.PlacedPools.{IsPlaced, IsClearOf, CanBePlaced, IsEnteredAt, IsVacatedAt};
 ghost use Rattle.tlsf_c.specs.RangeMoves.{IsRangeAdded, IsRangeRemoved};
@@ -102,9 +103,11 @@ pub(crate) fn add_pool_at(
     ensures entered { result ≡ 0 → IsEnteredAt first bytes place entry.new heap.old.pools heap.new.pools }
     ensures placed { result ≡ 0 → CanBePlaced first bytes × All (IsClearOf first (bytes - 8)) heap.old.pools }
     ensures reason { result ≢ 0 → CanBePlaced first bytes → All (IsClearOf first (bytes - 8)) heap.old.pools → (result ≡ status_of (add_pool place bytes heap.old.handle.value.content)) ⊎ ((result ≡ number PoolsFull) × All (λ pool. 0 < pool.reach) heap.old.pools) }
+    ensures no_place { (CanBePlaced first bytes × All (IsClearOf first (bytes - 8)) heap.old.pools → ⊥) → result ≡ number BadPool }
     ensures unchanged { result ≢ 0 → IsUnchanged heap.old.handle.value heap.new.handle.value × (heap.new.pools ≡ heap.old.pools) }
     ensures figures { heap.new.figures ≡ heap.old.figures }
     ensures owner { heap.new.owner ≡ heap.old.owner }
+    ensures stands { StandsWhere heap.old.handle heap.new.handle }
     ensures bound { AtMost add_pool_touches heap.old.handle.value.touches heap.new.handle.value.touches }
 {
     if !can_be_placed(first, bytes) || !is_clear(&heap.pools, first, bytes - FRONT) {
@@ -139,8 +142,11 @@ pub extern "C" fn tlsf_placed_remove_pool(heap: &mut PlacedHeap, entry: u32) -> 
     ensures vacated { result ≡ 0 → IsVacatedAt entry heap.old.pools heap.new.pools }
     ensures unchanged { result ≢ 0 → IsUnchanged heap.old.handle.value heap.new.handle.value × (heap.new.pools ≡ heap.old.pools) }
     ensures reason { result ≢ 0 → entry < 8 → (pool : PlacedPool) → slice_index_or heap.old.pools entry pool ≡ pool → 0 < pool.reach → result ≡ status_of (remove_pool pool.place heap.old.handle.value.content) }
+    ensures beyond { 8 ≤ entry → result ≡ number NoPool }
+    ensures empty { entry < 8 → (pool : PlacedPool) → slice_index_or heap.old.pools entry pool ≡ pool → pool.reach ≡ 0 → result ≡ number NoPool }
     ensures figures { heap.new.figures ≡ heap.old.figures }
     ensures owner { heap.new.owner ≡ heap.old.owner }
+    ensures stands { StandsWhere heap.old.handle heap.new.handle }
     ensures bound { AtMost remove_pool_touches heap.old.handle.value.touches heap.new.handle.value.touches }
 {
     if entry >= 8 {

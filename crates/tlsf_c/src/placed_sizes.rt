@@ -8,6 +8,7 @@ ghost use Rattle.tlsf_heap.specs.Room.{HasRoom};
 ghost use Rattle.tlsf_heap.specs.Served.{IsMoved};
 ghost use Rattle.tlsf_heap.specs.Touches.{AtMost, realloc_touches, block_size_touches};
 ghost use Rattle.tlsf_c.specs.Fronts.{front, told_size, IsLostFront};
+ghost use Rattle.tlsf_c.specs.Kept.{Keeps};
 ghost use Rattle.tlsf_c.specs.LiveFigures.{IsLiveChange};
 ghost use Rattle.tlsf_c.specs.Lying.{LiesIn};
 ghost use Rattle.tlsf_c.specs.PlacedHeaps.{IsLiveAt, IsResizedAt, IsNotResized};
@@ -28,8 +29,7 @@ use tlsf_heap::{Ptr, Refusal};
 pub extern "C" fn tlsf_placed_block_size(heap: &mut PlacedHeap, address: u64, word: u64) -> u64
     ensures size { IsLiveAt address word heap.old.pools heap.old.handle.value.content → result ≡ told_size word address - front }
     ensures live { 0 < result → IsLiveAt address word heap.old.pools heap.old.handle.value.content }
-    ensures pools { heap.new.pools ≡ heap.old.pools }
-    ensures owner { heap.new.owner ≡ heap.old.owner }
+    ensures kept { Keeps heap.old heap.new }
     ensures figures { heap.new.figures ≡ heap.old.figures }
     ensures read { Reads block_size_touches heap.old.handle.value heap.new.handle.value }
 {
@@ -144,9 +144,9 @@ pub extern "C" fn tlsf_placed_realloc(
     ensures stays { 0 < result → result ≡ address → copied.new ≡ 0 }
     ensures moves { 0 < result → result ≢ address → copied.new ≡ min (told_size word.old address - front) (told_size word.new result - front) }
     ensures refused { result ≡ 0 → IsNotResized address word.old bytes word.new heap.old.pools heap.old.handle.value heap.new.handle.value }
+    ensures copies_none { result ≡ 0 → copied.new ≡ copied.old }
     ensures room { IsLiveAt address word.old heap.old.pools heap.old.handle.value.content → HasRoom (bytes + front) heap.old.handle.value.content → 0 < result }
-    ensures pools { heap.new.pools ≡ heap.old.pools }
-    ensures owner { heap.new.owner ≡ heap.old.owner }
+    ensures kept { Keeps heap.old heap.new }
     ensures most { heap.new.figures.most_bytes ≡ max heap.old.figures.most_bytes heap.new.figures.bytes }
     ensures bound { AtMost (realloc_touches + 2) heap.old.handle.value.touches heap.new.handle.value.touches }
 {

@@ -6,6 +6,7 @@ ghost use Rattle.tlsf_heap.specs.Counted.{IsUnchanged, Reads};
 ghost use Rattle.tlsf_heap.specs.Cursors.{rows_behind, is_at_row};
 ghost use Rattle.tlsf_heap.specs.Rows.{rows_from};
 ghost use Rattle.tlsf_heap.specs.Walk.{walk_touches};
+ghost use Rattle.tlsf_c.specs.Kept.{Keeps};
 ghost use Rattle.tlsf_c.specs.PlacedPools.{IsPlaced};
 ghost use Rattle.tlsf_c.specs.PlacedRows.{IsRowOf, placed_row, from_address, behind, WalksFrom};
 ghost use Rattle.tlsf_c.specs.Room.{put_over};
@@ -65,8 +66,7 @@ pub extern "C" fn tlsf_placed_walk(
     ensures stays { result ≡ 0 → from.new ≡ from.old }
     ensures unchanged { IsUnchanged heap.old.handle.value heap.new.handle.value }
     ensures read { entry < 8 → (pool : PlacedPool) → slice_index_or heap.old.pools entry pool ≡ pool → Reads (walk_touches (rows_from pool.place heap.old.handle.value.content.pools)) heap.old.handle.value heap.new.handle.value }
-    ensures pools { heap.new.pools ≡ heap.old.pools }
-    ensures owner { heap.new.owner ≡ heap.old.owner }
+    ensures kept { Keeps heap.old heap.new }
     ensures figures { heap.new.figures ≡ heap.old.figures }
 {
     if entry >= 8 {

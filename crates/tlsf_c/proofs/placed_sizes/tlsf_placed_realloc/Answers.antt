@@ -54,7 +54,7 @@ returns-in-Ok-clause-given c = λ some.
     let live = found_live c.args.address c.args.word.now c.in-Some.block.ptr heap.pools content found.0 found.1 found.2 in
     let same : c.find.new.heap.handle.value.content ≡ content = c.find.ensures.read.unchanged.content in
     let there = c.place_block-now.ensures.at in
-    let of_pools = subst (λ (pools : List PlacedPool). Contains pools there.0) c.find.ensures.pools there.1 in
+    let of_pools = subst (λ (pools : List PlacedPool). Contains pools there.0) c.find.ensures.kept.pools there.1 in
     let lies = subst (λ (k : Content ℕ). LiesIn new.ptr.place new.size (map range_of k.pools)) same c.in-Ok.ensures.lies in
     let ends = ends_in_entry new.ptr.place new.size (map range_of content.pools) heap.pools there.0 heap.entries lies of_pools there.2.has in
     record {
