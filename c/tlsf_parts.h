@@ -209,41 +209,37 @@ static inline struct tlsf_part_heap *tlsf_parts_of(tlsf_parts *parts, const void
     return part;
 }
 
-/* The byte of `further` that has a block's bit, and the bit. */
-static inline unsigned char *tlsf_parts_bit(const struct tlsf_part_heap *part,
-                                            const unsigned char *block, unsigned char *bit)
+/* Which of its part's blocks one is. */
+static inline size_t tlsf_parts_number(const struct tlsf_part_heap *part, const unsigned char *block)
 {
-    size_t number = ((uintptr_t)block - (uintptr_t)part->first) / part->block;
-    *bit = (unsigned char)(1u << number % 8u);
-    return &part->further[number / 8u];
+    return ((uintptr_t)block - (uintptr_t)part->first) / part->block;
 }
 
 /* The one pointer that a live block has: what begins there is no other block's. */
 static inline unsigned char *tlsf_parts_pointer(const struct tlsf_part_heap *part,
                                                 unsigned char *block)
 {
+    size_t number = tlsf_parts_number(part, block);
     unsigned char *ptr = block;
-    unsigned char bit = 0;
-    if ((*tlsf_parts_bit(part, block, &bit) & bit) != 0u) {
+    if (((unsigned)part->further[number / 8u] >> (number % 8u) & 1u) != 0u) {
         (void)__builtin_memcpy(&ptr, block, sizeof ptr);
     }
     return ptr;
 }
 
 /* The block's pointer is where it begins, from now on. */
-static inline void tlsf_parts_at_start(const struct tlsf_part_heap *part, unsigned char *block)
+static inline void tlsf_parts_at_start(const struct tlsf_part_heap *part, const unsigned char *block)
 {
-    unsigned char bit = 0;
-    unsigned char *byte = tlsf_parts_bit(part, block, &bit);
-    *byte = (unsigned char)(*byte & ~(unsigned)bit);
+    size_t number = tlsf_parts_number(part, block);
+    part->further[number / 8u] &= (unsigned char)~(1u << (number % 8u));
 }
 
 /* The block's pointer is this one further on. In front of it stand zeros, as in front of no block. */
 static inline void tlsf_parts_further(const struct tlsf_part_heap *part, unsigned char *block,
                                       unsigned char *ptr)
 {
-    unsigned char bit = 0;
-    *tlsf_parts_bit(part, block, &bit) |= bit;
+    size_t number = tlsf_parts_number(part, block);
+    part->further[number / 8u] |= (unsigned char)(1u << (number % 8u));
     (void)memset(ptr - 8, 0, 8);
     (void)__builtin_memcpy(block, &ptr, sizeof ptr);
 }
