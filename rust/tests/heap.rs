@@ -165,3 +165,29 @@ fn a_byte_in_front_of_a_block_is_told() {
     unsafe { *front ^= 1 };
     assert!(heap.is_whole());
 }
+
+/// Tells how many blocks are live when it is dropped.
+struct Watch<'a> {
+    heap: &'a Heap<'a>,
+    live: &'a Cell<usize>,
+}
+
+impl Drop for Watch<'_> {
+    fn drop(&mut self) {
+        self.live.set(self.heap.figures().blocks_live);
+    }
+}
+
+#[test]
+fn a_value_is_dropped_while_its_block_is_live() {
+    let live = Cell::new(0);
+    let mut memory = vec![0; 8192];
+    let heap = Heap::new(&mut memory).unwrap();
+    let watch = Watch {
+        heap: &heap,
+        live: &live,
+    };
+    drop(heap.boxed(watch).ok().unwrap());
+    assert_eq!(live.get(), 1);
+    assert_eq!(heap.figures().blocks_live, 0);
+}

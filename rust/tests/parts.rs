@@ -92,6 +92,60 @@ fn an_alignment_counts_as_bytes() {
     assert!(parts.is_whole());
 }
 
+#[repr(align(4096))]
+struct Page([u8; 100]);
+
+#[test]
+fn a_page_begins_at_its_alignment() {
+    let told = [part(64, 1), part(8192, 3)];
+    let mut memory = vec![0; Parts::bytes(&told)];
+    let parts = Parts::new(&mut memory, &told).unwrap();
+    let pages: Vec<_> = (0..3_u8)
+        .map(|k| parts.boxed(Page([k; 100])).ok().unwrap())
+        .collect();
+    assert!(pages.iter().all(|page| page.0.as_ptr() as usize % 4096 == 0));
+    assert!((0..3).all(|k| pages[k].0 == [k as u8; 100]));
+    assert!(parts.boxed(Page([9; 100])).is_err());
+    drop(pages);
+    assert_eq!(parts.figures(1).unwrap().blocks_live, 0);
+    assert!(parts.is_whole());
+}
+
+#[test]
+fn the_most_blocks_are_told_when_fewer_are_live() {
+    let mut memory = vec![0; Parts::bytes(&TOLD)];
+    let parts = Parts::new(&mut memory, &TOLD).unwrap();
+    for (number, bytes) in [(0, 64), (1, 2048)] {
+        let three: Vec<_> = (0..3).map(|_| parts.zeroed(bytes).unwrap()).collect();
+        drop(three);
+        let one = parts.zeroed(bytes).unwrap();
+        let figures = parts.figures(number).unwrap();
+        assert_eq!((figures.blocks_live, figures.most_blocks_live), (1, 3));
+        drop(one);
+    }
+    assert_eq!(parts.figures(2).unwrap().most_blocks_live, 0);
+}
+
+#[test]
+fn a_spoiled_front_is_told_of_each_part() {
+    for bytes in [64, 2048, 41_984] {
+        let mut memory = vec![0; Parts::bytes(&TOLD)];
+        let parts = Parts::new(&mut memory, &TOLD).unwrap();
+        let held: Vec<_> = [64, 2048, 41_984]
+            .map(|size| parts.zeroed(size).unwrap())
+            .into();
+        let block = parts.zeroed(bytes).unwrap();
+        // The byte in front of a block is no Rust value's.
+        let front = unsafe { (block.as_ptr() as *mut u8).sub(1) };
+        assert!(parts.is_whole());
+        unsafe { *front ^= 1 };
+        assert!(!parts.is_whole());
+        unsafe { *front ^= 1 };
+        assert!(parts.is_whole());
+        drop((held, block));
+    }
+}
+
 #[test]
 fn what_is_above_the_last_size_is_refused() {
     let told = [part(64, 1)];
