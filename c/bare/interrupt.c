@@ -179,6 +179,24 @@ static bool change(struct filled *filled)
     return good;
 }
 
+static bool are_off(void)
+{
+    uint32_t mask;
+    __asm__ volatile("mrs %0, primask" : "=r"(mask));
+    return (mask & 1u) != 0u;
+}
+
+/* Interrupts are as they were: off where the program had them off, and on else. */
+static bool are_as_before(void)
+{
+    uint32_t outer = interrupts_off();
+    uint32_t inner = interrupts_off();
+    interrupts_as_before(inner);
+    bool stay_off = are_off();
+    interrupts_as_before(outer);
+    return stay_off && !are_off();
+}
+
 static bool runs(void)
 {
     bool good = true;
@@ -186,7 +204,7 @@ static bool runs(void)
     TIMER[NOW] = 0;
     TIMER[CONTROL_OF_TIMER] = RUNS;
     while (good && taken < READINGS) {
-        good = take() && change(&own[below(OWN)]);
+        good = take() && change(&own[below(OWN)]) && !are_off();
     }
     TIMER[CONTROL_OF_TIMER] = 0;
     return good;
@@ -208,7 +226,7 @@ static bool ends(void)
 int main(void)
 {
     bool good = tlsf_heap_create_in(table, sizeof table, RECORDS, &heap) == TLSF_OK
-                && tlsf_heap_add_pool(&heap, 0, POOL) == TLSF_OK && runs() && ends();
+                && tlsf_heap_add_pool(&heap, 0, POOL) == TLSF_OK && are_as_before() && runs() && ends();
     say_number("readings: ", taken);
     say_number("late: ", late);
     say_number("refused: ", refused);
