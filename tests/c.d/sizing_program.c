@@ -66,7 +66,7 @@ static void wanted_text(struct bounds bounds, char *text, size_t room)
                           (unsigned long long)records, TLSF_HEAP_TABLE_BYTES(records));
     length += put_bytes(text + length, room - (size_t)length, pool);
     length += snprintf(text + length, room - (size_t)length, "rounded pool: ");
-    uint64_t rounded = bounds.blocks * size;
+    uint64_t rounded = bounds.align > 16 ? 0 : bounds.blocks * size;
     (void)put_bytes(text + length, room - (size_t)length, rounded > 1073741808 ? 0 : rounded);
 }
 

@@ -1,6 +1,7 @@
 -- How much memory is always enough for a program that keeps to bounds told beforehand.
-use Rattle.std.specs.Prelude.{◌≡◌, ◌≢◌, ◌⊎◌, ◌↔◌, ℕ, ◌*◌, Bool, not, List, ◌++◌, Option, Some, None, unwrap_or, option_and_then, Result, Err, IfOk, IfErr, IsErrOf, IsTrue, codes}
+use Rattle.std.specs.Prelude.{◌≡◌, ◌≢◌, ◌⊎◌, ◌↔◌, ℕ, ◌*◌, Bool, not, nat_le, List, ◌++◌, Option, Some, None, unwrap_or, option_and_then, Result, Err, IfOk, IfErr, IsErrOf, IsTrue, codes, if◌then◌else◌}
 use Rattle.mtrace_log.specs.Shown.{WriterState}
+use Rattle.tlsf_class.specs.Classes.{unit}
 use Rattle.tlsf_class.specs.Rounding.{round}
 use Rattle.tlsf_heap.specs.Memalign.{is_alignment}
 use Rattle.tlsf_heap.specs.Sizing.{class_size, sure_records, sure_pool}
@@ -27,8 +28,13 @@ abbrev pub blocks_bytes : (blocks largest : ℕ) → Option ℕ → ℕ
 blocks_bytes blocks largest None = blocks * rounded_bytes largest
 blocks_bytes blocks largest (Some bytes) = unwrap_or (round (asked_size bytes)) bytes
 
--- The pool that is always enough where each request is rounded up to the class size of the largest: it has as many blocks of that
--- size as are live at once. None where there is no such class, or no pool is so large.
+-- The one size that blocks have where each request is rounded up to the class size of the largest. None where an alignment above the
+-- unit is asked for: a gap may then lie in front of a block.
+abbrev pub one_size : Bounds → Option ℕ
+one_size bounds = if nat_le (align_of bounds) unit then class_size (align_of bounds) bounds.largest else None
+
+-- The pool that is always enough for blocks of one size: it has as many as are live at once. None where there is no such size, or no
+-- pool is so large.
 abbrev pub rounded_pool : (blocks : ℕ) → Option ℕ → Option ℕ
 rounded_pool blocks size = option_and_then (λ bytes. pool_bytes (record { blocks = blocks; size = bytes })) size
 
@@ -37,7 +43,7 @@ abbrev pub bounds_text : Bounds → List ℕ
 bounds_text bounds =
     record_lines (sure_records bounds.blocks)
     ++ (size_line (codes "sure pool: ") (sure_pool bounds.blocks (blocks_bytes bounds.blocks bounds.largest bounds.bytes) (class_size (align_of bounds) bounds.largest))
-    ++ size_line (codes "rounded pool: ") (rounded_pool bounds.blocks (class_size (align_of bounds) bounds.largest)))
+    ++ size_line (codes "rounded pool: ") (rounded_pool bounds.blocks (one_size bounds)))
 
 -- What a run leaves that tells so. `BadSettings` comes exactly for bad bounds, and then nothing is written. Else the text is put
 -- and flushed, or a beginning of it is put, and the writer failed.

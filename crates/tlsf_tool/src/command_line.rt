@@ -94,7 +94,7 @@ const FIT: Help = Help {
 };
 
 const SIZE: Help = Help {
-    about: "Tells how many records and how large a pool are always enough, in whatever order a program asks: for at most L live blocks of at most M bytes. With --part, for one heap each.",
+    about: "Tells how many records and how large a pool are always enough, in whatever order a program asks: for at most L live blocks of at most M bytes. The rounded pool is, where the program rounds each request up to one size: 1056 for 1040 bytes. With --part each heap has such a pool, and its size stands in its line.",
     examples: "Examples:
   tlsf size --blocks 60 --largest 1040                 what is enough for any 60 blocks of 1040 bytes
   tlsf size --blocks 60 --largest 1040 --bytes 20480   the same, where they have 20480 bytes at most

@@ -2,7 +2,7 @@
 
 ghost use Rattle.std.specs.Prelude.{◌≡◌, ◌<◌};
 ghost use Rattle.tlsf_heap.specs.Sizing.{class_size, sure_pool};
-ghost use Rattle.mtrace_replay.specs.Size.{align_of, blocks_bytes, rounded_pool, bounds_text, RunsSize};
+ghost use Rattle.mtrace_replay.specs.Size.{align_of, blocks_bytes, one_size, rounded_pool, bounds_text, RunsSize};
 
 use crate::heap::asked::{asked_size, rounded_bytes};
 use crate::held::line_text::LineText;
@@ -13,7 +13,7 @@ use crate::runs::flush::flush_behind;
 use crate::runs::status::{RunFault, Status};
 use arrayvec::ArrayVec;
 use mtrace_log::{Sink, put_all};
-use tlsf_class::round;
+use tlsf_class::{UNIT, round};
 use tlsf_heap::{class_size, is_alignment, sure_pool};
 
 /// What a program keeps to, whatever it asks for and in whatever order.
@@ -64,11 +64,22 @@ fn sure_of(bounds: Bounds) -> Option<u64>
     sure_pool(u64::from(bounds.blocks), bytes_of(bounds), size_of(bounds))
 }
 
+/// The size of all blocks, where each request is rounded up to the class size of the largest. `None` where there is no such class,
+/// or an alignment above the unit is asked for.
+fn one_size_of(bounds: Bounds) -> Option<u32>
+    ensures { result ≡ one_size bounds }
+{
+    if align_of(bounds) > u64::from(UNIT) {
+        return None;
+    }
+    size_of(bounds)
+}
+
 /// The bytes of one pool that is always enough for blocks of one size alone. `None` where no pool is so large.
 fn rounded_of(bounds: Bounds) -> Option<u64>
-    ensures { result ≡ rounded_pool bounds.blocks (class_size (align_of bounds) bounds.largest) }
+    ensures { result ≡ rounded_pool bounds.blocks (one_size bounds) }
 {
-    let size = size_of(bounds)?;
+    let size = one_size_of(bounds)?;
     let blocks = u64::from(bounds.blocks);
     PartOf { blocks, size }.pool()
 }

@@ -55,13 +55,13 @@ const ROWS: [Row; 15] = [
         },
         text: b"records: 123\ntable: 3664 bytes\nsure pool: 125856 bytes\nrounded pool: 63360 bytes\n",
     },
-    // 1,088 bytes are asked for, which are a class.
+    // 1,088 bytes are asked for, which are a class. Gaps in front of blocks may leave too little for one of one size.
     Row {
         bounds: Bounds {
             align: Some(64),
             ..SIXTY
         },
-        text: b"records: 123\ntable: 3664 bytes\nsure pool: 127808 bytes\nrounded pool: 65280 bytes\n",
+        text: b"records: 123\ntable: 3664 bytes\nsure pool: 127808 bytes\nrounded pool: -\n",
     },
     // 67 units, and the class above begins at 68.
     Row {
@@ -86,7 +86,7 @@ const ROWS: [Row; 15] = [
             align: Some(268_435_456),
             ..LEAST
         },
-        text: b"records: 5\ntable: 1776 bytes\nsure pool: 536870912 bytes\nrounded pool: 268435456 bytes\n",
+        text: b"records: 5\ntable: 1776 bytes\nsure pool: 536870912 bytes\nrounded pool: -\n",
     },
     // Twice as great an alignment asks for a unit more than the greatest pool.
     Row {
@@ -94,7 +94,7 @@ const ROWS: [Row; 15] = [
             align: Some(536_870_912),
             ..LEAST
         },
-        text: b"records: 5\ntable: 1776 bytes\nsure pool: -\nrounded pool: 536870912 bytes\n",
+        text: b"records: 5\ntable: 1776 bytes\nsure pool: -\nrounded pool: -\n",
     },
     // The greatest pool, and a unit more.
     Row {
