@@ -1,7 +1,9 @@
 /* The calls of the C library that take memory, which also append the bytes asked for, one number a line, to the
-   file that MALLOC_LIST names, and refuse the call whose number is MALLOC_REFUSE. tests/program preloads them. */
+   file that MALLOC_LIST names, and refuse the call whose number is MALLOC_REFUSE. At the end they write the most bytes
+   that were taken at once to the file that MALLOC_MOST names. tests/program preloads them. */
 #include <errno.h>
 #include <fcntl.h>
+#include <malloc.h>
 #include <stddef.h>
 #include <stdlib.h>
 #include <unistd.h>
@@ -10,10 +12,13 @@ void *__libc_malloc(size_t size);
 void *__libc_calloc(size_t count, size_t size);
 void *__libc_realloc(void *block, size_t size);
 void *__libc_memalign(size_t alignment, size_t size);
+void __libc_free(void *block);
 
 static int list = -1;
 static long refused;
 static long calls;
+static size_t taken;
+static size_t most;
 
 __attribute__((constructor)) static void read_environment(void) {
     const char *name = getenv("MALLOC_LIST");
@@ -25,40 +30,65 @@ __attribute__((constructor)) static void read_environment(void) {
     calls = 0;
 }
 
-/* Notes a call for so many bytes, and answers whether it is refused. */
-static int is_refused(size_t size) {
+static void append(int to, size_t number) {
     char text[24];
     char *first = text + sizeof text;
-    size_t rest = size;
-    calls++;
     *--first = '\n';
     do
-        *--first = '0' + rest % 10;
-    while ((rest /= 10) > 0);
-    if (list >= 0 && write(list, first, text + sizeof text - first) < 0)
+        *--first = '0' + number % 10;
+    while ((number /= 10) > 0);
+    if (write(to, first, text + sizeof text - first) < 0)
         abort();
+}
+
+__attribute__((destructor)) static void write_most(void) {
+    const char *name = getenv("MALLOC_MOST");
+    if (name != NULL)
+        append(open(name, O_WRONLY | O_CREAT | O_TRUNC, 0600), most);
+}
+
+/* A block that was taken. */
+static void *noted(void *block) {
+    taken += block == NULL ? 0 : malloc_usable_size(block);
+    most = most < taken ? taken : most;
+    return block;
+}
+
+/* Notes a call for so many bytes, and answers whether it is refused. */
+static int is_refused(size_t size) {
+    calls++;
+    if (list >= 0)
+        append(list, size);
     if (calls == refused)
         errno = ENOMEM;
     return calls == refused;
 }
 
 void *malloc(size_t size) {
-    return is_refused(size) ? NULL : __libc_malloc(size);
+    return is_refused(size) ? NULL : noted(__libc_malloc(size));
 }
 
 void *calloc(size_t count, size_t size) {
-    return is_refused(count * size) ? NULL : __libc_calloc(count, size);
+    return is_refused(count * size) ? NULL : noted(__libc_calloc(count, size));
 }
 
 void *realloc(void *block, size_t size) {
-    return is_refused(size) ? NULL : __libc_realloc(block, size);
+    if (is_refused(size))
+        return NULL;
+    taken -= block == NULL ? 0 : malloc_usable_size(block);
+    return noted(__libc_realloc(block, size));
+}
+
+void free(void *block) {
+    taken -= block == NULL ? 0 : malloc_usable_size(block);
+    __libc_free(block);
 }
 
 void *aligned_alloc(size_t alignment, size_t size) {
-    return is_refused(size) ? NULL : __libc_memalign(alignment, size);
+    return is_refused(size) ? NULL : noted(__libc_memalign(alignment, size));
 }
 
 int posix_memalign(void **block, size_t alignment, size_t size) {
-    *block = is_refused(size) ? NULL : __libc_memalign(alignment, size);
+    *block = is_refused(size) ? NULL : noted(__libc_memalign(alignment, size));
     return *block == NULL ? ENOMEM : 0;
 }
