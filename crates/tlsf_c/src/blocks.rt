@@ -11,6 +11,7 @@ ghost use Rattle.tlsf_heap.specs.Malloc.{malloc};
 ghost use Rattle.tlsf_heap.specs.Memalign.{memalign};
 ghost use Rattle.tlsf_heap.specs.Pointer.{free_ptr, realloc_ptr, block_size_ptr};
 ghost use Rattle.tlsf_c.specs.Answers.{Answers, AnswersBlock, block_given, pointer_of};
+ghost use Rattle.tlsf_c.specs.Kept.{StandsWhere};
 ghost use Rattle.tlsf_c.specs.Status.{status_of, number};
 
 use crate::block::Block;
@@ -24,6 +25,7 @@ use crate::status::{SERVED, number};
 pub extern "C" fn tlsf_heap_malloc(handle: &mut Handle, bytes: u64, out: &mut Block) -> u32
     ensures answer { AnswersBlock (λ slot. malloc slot bytes) result out.old out.new handle.old.value handle.new.value }
     ensures room { HasRoom bytes handle.old.value.content → result ≡ 0 }
+    ensures stands { StandsWhere handle.old handle.new }
     ensures bound { AtMost malloc_touches handle.old.value.touches handle.new.value.touches }
 {
     match handle.heap().malloc(bytes) {
@@ -48,6 +50,7 @@ pub extern "C" fn tlsf_heap_memalign(
     ensures answer { AnswersBlock (λ slot. memalign slot align bytes) result out.old out.new handle.old.value handle.new.value }
     ensures multiple { result ≡ 0 → out.new.place % align ≡ 0 }
     ensures room { HasRoomAligned align bytes handle.old.value.content → (result ≡ 0) ⊎ (result ≡ number BadAlign) }
+    ensures stands { StandsWhere handle.old handle.new }
     ensures bound { AtMost memalign_touches handle.old.value.touches handle.new.value.touches }
 {
     match handle.heap().memalign(align, bytes) {
@@ -65,6 +68,7 @@ pub extern "C" fn tlsf_heap_memalign(
 #[unsafe(no_mangle)]
 pub extern "C" fn tlsf_heap_free(handle: &mut Handle, block: Block) -> u32
     ensures answer { Answers (free_ptr (pointer_of block)) result handle.old.value handle.new.value }
+    ensures stands { StandsWhere handle.old handle.new }
     ensures bound { AtMost free_touches handle.old.value.touches handle.new.value.touches }
 {
     match handle.heap().free(block.ptr()) {
@@ -91,6 +95,7 @@ pub extern "C" fn tlsf_heap_realloc(
     ensures room { HasRoom bytes handle.old.value.content → (result ≡ 0) ⊎ (result ≡ number BadPointer) }
     ensures unchanged { result ≢ 0 → IsUnchanged handle.old.value handle.new.value }
     ensures out { (result ≢ 0) ⊎ (bytes ≡ 0) → out.new ≡ out.old }
+    ensures stands { StandsWhere handle.old handle.new }
     ensures bound { AtMost realloc_touches handle.old.value.touches handle.new.value.touches }
 {
     match handle.heap().realloc(Some(block.ptr()), bytes) {
@@ -111,6 +116,7 @@ pub extern "C" fn tlsf_heap_block_size(handle: &mut Handle, block: Block, out: &
     ensures status { status_of (block_size_ptr (pointer_of block) handle.old.value.content) ≡ result }
     ensures ok { result ≡ 0 → block_size_ptr (pointer_of block) handle.old.value.content ≡ Ok out.new }
     ensures out { result ≢ 0 → out.new ≡ out.old }
+    ensures stands { StandsWhere handle.old handle.new }
     ensures read { Reads block_size_touches handle.old.value handle.new.value }
 {
     match handle.heap().block_size(block.ptr()) {

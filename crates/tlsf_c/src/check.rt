@@ -2,6 +2,7 @@
 
 ghost use Rattle.std.specs.Prelude.{◌≡◌, ◌+◌, ◌<◌, true};
 ghost use Rattle.tlsf_heap.specs.Counted.{IsUnchanged};
+ghost use Rattle.tlsf_c.specs.Kept.{StandsWhere};
 
 use crate::handle::Handle;
 
@@ -12,6 +13,7 @@ pub extern "C" fn tlsf_heap_check(handle: &mut Handle) -> bool
     ensures whole { result ≡ true }
     ensures unchanged { IsUnchanged handle.old.value handle.new.value }
     ensures each_read { handle.old.value.touches + handle.old.value.content.records < handle.new.value.touches }
+    ensures stands { StandsWhere handle.old handle.new }
 {
     handle.heap().check()
 }

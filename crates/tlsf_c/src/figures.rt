@@ -4,6 +4,7 @@ ghost use Rattle.std.specs.Prelude.{◌≡◌};
 ghost use Rattle.tlsf_heap.specs.Content.{used_records};
 ghost use Rattle.tlsf_heap.specs.Counted.{Reads};
 ghost use Rattle.tlsf_heap.specs.Readings.{IsLargestRequest};
+ghost use Rattle.tlsf_c.specs.Kept.{StandsWhere};
 
 use crate::handle::Handle;
 
@@ -11,6 +12,7 @@ use crate::handle::Handle;
 #[unsafe(no_mangle)]
 pub extern "C" fn tlsf_heap_records_used(handle: &mut Handle) -> u32
     ensures value { result ≡ used_records handle.old.value.content }
+    ensures stands { StandsWhere handle.old handle.new }
     ensures read { Reads 1 handle.old.value handle.new.value }
 {
     handle.heap().records_used()
@@ -21,6 +23,7 @@ pub extern "C" fn tlsf_heap_records_used(handle: &mut Handle) -> u32
 #[unsafe(no_mangle)]
 pub extern "C" fn tlsf_heap_largest_request(handle: &mut Handle) -> u32
     ensures largest { IsLargestRequest result handle.old.value.content }
+    ensures stands { StandsWhere handle.old handle.new }
     ensures read { Reads 2 handle.old.value handle.new.value }
 {
     handle.heap().largest_request()

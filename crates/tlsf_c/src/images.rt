@@ -5,6 +5,7 @@ ghost use Rattle.tlsf_heap.specs.declared.image.rule.Rule.{Rule as BrokenRule};
 ghost use Rattle.tlsf_heap.specs.Images.Rules.{first_broken};
 ghost use Rattle.tlsf_heap.specs.declared.refusal.Refusal.TheVariants.{OutOfMemory};
 ghost use Rattle.tlsf_heap.specs.Counted.{IsUnchanged};
+ghost use Rattle.tlsf_c.specs.Kept.{StandsWhere};
 ghost use Rattle.tlsf_c.specs.Saving.{SavesInto, IsLoaded, broken_number};
 ghost use Rattle.tlsf_c.specs.Status.{number};
 
@@ -24,6 +25,7 @@ use tlsf_heap::Heap;
 pub extern "C" fn tlsf_heap_save(handle: &mut Handle, bytes: &mut [u8], count: &mut u64) -> u32
     ensures saved { SavesInto handle.old.value.content result count.new bytes.old bytes.new }
     ensures unchanged { IsUnchanged handle.old.value handle.new.value }
+    ensures stands { StandsWhere handle.old handle.new }
 {
     let mut window = Window::over(bytes);
     // It never fails: that it is too small for the image is told by `fits`.

@@ -1,6 +1,6 @@
 //! Memory becomes a pool of a heap with addresses.
 
-ghost use Rattle.std.specs.Prelude.{◌≡◌, ◌≢◌, ◌+◌, ◌-◌, ◌^◌, ◌<◌, All, true, false};
+ghost use Rattle.std.specs.Prelude.{◌≡◌, ◌≢◌, ◌+◌, ◌-◌, ◌^◌, ◌<◌, ◌≤◌, All, true, false};
 ghost use Rattle.tlsf_heap.specs.declared.refusal.Refusal.TheVariants.{BadAlign, BadPool};
 ghost use Rattle.tlsf_heap.specs.Counted.{IsUnchanged};
 ghost use Rattle.tlsf_heap.specs.Memalign.{is_alignment};

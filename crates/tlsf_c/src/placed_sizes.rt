@@ -8,7 +8,7 @@ ghost use Rattle.tlsf_heap.specs.Room.{HasRoom};
 ghost use Rattle.tlsf_heap.specs.Served.{IsMoved};
 ghost use Rattle.tlsf_heap.specs.Touches.{AtMost, realloc_touches, block_size_touches};
 ghost use Rattle.tlsf_c.specs.Fronts.{front, told_size, IsLostFront};
-ghost use Rattle.tlsf_c.specs.Kept.{Keeps};
+ghost use Rattle.tlsf_c.specs.Kept.{StandsWhere, Keeps};
 ghost use Rattle.tlsf_c.specs.LiveFigures.{IsLiveChange};
 ghost use Rattle.tlsf_c.specs.Lying.{LiesIn};
 ghost use Rattle.tlsf_c.specs.PlacedHeaps.{IsLiveAt, IsResizedAt, IsNotResized};
@@ -71,6 +71,7 @@ fn reallocate(handle: &mut Handle, ptr: Ptr, bytes: u64) -> Result<Ptr, u32>
     ensures ok { IfOk result (λ new. IsMoved (realloc_ptr (Some ptr) bytes) (Some ptr) (Some new) handle.old.value.content handle.new.value.content) }
     ensures refused { IfErr result (λ status. (refusal : Refusal) × (status ≡ number refusal) × (realloc_ptr (Some ptr) bytes ptr.slot handle.old.value.content ≡ Err refusal)) }
     ensures unchanged { OnErr result (IsUnchanged handle.old.value handle.new.value) }
+    ensures stands { StandsWhere handle.old handle.new }
     ensures bound { AtMost realloc_touches handle.old.value.touches handle.new.value.touches }
 {
     let mut given = Block::of(ptr);
@@ -100,6 +101,7 @@ fn resize(handle: &mut Handle, block: Sized, bytes: u64) -> Result<Sized, u32>
     ensures refused { IfErr result (λ status. (refusal : Refusal) × (status ≡ number refusal) × (realloc_ptr (Some block.ptr) bytes block.ptr.slot handle.old.value.content ≡ Err refusal)) }
     ensures unchanged { OnErr result (IsUnchanged handle.old.value handle.new.value) }
     ensures room { OnErr result (HasRoom bytes handle.old.value.content → ⊥) }
+    ensures stands { StandsWhere handle.old handle.new }
     ensures bound { AtMost (realloc_touches + block_size_touches) handle.old.value.touches handle.new.value.touches }
 {
     handle.heap().keeps_good();

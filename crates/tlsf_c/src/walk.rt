@@ -5,6 +5,7 @@ ghost use Rattle.tlsf_heap.specs.Counted.{Reads};
 ghost use Rattle.tlsf_heap.specs.Cursors.{rows_behind, is_at_row};
 ghost use Rattle.tlsf_heap.specs.Rows.{rows_from};
 ghost use Rattle.tlsf_heap.specs.Walk.{walk_touches};
+ghost use Rattle.tlsf_c.specs.Kept.{StandsWhere};
 ghost use Rattle.tlsf_c.specs.Rows.{IsFilled, from_place};
 ghost use Rattle.tlsf_c.specs.Status.{status_of};
 
@@ -31,6 +32,7 @@ pub extern "C" fn tlsf_heap_walk(
     ensures filled { IfOk (rows_from base handle.old.value.content.pools) (λ given. IsFilled (from_place from given) count.new rows.old rows.new) }
     ensures rows_stay { result ≢ 0 → rows.new ≡ rows.old }
     ensures count_stays { result ≢ 0 → count.new ≡ count.old }
+    ensures stands { StandsWhere handle.old handle.new }
     ensures read { Reads (walk_touches (rows_from base handle.old.value.content.pools)) handle.old.value handle.new.value }
 {
     let heap = handle.heap();

@@ -51,6 +51,7 @@ returns c =
       refused = search rules;
       unchanged = search rules;
       room = search rules;
+      stands = search rules;
       bound = search rules;
     }
 
