@@ -1,11 +1,12 @@
 -- Addresses that are multiples of an alignment where places are: told by their lowest bits, and kept by blocks.
-use Rattle.std.proofs.Common.{◌≡◌, ◌≢◌, ℕ, ◌+◌, ◌-◌, ◌%◌, ◌^◌, ◌<◌, true, false, Option, Err, refl, sym, ap, ◌∙◌, subst, arith, bit_and}
+use Rattle.std.proofs.Common.{◌≡◌, ◌≢◌, ℕ, zero, suc, ◌+◌, ◌-◌, ◌%◌, ◌^◌, ◌<◌, ◌≤◌, List, All, slice_index_or, true, false, Option, Err, refl, sym, ap, ◌∙◌, subst, arith, bit_and}
 use Rattle.std.specs.Prelude.{◌==◌}
 use Rattle.std.specs.List.{range_with_len}
 use Rattle.std.proofs.lemmas.Bool.{eqb-true, ne_eqb}
 use Rattle.std.proofs.lemmas.List.Folds.{Any-from_list_any}
 use Rattle.std.proofs.lemmas.Nat.{and_mask}
-use Rattle.std.proofs.Math.Nat.{mod-add-mod}
+use Rattle.std.proofs.Math.Nat.{mod-add-mod, mod-one}
+use Rattle.std.proofs.Math.Pow.{pow_mono}
 use Rattle.tlsf_class.specs.Rounding.{round}
 use Rattle.tlsf_class.proofs.RoundingLaws.{round_above}
 use Rattle.tlsf_heap.specs.declared.refusal.Refusal.TheVariants.{ZeroSize, NoFit, BadAlign}
@@ -13,7 +14,7 @@ use Rattle.tlsf_heap.specs.Content.{Content}
 use Rattle.tlsf_heap.specs.Memalign.{alignments, is_alignment, memalign_rounded, memalign}
 use Rattle.tlsf_c.specs.declared.placed_pool.PlacedPool.{PlacedPool}
 use Rattle.tlsf_c.specs.Fronts.{front}
-use Rattle.tlsf_c.specs.PlacedPools.{IsAlike, IsAt}
+use Rattle.tlsf_c.specs.PlacedPools.{IsPlaced, IsAlike, IsAt}
 use Rattle.tlsf_c.specs.PlacedHeaps.{memalign_with_front}
 
 -- an alignment is a power of two
@@ -55,6 +56,26 @@ aligns_above align slot bytes content is above =
     let more : (bytes + front == 0) ≡ false = ne_eqb (bytes + front) 0 (λ e. omega (arith, e)) in
     let asked : memalign slot align (bytes + front) content ≡ memalign_rounded slot align (round (bytes + front)) content = rw (is, more) refl in
     aligned_with_front align slot bytes content some ∙ asked ∙ ap (λ (r : Option ℕ). memalign_rounded slot align r content) (round_above (bytes + front) (omega (arith, above)))
+
+-- a multiple of the unit is one of each lower power of two
+divides_unit : (power : ℕ) → 2 ^ power ≤ 16 → (n : ℕ) → n % 16 ≡ 0 → n % (2 ^ power) ≡ 0
+divides_unit zero few n whole = mod-one n
+divides_unit (suc zero) few n whole = omega (arith, whole)
+divides_unit (suc (suc zero)) few n whole = omega (arith, whole)
+divides_unit (suc (suc (suc zero))) few n whole = omega (arith, whole)
+divides_unit (suc (suc (suc (suc zero)))) few n whole = whole
+divides_unit (suc (suc (suc (suc (suc power))))) few n whole =
+    let five : 5 ≤ suc (suc (suc (suc (suc power)))) = omega arith in
+    let more : 2 ^ 5 ≤ 2 ^ suc (suc (suc (suc (suc power)))) = pow_mono five in
+    absurd (omega (arith, few, more))
+
+-- so addresses and places of pools are alike for an alignment of at most the unit
+pub alike_in_units : (align : ℕ) → is_alignment align ≡ true → align ≤ 16 → (pools : List PlacedPool) → All IsPlaced pools → All (IsAlike align) pools
+alike_in_units align is few pools placed = λ k d within.
+    let power = power_of align is in
+    let pool = slice_index_or pools k d in
+    let divides = divides_unit power.0 (subst (λ (a : ℕ). a ≤ 16) (sym power.1) few) in
+    λ some. subst (λ (a : ℕ). pool.first % a ≡ pool.place % a) power.1 (divides pool.first (placed k d within).first_in_units ∙ sym (divides pool.place (placed k d within).place_in_units))
 
 -- a block at a multiple of the alignment has such an address
 pub address_aligned : (align place address : ℕ) (pool : PlacedPool) → IsAlike align pool → IsAt pool place address → place % align ≡ 0 → address % align ≡ 0

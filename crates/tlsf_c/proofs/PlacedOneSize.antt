@@ -1,5 +1,5 @@
 -- A call for a block of the one size of a heap is a request of the heap for one. So it is served, and so is a run of such calls.
-use Rattle.std.proofs.Common.{◌≡◌, ◌≢◌, ℕ, ◌+◌, List, [], ◌∷◌, Option, Some, Err, inl, inr, sym, ap, ◌∙◌, subst, arith}
+use Rattle.std.proofs.Common.{◌≡◌, ◌≢◌, ℕ, ◌+◌, List, [], ◌∷◌, All, Option, Some, Err, inl, inr, sym, ap, ◌∙◌, subst, arith}
 use Rattle.std.specs.Prelude.{◌==◌}
 use Rattle.std.proofs.lemmas.Bool.{cases_Bool, cases_eq, cases_lt}
 use Rattle.tlsf_heap.specs.declared.refusal.Refusal.{Refusal}
@@ -20,8 +20,9 @@ use Rattle.tlsf_region.proofs.Sizes.{size_is}
 use Rattle.tlsf_c.specs.declared.placed_pool.PlacedPool.{PlacedPool}
 use Rattle.tlsf_c.specs.Fronts.{front, told_slot, told_size}
 use Rattle.tlsf_c.specs.PlacedHeaps.{IsLiveAt, IsRefusedFor, told_block, malloc_with_front}
+use Rattle.tlsf_c.specs.PlacedPools.{IsPlaced}
 use Rattle.tlsf_c.specs.PlacedRuns.{Call, ask, ask_aligned, ask_again, give_back, Told, CallStep, CallRun, IsCallOfSize, CallsStayOfSize, IsServedCall, AreServedCalls}
-use Rattle.tlsf_c.proofs.Alike.{aligns_none, aligns_bad, aligned_with_front}
+use Rattle.tlsf_c.proofs.Alike.{aligns_none, aligns_bad, aligned_with_front, alike_in_units}
 use Rattle.tlsf_c.proofs.PlacedLemmas.{with_front}
 use Rattle.tlsf_c.proofs.PlacedRunLemmas.{served_same}
 use Rattle.tlsf_c.proofs.Refusing.{never_bad, live_refused}
@@ -37,9 +38,9 @@ module _ (blocks size base : ℕ) (lowest : IsLowest size) where
   one_same : (owner n : ℕ) (content : Content ℕ) → IsFor content → n ≢ 0 → TakesOne blocks size (n + front) content → malloc_with_front owner n content ≡ malloc owner (n + front) content
   one_same owner n content is some takes = with_front owner n content some ∙ served_same owner (n + front) content (malloc_given blocks size base lowest owner (n + front) content is (more n) takes)
 
-  one_serves : (pools : List PlacedPool) (call : Call) (told : Told) (old new : Counted) → IsFor old.content → IsCallOfSize blocks size pools call old.content → CallStep pools call told old new
+  one_serves : (pools : List PlacedPool) (call : Call) (told : Told) (old new : Counted) → All IsPlaced pools → IsFor old.content → IsCallOfSize blocks size pools call old.content → CallStep pools call told old new
       → IsServedCall pools call told old.content × IsFor new.content
-  one_serves pools (ask n) told old new is within step = (
+  one_serves pools (ask n) told old new placed is within step = (
     (λ some. elim (cases_lt 0 told.address) [
       | inl there ↦ there
       | inr none ↦ (let why = step.1 (omega (arith, none)) in absurd (malloc_given blocks size base lowest 0 (n + front) old.content is (more n) (within some) why.refusal (sym (one_same 0 n old.content is some (within some)) ∙ why.refused 0)))
@@ -52,12 +53,12 @@ module _ (blocks size base : ℕ) (lowest : IsLowest size) where
       ])
     ],
   )
-  one_serves pools (ask_aligned align n) told old new is within step = (
-    (λ good alike some. elim (cases_lt 0 told.address) [
+  one_serves pools (ask_aligned align n) told old new placed is within step = (
+    (λ good some. elim (cases_lt 0 told.address) [
       | inl there ↦ there
       | inr none ↦ (
-          let why = step.1 (omega (arith, none)) alike in
           let takes = within good some in
+          let why = step.1 (omega (arith, none)) (alike_in_units align good takes.0 pools placed) in
           let refused : memalign 0 align (n + front) old.content ≡ Err why.refusal = sym (aligned_with_front align 0 n old.content some) ∙ why.refused 0 in
           let bad = memalign_given_or_bad blocks size base lowest 0 align (n + front) old.content is takes.0 (more n) takes.1 why.refusal refused in
           absurd (never_bad 0 align (n + front) old.content good (refused ∙ ap (λ r. Err r) bad)))
@@ -73,7 +74,7 @@ module _ (blocks size base : ℕ) (lowest : IsLowest size) where
       ])
     ],
   )
-  one_serves pools (ask_again address word n) told old new is within step = (
+  one_serves pools (ask_again address word n) told old new placed is within step = (
     (λ live. elim (cases_lt 0 told.address) [
       | inl there ↦ there
       | inr none ↦ absurd (of live (step.1 (omega (arith, none))).refusal (step.1 (omega (arith, none))).refused)
@@ -99,7 +100,7 @@ module _ (blocks size base : ℕ) (lowest : IsLowest size) where
             | inl nothing ↦ more n nothing
             | inr want ↦ realloc_fits blocks size base are_same refusal want 0 found.place (told_slot word address) (n + front) old.content is (λ live some. within found) (refused 0)
           ]
-  one_serves pools (give_back address word) told old new is within step = (
+  one_serves pools (give_back address word) told old new placed is within step = (
     step.0,
     elim (cases_eq told.word 0) [
       | inl served ↦ (
@@ -111,15 +112,15 @@ module _ (blocks size base : ℕ) (lowest : IsLowest size) where
   )
 
   -- so is each call of a run
-  pub run_of_one_size : (pools : List PlacedPool) (calls : List Call) (tolds : List Told) (old new : Content ℕ) (run : CallRun pools calls tolds old new) → IsFor old
+  pub run_of_one_size : (pools : List PlacedPool) (calls : List Call) (tolds : List Told) (old new : Content ℕ) (run : CallRun pools calls tolds old new) → All IsPlaced pools → IsFor old
       → CallsStayOfSize blocks size pools calls tolds old new run → AreServedCalls pools calls tolds old new run
-  run_of_one_size pools [] [] old new run is within = tt
-  run_of_one_size pools [] (told ∷ tolds) old new run is within = absurd run
-  run_of_one_size pools (call ∷ calls) [] old new run is within = absurd run
-  run_of_one_size pools (call ∷ calls) (told ∷ tolds) old new run is within =
+  run_of_one_size pools [] [] old new run placed is within = tt
+  run_of_one_size pools [] (told ∷ tolds) old new run placed is within = absurd run
+  run_of_one_size pools (call ∷ calls) [] old new run placed is within = absurd run
+  run_of_one_size pools (call ∷ calls) (told ∷ tolds) old new run placed is within =
       let found : IsFor run.0.content = subst IsFor (sym run.2) is in
       let one : IsCallOfSize blocks size pools call run.0.content = subst (IsCallOfSize blocks size pools call) (sym run.2) within.0 in
-      let serves = one_serves pools call told run.0 run.1 found one run.3 in (
+      let serves = one_serves pools call told run.0 run.1 placed found one run.3 in (
         subst (λ (content : Content ℕ). IsServedCall pools call told content) run.2 serves.0,
-        run_of_one_size pools calls tolds run.1.content new run.4 serves.1 within.1,
+        run_of_one_size pools calls tolds run.1.content new run.4 placed serves.1 within.1,
       )

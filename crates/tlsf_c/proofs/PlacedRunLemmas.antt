@@ -1,5 +1,5 @@
 -- A call that keeps to bounds told beforehand is a request of the heap that does. So it is served, and so is a run of such calls.
-use Rattle.std.proofs.Common.{◌≡◌, ◌≢◌, ℕ, ◌+◌, ◌*◌, ◌≤◌, true, List, [], ◌∷◌, Some, Ok, Err, inl, inr, refl, sym, ap, ◌∙◌, subst, arith}
+use Rattle.std.proofs.Common.{◌≡◌, ◌≢◌, ℕ, ◌+◌, ◌*◌, ◌≤◌, true, List, [], ◌∷◌, All, Some, Ok, Err, inl, inr, refl, sym, ap, ◌∙◌, subst, arith}
 use Rattle.std.specs.Prelude.{Result}
 use Rattle.std.proofs.lemmas.Bool.{cases_Bool, cases_eq, cases_lt}
 use Rattle.tlsf_class.specs.Classes.{unit}
@@ -26,8 +26,9 @@ use Rattle.tlsf_region.proofs.Sizes.{size_is}
 use Rattle.tlsf_c.specs.declared.placed_pool.PlacedPool.{PlacedPool}
 use Rattle.tlsf_c.specs.Fronts.{front, told_slot, told_size}
 use Rattle.tlsf_c.specs.PlacedHeaps.{IsLiveAt, IsRefusedFor, told_block, malloc_with_front}
+use Rattle.tlsf_c.specs.PlacedPools.{IsPlaced}
 use Rattle.tlsf_c.specs.PlacedRuns.{Call, ask, ask_aligned, ask_again, give_back, Told, CallStep, CallRun, KeepsTo, IsCallWithin, CallsStayWithin, IsServedCall, AreServedCalls}
-use Rattle.tlsf_c.proofs.Alike.{aligns_none, aligns_bad, aligned_with_front}
+use Rattle.tlsf_c.proofs.Alike.{aligns_none, aligns_bad, aligned_with_front, alike_in_units}
 use Rattle.tlsf_c.proofs.PlacedLemmas.{with_front}
 use Rattle.tlsf_c.proofs.Refusing.{never_bad, live_refused}
 
@@ -71,9 +72,9 @@ module _ (asks_less : AsksLess) (blocks bytes largest size : ℕ) (sized : class
   after request answer old new enough within step = step_enough blocks total size ⊥ request answer old new enough within step
 
   -- a call is served, and so is what it leaves
-  call_serves : (pools : List PlacedPool) (call : Call) (told : Told) (old new : Counted) → IsEnoughFor old.content → IsCallWithin blocks bytes largest pools call old.content → CallStep pools call told old new
+  call_serves : (pools : List PlacedPool) (call : Call) (told : Told) (old new : Counted) → All IsPlaced pools → IsEnoughFor old.content → IsCallWithin blocks bytes largest pools call old.content → CallStep pools call told old new
       → IsServedCall pools call told old.content × IsEnoughFor new.content
-  call_serves pools (ask n) told old new enough within step = (
+  call_serves pools (ask n) told old new placed enough within step = (
     (λ some. elim (cases_lt 0 told.address) [
       | inl there ↦ there
       | inr none ↦ (
@@ -92,12 +93,12 @@ module _ (asks_less : AsksLess) (blocks bytes largest size : ℕ) (sized : class
       ])
     ],
   )
-  call_serves pools (ask_aligned align n) told old new enough within step = (
-    (λ is alike some. elim (cases_lt 0 told.address) [
+  call_serves pools (ask_aligned align n) told old new placed enough within step = (
+    (λ is some. elim (cases_lt 0 told.address) [
       | inl there ↦ there
       | inr none ↦ (
-          let why = step.1 (omega (arith, none)) alike in
           let keeps = within is some in
+          let why = step.1 (omega (arith, none)) (alike_in_units align is keeps.0 pools placed) in
           let refused : memalign 0 align (n + front) old.content ≡ Err why.refusal = sym (aligned_with_front align 0 n old.content some) ∙ why.refused 0 in
           let room : HasRoomAligned align (n + front) old.content = room_within blocks total size (size_asked align) 2 (n + front) old.content (omega arith) enough.large (takes (size_asked align) n old.content (asks align n is keeps.0 keeps.1.least) keeps.1) in
           let bad = aligned_room_serves 0 align (n + front) old.content why.refusal enough.good room refused in
@@ -120,7 +121,7 @@ module _ (asks_less : AsksLess) (blocks bytes largest size : ℕ) (sized : class
       ])
     ],
   )
-  call_serves pools (ask_again address word n) told old new enough within step = (
+  call_serves pools (ask_again address word n) told old new placed enough within step = (
     (λ live. elim (cases_lt 0 told.address) [
       | inl there ↦ there
       | inr none ↦ absurd (of live (step.1 (omega (arith, none))).refusal (step.1 (omega (arith, none))).refused)
@@ -140,7 +141,7 @@ module _ (asks_less : AsksLess) (blocks bytes largest size : ℕ) (sized : class
           let is = size_is (told_block found.place address word) old.content (told_size word address) found.live in
           room_serves 0 (n + front) old.content refusal enough.good room
           (live_refused 0 (told_slot word address) found.place (n + front) room.m old.content refusal room.rounds (λ e. omega (arith, e)) is.0 (refused 0))
-  call_serves pools (give_back address word) told old new enough within step = (
+  call_serves pools (give_back address word) told old new placed enough within step = (
     step.0,
     elim (cases_eq told.word 0) [
       | inl served ↦ (let freed = step.1 served in after (Free (told_block freed.place address word)) Done old.content new.content enough tt freed.freed)
@@ -149,15 +150,15 @@ module _ (asks_less : AsksLess) (blocks bytes largest size : ℕ) (sized : class
   )
 
   -- so is each call of a run
-  pub run_serves : (pools : List PlacedPool) (calls : List Call) (tolds : List Told) (old new : Content ℕ) (run : CallRun pools calls tolds old new) → IsEnoughFor old
+  pub run_serves : (pools : List PlacedPool) (calls : List Call) (tolds : List Told) (old new : Content ℕ) (run : CallRun pools calls tolds old new) → All IsPlaced pools → IsEnoughFor old
       → CallsStayWithin blocks bytes largest pools calls tolds old new run → AreServedCalls pools calls tolds old new run
-  run_serves pools [] [] old new run enough within = tt
-  run_serves pools [] (told ∷ tolds) old new run enough within = absurd run
-  run_serves pools (call ∷ calls) [] old new run enough within = absurd run
-  run_serves pools (call ∷ calls) (told ∷ tolds) old new run enough within =
+  run_serves pools [] [] old new run placed enough within = tt
+  run_serves pools [] (told ∷ tolds) old new run placed enough within = absurd run
+  run_serves pools (call ∷ calls) [] old new run placed enough within = absurd run
+  run_serves pools (call ∷ calls) (told ∷ tolds) old new run placed enough within =
       let found : IsEnoughFor run.0.content = subst IsEnoughFor (sym run.2) enough in
       let keeps : IsCallWithin blocks bytes largest pools call run.0.content = subst (IsCallWithin blocks bytes largest pools call) (sym run.2) within.0 in
-      let serves = call_serves pools call told run.0 run.1 found keeps run.3 in (
+      let serves = call_serves pools call told run.0 run.1 placed found keeps run.3 in (
         subst (λ (content : Content ℕ). IsServedCall pools call told content) run.2 serves.0,
-        run_serves pools calls tolds run.1.content new run.4 serves.1 within.1,
+        run_serves pools calls tolds run.1.content new run.4 placed serves.1 within.1,
       )

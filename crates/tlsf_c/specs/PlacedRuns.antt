@@ -85,10 +85,10 @@ CallsStayOfSize blocks size pools (call ∷ calls) (told ∷ tolds) old new run 
     IsCallOfSize blocks size pools call old × CallsStayOfSize blocks size pools calls tolds run.1.content new run.4
 CallsStayOfSize blocks size pools calls tolds old new run = ⊤
 
--- The call isn't refused, and tells an address: one for some bytes; at an alignment where addresses are alike; of a live block.
+-- The call isn't refused, and tells an address: one for some bytes, also at an alignment; or of a live block.
 abbrev pub IsServedCall : List PlacedPool → Call → Told → Content ℕ → Type 0
 IsServedCall pools (ask n) told content = n ≢ 0 → 0 < told.address
-IsServedCall pools (ask_aligned align n) told content = is_alignment align ≡ true → All (IsAlike align) pools → n ≢ 0 → 0 < told.address
+IsServedCall pools (ask_aligned align n) told content = is_alignment align ≡ true → n ≢ 0 → 0 < told.address
 IsServedCall pools (ask_again address word n) told content = IsLiveAt address word pools content → 0 < told.address
 IsServedCall pools (give_back address word) told content = IsLiveAt address word pools content → told.word ≡ 0
 

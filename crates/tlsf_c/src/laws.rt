@@ -1,6 +1,6 @@
-//! Laws of the definitions, each the contract of a function that does nothing.
+//! Laws of the definitions and of the exports, each the contract of a function that does nothing, or makes one call.
 
-ghost use Rattle.std.specs.Prelude.{◌≡◌, ◌≢◌, ℕ, ◌+◌, ◌*◌, ◌<◌, ◌≤◌, List, Some, Ok};
+ghost use Rattle.std.specs.Prelude.{◌≡◌, ◌≢◌, ℕ, ◌+◌, ◌*◌, ◌<◌, ◌≤◌, List, All, Some, Ok};
 ghost use Rattle.tlsf_heap.specs.declared.refusal.Refusal.{Refusal};
 ghost use Rattle.tlsf_class.specs.Classes.{unit};
 ghost use Rattle.tlsf_heap.specs.declared.image.rule.Rule.{Rule};
@@ -12,10 +12,15 @@ ghost use Rattle.tlsf_c.specs.Status.{bad_count, number};
 ghost use Rattle.tlsf_c.specs.Saving.{broken_number, no_room};
 ghost use Rattle.tlsf_c.specs.Fronts.{front, told_size};
 ghost use Rattle.tlsf_c.specs.PlacedHeaps.{IsLiveAt};
-ghost use Rattle.tlsf_c.specs.PlacedRuns.{Call, Told, CallRun, CallsStayWithin, CallsStayOfSize, AreServedCalls};
+ghost use Rattle.tlsf_c.specs.PlacedPools.{IsPlaced};
+ghost use Rattle.tlsf_c.specs.PlacedRuns.{Call, ask, ask_aligned, ask_again, give_back, Told, CallStep, CallRun, CallsStayWithin, CallsStayOfSize, AreServedCalls};
 ghost use Rattle.tlsf_c.specs.declared.placed_pool.PlacedPool.{PlacedPool};
 
+use crate::placed_aligned::tlsf_placed_memalign;
+use crate::placed_block::PlacedBlock;
+use crate::placed_blocks::{tlsf_placed_free, tlsf_placed_malloc};
 use crate::placed_heap::PlacedHeap;
+use crate::placed_sizes::tlsf_placed_realloc;
 use tlsf_heap::laws::smaller_asks_less;
 
 /// A C program can tell any two statuses apart.
@@ -40,7 +45,7 @@ pub fn live_blocks_are_apart(heap: &mut PlacedHeap)
 /// at most 16. It finds at most `blocks` live blocks, which have at most `bytes` bytes, each asked for and rounded up to 16.
 pub fn sure_bytes_are_enough()
     ensures { (blocks bytes largest size least records base pool : ℕ) (pools : List PlacedPool) (calls : List Call) (tolds : List Told) (old new : Content ℕ) (run : CallRun pools calls tolds old new)
-        → class_size 1 (largest + front) ≡ Some size → sure_pool blocks (bytes + blocks * unit) (Some size) ≡ Some least → least ≤ pool → sure_records blocks ≤ records → add_pool base pool (created records) ≡ Ok old
+        → All IsPlaced pools → class_size 1 (largest + front) ≡ Some size → sure_pool blocks (bytes + blocks * unit) (Some size) ≡ Some least → least ≤ pool → sure_records blocks ≤ records → add_pool base pool (created records) ≡ Ok old
         → CallsStayWithin blocks bytes largest pools calls tolds old new run → AreServedCalls pools calls tolds old new run }
 {
     smaller_asks_less();
@@ -50,6 +55,40 @@ pub fn sure_bytes_are_enough()
 /// bytes of as many blocks, refuses no call for a block while fewer are live: in whatever order they are asked for and given back.
 pub fn blocks_of_one_size_are_enough()
     ensures { (blocks size records base pool : ℕ) (pools : List PlacedPool) (calls : List Call) (tolds : List Told) (old new : Content ℕ) (run : CallRun pools calls tolds old new)
-        → add_pool base pool (created records) ≡ Ok old → class_size 1 size ≡ Some size → blocks * size ≤ pool → HasRecords blocks size pool records
+        → All IsPlaced pools → add_pool base pool (created records) ≡ Ok old → class_size 1 size ≡ Some size → blocks * size ≤ pool → HasRecords blocks size pool records
         → CallsStayOfSize blocks size pools calls tolds old new run → AreServedCalls pools calls tolds old new run }
 {}
+
+/// `tlsf_placed_malloc` is a call of the runs that these laws are about.
+pub fn malloc_is_a_call(heap: &mut PlacedHeap, bytes: u64) -> PlacedBlock
+    ensures { CallStep heap.old.pools (ask bytes) (record { address = result.address; word = result.word }) heap.old.handle.value heap.new.handle.value }
+{
+    tlsf_placed_malloc(heap, bytes)
+}
+
+/// `tlsf_placed_memalign` is a call of the runs that these laws are about.
+pub fn memalign_is_a_call(heap: &mut PlacedHeap, align: u64, bytes: u64) -> PlacedBlock
+    ensures { CallStep heap.old.pools (ask_aligned align bytes) (record { address = result.address; word = result.word }) heap.old.handle.value heap.new.handle.value }
+{
+    tlsf_placed_memalign(heap, align, bytes)
+}
+
+/// `tlsf_placed_realloc` is a call of the runs that these laws are about.
+pub fn realloc_is_a_call(
+    heap: &mut PlacedHeap,
+    address: u64,
+    bytes: u64,
+    word: &mut u64,
+    copied: &mut u64,
+) -> u64
+    ensures { CallStep heap.old.pools (ask_again address word.old bytes) (record { address = result; word = word.new }) heap.old.handle.value heap.new.handle.value }
+{
+    tlsf_placed_realloc(heap, address, bytes, word, copied)
+}
+
+/// `tlsf_placed_free` is a call of the runs that these laws are about.
+pub fn free_is_a_call(heap: &mut PlacedHeap, address: u64, word: u64) -> u32
+    ensures { CallStep heap.old.pools (give_back address word) (record { address = 0; word = result }) heap.old.handle.value heap.new.handle.value }
+{
+    tlsf_placed_free(heap, address, word)
+}

@@ -17,7 +17,7 @@ more_than_refusing blocks bytes size least is = elim (cases_Bool (nat_le (sure_r
 ]
 
 pub returns : goal.returns
-returns c = λ blocks bytes largest size least records base pool pools calls tolds old new run sized is enough many added within. (
+returns c = λ blocks bytes largest size least records base pool pools calls tolds old new run placed sized is enough many added within. (
     let total : ℕ = bytes + blocks * unit in
     let large = one_pool_enough blocks total size records base pool old added (omega (arith, enough, more_than_refusing blocks total size least is)) many in
-    run_serves c.smaller_asks_less.ensures blocks bytes largest size sized pools calls tolds old new run (record { good = large.0; large = large.1 }) within)
+    run_serves c.smaller_asks_less.ensures blocks bytes largest size sized pools calls tolds old new run placed (record { good = large.0; large = large.1 }) within)
