@@ -149,7 +149,8 @@ size_t tlsf_size_records(uint32_t records);
 /* Answers the bytes with which tlsf_create_records, for 2 * blocks + 3 records, makes a heap that
  * never answers null. These conditions have to hold. At most `blocks` blocks are live. They have at
  * most `bytes` bytes together, each rounded up to 16. No block is asked for with more than
- * `largest` bytes, or with an alignment above 16. The order of the calls doesn't matter. Answers 0
+ * `largest` bytes, or with an alignment above 16. The order of the calls doesn't matter. The law behind
+ * it is proved of the calls that tlsf.c stands on: laws::sure_bytes_are_enough of tlsf_c. Answers 0
  * where no heap is enough (this call isn't Conte's). */
 size_t tlsf_sure_bytes(uint32_t blocks, size_t bytes, size_t largest);
 
