@@ -285,7 +285,7 @@ static inline void *tlsf_parts_calloc(tlsf_parts *parts, size_t count, size_t si
 {
     size_t bytes = size != 0u && count > SIZE_MAX / size ? SIZE_MAX : count * size;
     void *block = tlsf_parts_malloc(parts, bytes);
-    return block == NULL ? NULL : memset(block, 0, bytes);
+    return block == NULL ? NULL : memset(block, 0, count * size);
 }
 
 /* Frees the block of a pointer, in a call that asks for `bytes` bytes. A pointer that no live block
