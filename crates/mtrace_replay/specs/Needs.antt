@@ -15,7 +15,7 @@ use Rattle.mtrace_replay.specs.History.{moments}
 use Rattle.mtrace_replay.specs.Totals.{blocks_in, rounded_bytes_in, Measures, IsMost}
 use Rattle.mtrace_replay.specs.Asked.{greatest_class}
 use Rattle.mtrace_replay.specs.LineReplay.{LineRules}
-use Rattle.mtrace_replay.specs.Replay.{added_diagnostics, StandsFor}
+use Rattle.mtrace_replay.specs.Replay.{heap_notes, StandsFor}
 use Rattle.mtrace_replay.specs.Run.{EndsAt}
 
 -- a measure of what was given or freed, 0 where nothing was
@@ -53,7 +53,7 @@ abbrev pub needs_rules : LineRules NeedsReplay
 needs_rules = record {
   Start = Settings;
   Stands = λ settings replay past. StandsFor replay.replay settings past × AreNeeds (started settings) past replay.needs;
-  added = added_diagnostics;
+  noted = heap_notes;
   lines = λ replay. replay.replay.totals.lines;
   IsReady = λ replay. Unit {0};
   fixed = λ replay. replay.replay.content.records;

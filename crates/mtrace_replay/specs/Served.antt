@@ -102,14 +102,14 @@ pub record IsServed (replay : Standing) (past : List ReadLine) : Type 0 where
   pub at_peak : IsAtPeak replay (first_moments replay.peak_line (served_moments past))
   pub called : AreCounted (calls_in (served_moments past)) (temporary_in past (served_moments past)) replay.called
 
--- the diagnostics that one more line adds
-abbrev pub added_served : ReadLine → List ReadLine → List Diagnostic
-added_served line past = (served_moment (length past) line (pending past) (held (served_moments past))).diagnostics
+-- all diagnostics of lines, of which the latest comes first
+abbrev pub served_noted : List ReadLine → List Diagnostic
+served_noted past = notes (served_moments past)
 
 -- The line of this number was fed. Where memory is refused the replay is as before the line.
 pub record FeedsLedger {E : Type 0} (number : ℕ) (line : ReadLine) (diagnostics : List Diagnostic) (result : Result (Unit {0}) E) (old new : Standing) : Type 0 where
   pub stands : OnOk result ((past : List ReadLine) → IsServed old past → IsServed new (line ∷ past))
-  pub told : OnOk result ((past : List ReadLine) → IsServed old past → diagnostics ≡ added_served line past)
+  pub told : OnOk result ((past : List ReadLine) → IsServed old past → served_noted (line ∷ past) ≡ served_noted past ++ diagnostics)
   pub counted : OnOk result (new.lines ≡ number)
   pub unchanged : OnErr result (new ≡ old)
 
@@ -153,7 +153,7 @@ abbrev pub ledger_rules : LineRules Standing
 ledger_rules = record {
   Start = Unit {0};
   Stands = λ start replay past. IsServed replay past;
-  added = λ start. added_served;
+  noted = λ start past. served_noted past;
   lines = λ replay. replay.lines;
   IsReady = λ replay. Unit {0};
   fixed = λ replay. 0;

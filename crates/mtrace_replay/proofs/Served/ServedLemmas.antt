@@ -13,7 +13,7 @@ use Rattle.mtrace_replay.specs.Texts.{total_size}
 use Rattle.mtrace_replay.specs.Ledger.{held_at}
 use Rattle.mtrace_replay.specs.Calls.{no_calls}
 use Rattle.mtrace_replay.specs.Callers.{with_call, with_temporary, calls_in, temporary_in, AreCounted}
-use Rattle.mtrace_replay.specs.Served.{CountsAct, unplaced, all_served, served_moment, served_moments, found_in, Standing, IsServed, IsAtPeak, RaisesPeak, added_served}
+use Rattle.mtrace_replay.specs.Served.{CountsAct, unplaced, all_served, served_moment, served_moments, found_in, Standing, IsServed, IsAtPeak, RaisesPeak, served_noted}
 use Rattle.tlsf_heap.proofs.Counts.{count-cons}
 use Rattle.mtrace_replay.proofs.Served.CallsLemmas.{adds}
 use Rattle.mtrace_replay.proofs.History.FoundLemmas.{found_is_held, held_as_found, none_held}
@@ -113,12 +113,13 @@ module _ (old new : Standing) (past : List ReadLine) (line : ReadLine) (stands :
 
   -- what the line adds to what is wrong
   pub told_on : (diagnostics : List Diagnostic) → diagnostics ≡ (if is_new line then [] else half old.lines old.pending) ++ (all_served (plan (old.lines + 1) line old.pending (found_in old.all))).diagnostics
-      → diagnostics ≡ added_served line past
-  told_on diagnostics is =
+      → served_noted (line ∷ past) ≡ served_noted past ++ diagnostics
+  unfolding served_moments
+  told_on diagnostics is = ap (λ (all : List Diagnostic). served_noted past ++ all) (sym (
       is
       ∙ ap (λ n. (if is_new line then [] else half n old.pending) ++ (all_served (plan (old.lines + 1) line old.pending (found_in old.all))).diagnostics) stands.lines_are
       ∙ ap (λ p. (if is_new line then [] else half (length past) p) ++ (all_served (plan (old.lines + 1) line old.pending (found_in old.all))).diagnostics) stands.pending_is
-      ∙ ap (λ (planned : Plan). (if is_new line then [] else half (length past) (pending past)) ++ (all_served planned).diagnostics) plan_is
+      ∙ ap (λ (planned : Plan). (if is_new line then [] else half (length past) (pending past)) ++ (all_served planned).diagnostics) plan_is))
 
 -- The replay stands for one line more, behind which this is held, and then the peak was raised.
 module _ (old middle new : Standing) (past : List ReadLine) (line : ReadLine) (stands : IsServed old past) (held : AreHeld (map unplaced middle.all) (served_moments (line ∷ past)))

@@ -11,7 +11,7 @@ use super::prepared::{Prepared, prepare};
 use super::replay::LedgerReplay;
 use super::report::{LedgerReport, put_ledger_report};
 use crate::held::diagnostic::Note;
-use crate::runs::following::{Stop, follow_lines};
+use crate::runs::following::read_log;
 use crate::runs::run::put_diagnostics;
 use crate::runs::status::{RunFault, Status};
 use mtrace_log::{Failed, Sink, Source};
@@ -69,17 +69,9 @@ pub(crate) fn follow_log<R: Source, W: Sink>(
     ensures last { report ≡ Nothing → IfOk result (λ ended. EndsServed ended.status ended.replay (R.shown reader.old) (R.shown reader.new) (W.shown writer.old) (W.shown writer.new)) }
 {
     let mut replay = LedgerReplay::new(alloc);
-    let has_diagnostics = match follow_lines(reader, writer, &mut replay) {
+    let has_diagnostics = match read_log(reader, writer, &mut replay) {
         Ok(has_diagnostics) => has_diagnostics,
-        Err(Stop::Writer) => return Err(RunFault::Write),
-        Err(Stop::Reader) => {
-            let _ = writer.flush();
-            return Err(RunFault::Read);
-        }
-        Err(Stop::Memory) => {
-            let _ = writer.flush();
-            return Err(RunFault::OutOfMemory);
-        }
+        Err(fault) => return Err(fault),
     };
     let Ok(prepared) = prepare(alloc, &replay, report) else {
         let _ = writer.flush();

@@ -15,7 +15,7 @@ use crate::heap::replay::{Replay, ReplayFault};
 use crate::heap::settings::Settings;
 use crate::heap::totals::Totals;
 use crate::held::findings::Findings;
-use crate::runs::following::{Stop, follow_lines};
+use crate::runs::following::read_log;
 use crate::runs::line_replay::LineReplay;
 use crate::runs::report::Report;
 use crate::runs::run::finish;
@@ -153,7 +153,7 @@ pub(crate) fn replay_needs<R: Source, W: Sink>(
         replay,
         needs: Needs::none(),
     };
-    match follow_lines(reader, writer, &mut replay) {
+    match read_log(reader, writer, &mut replay) {
         Ok(has_diagnostics) => match finish(
             writer,
             &mut replay.replay,
@@ -163,11 +163,6 @@ pub(crate) fn replay_needs<R: Source, W: Sink>(
             Ok(status) => Ok(NeedsRun { status, replay }),
             Err(_) => Err(RunFault::Write),
         },
-        Err(Stop::Writer) => Err(RunFault::Write),
-        Err(Stop::Memory) => unreachable!(),
-        Err(Stop::Reader) => {
-            let _ = writer.flush();
-            Err(RunFault::Read)
-        }
+        Err(fault) => Err(fault),
     }
 }

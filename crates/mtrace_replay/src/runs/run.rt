@@ -12,7 +12,7 @@ use crate::heap::settings::Settings;
 use crate::held::diagnostic::Note;
 use crate::held::findings::Findings;
 use crate::held::line_text::diagnostic_text;
-use crate::runs::following::{Stop, follow_lines};
+use crate::runs::following::read_log;
 use crate::runs::report::{Report, put_report};
 use crate::runs::status::{RunFault, Status};
 use mtrace_log::{Failed, Sink, Source, put_all};
@@ -102,17 +102,12 @@ pub(crate) fn replay_log<R: Source, W: Sink>(
         Err(ReplayFault::BadSettings) => return Err(RunFault::BadSettings),
         Err(ReplayFault::OutOfMemory) => return Err(RunFault::OutOfMemory),
     };
-    match follow_lines(reader, writer, &mut replay) {
+    match read_log(reader, writer, &mut replay) {
         Ok(has_diagnostics) => match finish(writer, &mut replay, has_diagnostics, report) {
             Ok(status) => Ok(FinishedRun { status, replay }),
             Err(_) => Err(RunFault::Write),
         },
-        Err(Stop::Writer) => Err(RunFault::Write),
-        Err(Stop::Memory) => unreachable!(),
-        Err(Stop::Reader) => {
-            let _ = writer.flush();
-            Err(RunFault::Read)
-        }
+        Err(fault) => Err(fault),
     }
 }
 

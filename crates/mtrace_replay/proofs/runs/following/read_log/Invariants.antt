@@ -2,7 +2,7 @@ use Rattle.std.proofs.Common.{◌≡◌, ◌-◌, ◌^◌, []}
 use Rattle.mtrace_log.specs.Trace.{HasTaken}
 use Rattle.mtrace_log.specs.Progress.{CallsFor}
 use Rattle.mtrace_replay.proofs.Running.FollowingLemmas.{IsFollowing}
-use Rattle.mtrace_replay.proofs.runs.following.follow_lines.Given as goal
+use Rattle.mtrace_replay.proofs.runs.following.read_log.Given as goal
 
 -- the lines are followed, and as many were as were read. The reader gave pieces, and perhaps told its end. The writer took pieces
 abbrev pub invariant-loop-number : goal.invariant-loop-number
@@ -11,8 +11,8 @@ invariant-loop-number g l =
     let writes = g.W.Sink.shown in
     let rules = g.P.LineReplay.rules in
     record {
-      under_way : (start : rules.Start) → rules.Stands start l.initial.replay []
-          → IsFollowing (rules.Stands start l.replay) (rules.added start) l.lines l.has_diagnostics (reads l.initial.reader) (reads l.reader) (writes l.initial.writer) (writes l.writer);
+      under_way : (start : rules.Start) → rules.Stands start l.initial.replay [] → rules.noted start [] ≡ []
+          → IsFollowing (rules.Stands start l.replay) (rules.noted start) l.lines l.has_diagnostics (reads l.initial.reader) (reads l.reader) (writes l.initial.writer) (writes l.writer);
       counted : rules.lines l.replay ≡ l.lines.count;
       ready : rules.IsReady l.replay;
       none : l.findings ≡ [];
