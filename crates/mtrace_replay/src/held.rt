@@ -7,6 +7,7 @@ pub mod entry;
 pub mod findings;
 pub mod grouping;
 pub mod line_text;
+pub mod lines;
 pub mod location_text;
 pub mod sections;
 pub mod site;

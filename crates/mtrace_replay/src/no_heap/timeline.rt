@@ -17,6 +17,7 @@ use super::replay::{LedgerReplay, LedgerTotals};
 use super::report::LedgerReport;
 use super::run::follow_log;
 use crate::held::line_text::{LineText, push_bytes, push_column, push_number};
+use crate::held::lines::{InLine, put_lines};
 use crate::held::told::tell_lines;
 use crate::runs::flush::flush_behind;
 use crate::runs::following::Stop;
@@ -39,14 +40,12 @@ fn point_text(point: &LedgerPoint) -> LineText
     text
 }
 
-/// Puts a line for each point.
-fn put_points<W: Sink>(writer: &mut W, points: &[LedgerPoint]) -> Result<(), Failed>
-    ensures { Puts result (flat_map ledger_point_text points.now) (W.shown writer.old) (W.shown writer.new) }
-{
-    for point in points {
-        put_all(writer, point_text(point).as_slice())?;
+impl InLine for LedgerPoint {
+    ghost line = { ledger_point_text };
+
+    fn put_line<W: Sink>(&self, writer: &mut W) -> Result<(), Failed> {
+        put_all(writer, point_text(self).as_slice())
     }
-    Ok(())
 }
 
 /// Puts the points below their words.
@@ -54,7 +53,7 @@ fn put_timeline<W: Sink>(writer: &mut W, points: &[LedgerPoint]) -> Result<(), F
     ensures { Puts result (ledger_timeline_text points.now) (W.shown writer.old) (W.shown writer.new) }
 {
     put_all(writer, b"line bytes blocks\n")?;
-    put_points(writer, points)
+    put_lines(writer, points)
 }
 
 /// The numbers of the lines that are told, by the sums over all lines.

@@ -14,6 +14,7 @@ use crate::heap::point::{Point, point_after};
 use crate::heap::replay::{Replay, ReplayFault};
 use crate::heap::settings::Settings;
 use crate::held::line_text::{point_text, refused_text};
+use crate::held::lines::{InLine, put_lines};
 use crate::held::told::tell_lines;
 use crate::runs::flush::flush_behind;
 use crate::runs::reading::Reading;
@@ -27,14 +28,12 @@ use tlsf_heap::Heap;
 /// The greatest number of parts.
 pub(crate) const MOST_PARTS: u32 = 10_000;
 
-/// Puts a line for each point.
-fn put_points<W: Sink>(writer: &mut W, points: &[Point]) -> Result<(), Failed>
-    ensures { Puts result (flat_map point_text points.now) (W.shown writer.old) (W.shown writer.new) }
-{
-    for point in points {
-        put_all(writer, point_text(point).as_slice())?;
+impl InLine for Point {
+    ghost line = { point_text };
+
+    fn put_line<W: Sink>(&self, writer: &mut W) -> Result<(), Failed> {
+        put_all(writer, point_text(self).as_slice())
     }
-    Ok(())
 }
 
 /// Puts the points below their words, and how many lines were refused.
@@ -42,7 +41,7 @@ fn put_timeline<W: Sink>(writer: &mut W, points: &[Point], refused: u64) -> Resu
     ensures { Puts result (timeline_text points.now refused) (W.shown writer.old) (W.shown writer.new) }
 {
     put_all(writer, b"line bytes blocks reach free largest\n")?;
-    put_points(writer, points)?;
+    put_lines(writer, points)?;
     put_all(writer, refused_text(refused).as_slice())
 }
 
