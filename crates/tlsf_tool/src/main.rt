@@ -142,6 +142,7 @@ fn follow<R: Read + Drop>(
     let mut writer = run.output()?;
     let status = serve_ledger(
         run.rt.alloc(),
+        run.seed()?,
         report,
         &mut reader,
         &mut writer,
@@ -155,7 +156,7 @@ fn parts<R: Read + Drop>(run: &Run<'_>, heaps: u32, log: Input<R>) -> Result<u8,
     let mut reader = run.reader(log.file);
     let mut errors = run.errors();
     let mut writer = run.output()?;
-    let status = serve_parts(run.rt.alloc(), heaps, &mut reader, &mut writer, &mut errors);
+    let status = serve_parts(run.rt.alloc(), run.seed()?, heaps, &mut reader, &mut writer, &mut errors);
     Ok(run.end(status, log.name.as_str(), ""))
 }
 
@@ -171,6 +172,7 @@ fn reread(run: &Run<'_>, what: Rereading, log: String) -> Result<u8, ToolFault> 
     let mut writer = run.output()?;
     let status = serve_again(
         run.rt.alloc(),
+        run.seed()?,
         what,
         &mut reader,
         &mut writer,

@@ -9,6 +9,7 @@ use crate::shown::Shown;
 use mtrace_log::{FromRead, ToWrite};
 use mtrace_replay::RunFault;
 use std::fs::File;
+use std::hash::RandomState;
 use std::io;
 use std::io::{BufWriter, Read, Stderr, Stdout, Write};
 
@@ -38,6 +39,14 @@ impl<'a> Run<'a> {
             rt,
             notice: Notice::new(rt, is_told),
             causes,
+        }
+    }
+
+    /// What the maps of addresses and locations are keyed by, so that no log is made to slow them.
+    pub fn seed(&self) -> Result<RandomState, ToolFault> {
+        match RandomState::new(self.rt) {
+            Ok(seed) => Ok(seed),
+            Err(_) => Err(ToolFault::Run(RunFault::OutOfMemory)),
         }
     }
 

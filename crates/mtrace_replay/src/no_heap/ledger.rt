@@ -24,6 +24,7 @@ use crate::held::site::Site;
 use mtrace_log::Addr;
 use std::alloc::{AllocError, Global};
 use std::collections::HashMap;
+use std::hash::RandomState;
 use std::marker::Model;
 
 /// What is kept of an address that is held.
@@ -60,7 +61,7 @@ pub struct Seen<'a> {
 pub struct Ledger {
     locations: Locations,
     shares: Shares,
-    held: HashMap<u64, Kept>,
+    held: HashMap<u64, Kept, RandomState>,
     bytes: u128,
 }
 
@@ -84,7 +85,7 @@ impl Model for Ledger {
 }
 
 /// The keys of a map, in order.
-fn sorted_keys(alloc: Global, held: &HashMap<u64, Kept>) -> Result<Vec<u64>, AllocError>
+fn sorted_keys(alloc: Global, held: &HashMap<u64, Kept, RandomState>) -> Result<Vec<u64>, AllocError>
     ensures moved { IfOk result (λ all. IsPermutation (keys held.now) all.items) }
     ensures sorted { IfOk result (λ all. IsSorted nat_cmp all.items) }
 {
@@ -133,13 +134,13 @@ fn count_temporary(shares: &mut Shares, slot: usize, is_temporary: bool)
 
 impl Ledger {
     /// Nothing is held.
-    pub fn new(alloc: Global) -> Ledger
+    pub fn new(alloc: Global, seed: RandomState) -> Ledger
         ensures { result ≡ record { all = []; at_peak = []; mark = 0; called = record { callers = []; total = no_calls } } }
     {
         Ledger {
-            locations: Locations::new(alloc),
+            locations: Locations::new(alloc, seed),
             shares: Shares::new(alloc),
-            held: HashMap::new(alloc),
+            held: HashMap::with_hasher(alloc, seed),
             bytes: 0,
         }
     }

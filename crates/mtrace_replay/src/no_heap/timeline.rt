@@ -27,6 +27,7 @@ use crate::runs::timeline::MOST_PARTS;
 use arrayvec::ArrayVec;
 use mtrace_log::{Again, Failed, Sink, put_all};
 use std::alloc::{AllocError, Global};
+use std::hash::RandomState;
 
 /// The line of a point.
 fn point_text(point: &LedgerPoint) -> LineText
@@ -78,6 +79,7 @@ fn told_lines(alloc: Global, totals: LedgerTotals, parts: u32) -> Result<Vec<u64
 /// `Read` where the reader doesn't begin again, fails, or has fewer lines then. `OutOfMemory` where memory is refused.
 fn read_points<R: Again>(
     alloc: Global,
+    seed: RandomState,
     reader: &mut R,
     numbers: &[u64],
 ) -> Result<Vec<LedgerPoint>, RunFault>
@@ -90,7 +92,7 @@ fn read_points<R: Again>(
     let Ok(()) = reader.begin() else {
         return Err(RunFault::Read);
     };
-    let mut replay = LedgerReplay::new(alloc);
+    let mut replay = LedgerReplay::new(alloc, seed);
     let mut reading = Reading::new();
     for number in numbers {
         match reading.follow_up_to(reader, &mut replay, *number) {
@@ -107,6 +109,7 @@ fn read_points<R: Again>(
 /// Reads the log again, and puts what was held after the lines that are told. Answers this status.
 fn tell_timeline<R: Again, W: Sink>(
     alloc: Global,
+    seed: RandomState,
     reader: &mut R,
     writer: &mut W,
     totals: LedgerTotals,
@@ -121,7 +124,7 @@ fn tell_timeline<R: Again, W: Sink>(
     let Ok(numbers) = told_lines(alloc, totals, parts) else {
         return Err(RunFault::OutOfMemory);
     };
-    let points = match read_points(alloc, reader, numbers.as_slice()) {
+    let points = match read_points(alloc, seed, reader, numbers.as_slice()) {
         Ok(points) => points,
         Err(fault) => return Err(fault),
     };
@@ -146,6 +149,7 @@ fn tell_timeline<R: Again, W: Sink>(
 /// byte of some, or failed a flush: then a beginning of the text is written.
 pub fn run_ledger_timeline<R: Again, W: Sink>(
     alloc: Global,
+    seed: RandomState,
     reader: &mut R,
     writer: &mut W,
     parts: u32,
@@ -155,11 +159,11 @@ pub fn run_ledger_timeline<R: Again, W: Sink>(
     if parts == 0 || parts > MOST_PARTS {
         return Err(RunFault::BadSettings);
     }
-    let ended = match follow_log(alloc, reader, writer, LedgerReport::Nothing) {
+    let ended = match follow_log(alloc, seed, reader, writer, LedgerReport::Nothing) {
         Ok(ended) => ended,
         Err(fault) => return Err(fault),
     };
     let (totals, status) = (ended.replay.totals(), ended.status);
     drop(ended);
-    tell_timeline(alloc, reader, writer, totals, parts, status)
+    tell_timeline(alloc, seed, reader, writer, totals, parts, status)
 }

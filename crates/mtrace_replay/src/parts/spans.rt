@@ -13,6 +13,7 @@ use super::span::Span;
 use mtrace_log::Addr;
 use std::alloc::{AllocError, Global};
 use std::collections::HashMap;
+use std::hash::RandomState;
 
 /// A block of this size, in this range, is held.
 fn add_block(spans: &mut [Span], range: u8, size: u32)
@@ -66,7 +67,7 @@ pub(crate) struct Block {
 #[derive(Drop)]
 pub(crate) struct Spans {
     pub(crate) all: Vec<Span>,
-    ranges: HashMap<u64, u8>,
+    ranges: HashMap<u64, u8, RandomState>,
 }
 
 impl Spans {
@@ -75,7 +76,7 @@ impl Spans {
     /// # Errors
     ///
     /// `AllocError` where memory is refused.
-    pub(crate) fn new(alloc: Global) -> Result<Spans, AllocError>
+    pub(crate) fn new(alloc: Global, seed: RandomState) -> Result<Spans, AllocError>
         ensures { IfOk result (λ spans. AreCounted [] spans.all.items (get nat_eq spans.ranges)) }
     {
         let mut all = Vec::new(alloc);
@@ -84,7 +85,7 @@ impl Spans {
         }
         Ok(Spans {
             all,
-            ranges: HashMap::new(alloc),
+            ranges: HashMap::with_hasher(alloc, seed),
         })
     }
 
