@@ -85,7 +85,10 @@ impl Model for Ledger {
 }
 
 /// The keys of a map, in order.
-fn sorted_keys(alloc: Global, held: &HashMap<u64, Kept, RandomState>) -> Result<Vec<u64>, AllocError>
+fn sorted_keys(
+    alloc: Global,
+    held: &HashMap<u64, Kept, RandomState>,
+) -> Result<Vec<u64>, AllocError>
     ensures moved { IfOk result (λ all. IsPermutation (keys held.now) all.items) }
     ensures sorted { IfOk result (λ all. IsSorted nat_cmp all.items) }
 {
