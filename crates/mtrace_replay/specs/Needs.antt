@@ -24,8 +24,8 @@ of_one measure None = 0
 of_one measure (Some given) = measure given
 
 -- the bytes of the block of what is held
-abbrev pub block_bytes : Given → ℕ
-block_bytes given = rounded_bytes given.entry.size
+abbrev pub bytes_of_block : Given → ℕ
+bytes_of_block given = rounded_bytes given.entry.size
 
 -- by the sums before and after, what is held lost `freed` and got `given`, of `asked` bytes; either may be none
 pub record Exchanges (asked : ℕ) (old new : Totals) (freed given : Option Given) : Type 0 where
@@ -39,7 +39,7 @@ pub record Exchanges (asked : ℕ) (old new : Totals) (freed given : Option Give
 -- the bytes of the blocks held behind an exchange, by those before it
 abbrev pub BehindExchange : (asked : ℕ) (old new : Totals) (before behind : ℕ) → Type 0
 BehindExchange asked old new before behind = (freed given : Option Given) (exact : ℕ) → Exchanges asked old new freed given → before + greatest_size < 2 ^ 64
-    → exact + of_one block_bytes freed ≡ of_one block_bytes given + before → behind ≡ exact
+    → exact + of_one bytes_of_block freed ≡ of_one bytes_of_block given + before → behind ≡ exact
 
 -- the needs are those of the lines, of which the latest comes first
 pub record AreNeeds (start : Bare) (past : List ReadLine) (needs : Needs) : Type 0 where

@@ -14,10 +14,10 @@ use Rattle.mtrace_replay.specs.declared.no_heap.report.LedgerReport.TheVariants.
 use Rattle.mtrace_replay.specs.declared.no_heap.run.EndedLedger.{EndedLedger}
 use Rattle.mtrace_replay.specs.Moment.{ReadLine, Given, Moment, half}
 use Rattle.mtrace_replay.specs.History.{notes, AreHeld, entries_of}
-use Rattle.mtrace_replay.specs.Totals.{is_served, first_moments, Measures, IsPeak, bytes_in, blocks_in}
+use Rattle.mtrace_replay.specs.Totals.{is_served, first_moments, Measures, IsPeak, asked_bytes_in, blocks_in}
 use Rattle.mtrace_replay.specs.RunSites.{HeldSites, sections_of}
 use Rattle.mtrace_replay.specs.Texts.{diagnostics_text, leaks_report, ledger_peak_report, callers_text, clean_or_found}
-use Rattle.mtrace_replay.specs.declared.no_heap.count.Count.{Count}
+use Rattle.mtrace_replay.specs.declared.held.count.Count.{Count}
 use Rattle.mtrace_replay.specs.Calls.{Caller}
 use Rattle.mtrace_replay.specs.Callers.{calls_in, temporary_in, AreCallers, all_of}
 use Rattle.mtrace_replay.specs.Served.{served_history, served_diagnostics, served_noted, Standing, IsServed}
@@ -31,7 +31,7 @@ served_notes lines = diagnostics_text (notes (served_history lines))
 pub record AreServedTotals (past : List Moment) (totals : LedgerTotals) : Type 0 where
   pub lines : totals.lines ≡ length past
   pub served : totals.served ≡ count_by is_served past
-  pub live_bytes : Measures bytes_in past totals.live_bytes
+  pub live_bytes : Measures asked_bytes_in past totals.live_bytes
   pub live_blocks : Measures blocks_in past totals.live_blocks
   pub peak : IsPeak past totals.peak_bytes totals.peak_line
 

@@ -14,7 +14,7 @@ use Rattle.mtrace_replay.specs.Texts.{total_size}
 use Rattle.mtrace_replay.specs.Sites.{Site, AreTallied}
 use Rattle.mtrace_replay.specs.Calls.{Called, CountsMore, CountsReleased}
 use Rattle.mtrace_replay.specs.Callers.{calls_in, temporary_in, AreCounted}
-use Rattle.mtrace_replay.specs.Ledger.{held_at, LedgerState, KeepsPeak}
+use Rattle.mtrace_replay.specs.Ledger.{entry_under, LedgerState, KeepsPeak}
 use Rattle.mtrace_replay.specs.LineReplay.{LineRules}
 
 -- what stands in each moment in the place of a heap
@@ -55,13 +55,13 @@ served_diagnostics lines = notes (served_history lines) ++ half (length lines) (
 
 -- what an address is held under, without a place
 abbrev pub found_in : List Entry → ℕ → Option Given
-found_in all address = option_map unplaced (held_at all address)
+found_in all address = option_map unplaced (entry_under all address)
 
 -- what an act of the line of this number adds to the calls
 abbrev pub CountsAct : ℕ → Act → List Entry → (old new : Called) → Type 0
 CountsAct number idle all old new = new ≡ old
 CountsAct number (give entry align) all old new = CountsMore entry.at 1 entry.size 0 old new
-CountsAct number (take address place) all old new = CountsReleased (Some number) (held_at all address) old new
+CountsAct number (take address place) all old new = CountsReleased (Some number) (entry_under all address) old new
 CountsAct number (move from place entry) all old new = CountsMore entry.at 1 entry.size 0 old new
 
 -- What the line of this number does, or a part of it, as its plan says, and whether a block is given. Where memory is refused what is

@@ -24,7 +24,7 @@ mod tests;
 mod word_faults;
 mod words;
 
-use crate::asked::{Command, Name, Rereading, ToolFault};
+use crate::asked::{Command, HeapReport, Rereading, ToolFault};
 use crate::causes::Causes;
 use crate::check::check_image;
 use crate::files::{FileNumber, are_one, make_file};
@@ -112,7 +112,7 @@ fn standard_input(run: &Run<'_>, name: String) -> Result<Input<Stdin>, ToolFault
 /// Makes a report of a log that is open.
 fn report<R: Read + Drop>(
     run: &Run<'_>,
-    name: Name,
+    name: HeapReport,
     settings: Settings,
     log: Input<R>,
 ) -> Result<u8, ToolFault> {
@@ -156,7 +156,14 @@ fn parts<R: Read + Drop>(run: &Run<'_>, heaps: u32, log: Input<R>) -> Result<u8,
     let mut reader = run.reader(log.file);
     let mut errors = run.errors();
     let mut writer = run.output()?;
-    let status = serve_parts(run.rt.alloc(), run.seed()?, heaps, &mut reader, &mut writer, &mut errors);
+    let status = serve_parts(
+        run.rt.alloc(),
+        run.seed()?,
+        heaps,
+        &mut reader,
+        &mut writer,
+        &mut errors,
+    );
     Ok(run.end(status, log.name.as_str(), ""))
 }
 
@@ -260,7 +267,12 @@ fn size_parts(run: &Run<'_>, parts: &[PartBounds]) -> u8 {
 }
 
 /// Makes a report of a log, which is opened first where it is a file.
-fn report_log(run: &Run<'_>, name: Name, settings: Settings, log: String) -> Result<u8, ToolFault> {
+fn report_log(
+    run: &Run<'_>,
+    name: HeapReport,
+    settings: Settings,
+    log: String,
+) -> Result<u8, ToolFault> {
     if is_standard(&log) {
         return report(run, name, settings, standard_input(run, log)?);
     }
@@ -304,7 +316,7 @@ fn act(run: &Run<'_>, command: Command) -> Result<u8, ToolFault> {
             settings,
             log,
         } => report_log(run, name, settings, log),
-        Command::Follow { report, log } => follow_log(run, report, log),
+        Command::Ledger { report, log } => follow_log(run, report, log),
         Command::Parts { heaps, log } => parts_log(run, heaps, log),
         Command::Reread { what, log } => reread(run, what, log),
         Command::Save {
@@ -346,8 +358,14 @@ fn tell(rt: &HostRuntime, causes: &Causes, fault: &ToolFault) -> u8 {
             let _ = eprintln!(rt; "{fault}");
         }
     }
-    if let ToolFault::CannotOpen(name) = fault {
-        let _ = causes.tell(rt, name.as_str(), name.as_str());
+    match fault {
+        ToolFault::CannotOpen(name) => {
+            let _ = causes.tell(rt, name.as_str(), name.as_str());
+        }
+        ToolFault::NoRandomBytes => {
+            let _ = causes.tell(rt, "", "");
+        }
+        _ => {}
     }
     fault.status()
 }

@@ -42,11 +42,17 @@ impl<'a> Run<'a> {
         }
     }
 
-    /// What the maps of addresses and locations are keyed by, so that no log is made to slow them.
+    /// A seed by random bytes of the system, for the maps of addresses and locations: so no log can be made to slow them.
+    ///
+    /// # Errors
+    ///
+    /// `NoRandomBytes` where the system gives none.
     pub fn seed(&self) -> Result<RandomState, ToolFault> {
-        match RandomState::new(self.rt) {
+        let seed = RandomState::new(self.rt);
+        keep(&self.causes.random, &seed);
+        match seed {
             Ok(seed) => Ok(seed),
-            Err(_) => Err(ToolFault::Run(RunFault::OutOfMemory)),
+            Err(_) => Err(ToolFault::NoRandomBytes),
         }
     }
 

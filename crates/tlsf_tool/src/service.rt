@@ -10,7 +10,7 @@ ghost use Rattle.mtrace_replay.specs.SizeParts.{RunsSizeParts};
 ghost use Rattle.mtrace_replay.specs.Saving.{RunsAndSaves, PutsAndFlushes};
 ghost use Rattle.tlsf_tool.specs.Statuses.{report_of, EndsAs, Rereads, PutsHelp};
 
-use crate::asked::{Name, Rereading, ToolFault};
+use crate::asked::{HeapReport, Rereading, ToolFault};
 use crate::statuses::{end_status, fault_status};
 use arrayvec::ArrayString;
 use mtrace_log::{Again, Failed, Sink, Source, put_all};
@@ -20,8 +20,8 @@ use mtrace_replay::{
     run_size_parts, run_timeline, run_walk,
 };
 use std::alloc::Global;
-use std::hash::RandomState;
 use std::fmt::Write;
+use std::hash::RandomState;
 
 /// No text of a run's fault is longer, in bytes.
 const LONGEST_FAULT: usize = 64;
@@ -71,7 +71,7 @@ pub fn serve_help<W: Sink, E: Sink>(text: &str, writer: &mut W, errors: &mut E) 
 /// Makes the report of this name from what the reader has left.
 fn run_named<R: Source, W: Sink>(
     alloc: Global,
-    name: Name,
+    name: HeapReport,
     settings: Settings,
     reader: &mut R,
     writer: &mut W,
@@ -79,9 +79,9 @@ fn run_named<R: Source, W: Sink>(
     ensures { Runs (report_of name) settings result (course R.shown reader.old reader.new) (course W.shown writer.old writer.new) }
 {
     match name {
-        Name::Leaks => run_leaks(alloc, reader, writer, settings),
-        Name::Peak => run_peak(alloc, reader, writer, settings),
-        Name::Walk => run_walk(alloc, reader, writer, settings),
+        HeapReport::Leaks => run_leaks(alloc, reader, writer, settings),
+        HeapReport::Peak => run_peak(alloc, reader, writer, settings),
+        HeapReport::Walk => run_walk(alloc, reader, writer, settings),
     }
 }
 
@@ -90,7 +90,7 @@ fn run_named<R: Source, W: Sink>(
 /// was, and 2 for bad settings. It is 3 where the reader or the writer failed, and 4 where memory was refused.
 pub fn serve<R: Source, W: Sink, E: Sink>(
     alloc: Global,
-    name: Name,
+    name: HeapReport,
     settings: Settings,
     reader: &mut R,
     writer: &mut W,

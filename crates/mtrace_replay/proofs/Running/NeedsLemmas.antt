@@ -14,12 +14,12 @@ use Rattle.mtrace_replay.specs.declared.runs.status.Status.TheVariants.{Clean, F
 use Rattle.mtrace_replay.specs.Started.{started}
 use Rattle.mtrace_replay.specs.Moment.{ReadLine, Given, Moment, half}
 use Rattle.mtrace_replay.specs.History.{next_moment, moments, held, pending, content_after}
-use Rattle.mtrace_replay.specs.Totals.{blocks_in, bytes_in, rounded_bytes_in, is_served, Measures, IsMost}
+use Rattle.mtrace_replay.specs.Totals.{blocks_in, asked_bytes_in, rounded_bytes_in, is_served, Measures, IsMost}
 use Rattle.mtrace_replay.specs.Asked.{bytes_asked, class_asked, greater_class}
 use Rattle.mtrace_replay.specs.Replay.{Replayed, StandsFor, entries, heap_notes}
 use Rattle.mtrace_replay.specs.Following.{has_some, HasFollowed}
 use Rattle.mtrace_replay.specs.Run.{end_text}
-use Rattle.mtrace_replay.specs.Needs.{of_one, block_bytes, Exchanges, BehindExchange, AreNeeds, needs_rules, EndsWithNeeds}
+use Rattle.mtrace_replay.specs.Needs.{of_one, bytes_of_block, Exchanges, BehindExchange, AreNeeds, needs_rules, EndsWithNeeds}
 use Rattle.mtrace_replay.proofs.History.TotalsLemmas.{measure_is_one, none_measured, most_none, most_goes_on}
 use Rattle.mtrace_replay.proofs.OnHeap.HeldFew.{rounded_few}
 use Rattle.mtrace_replay.proofs.History.GivenSize.{given_size, given_vacant}
@@ -70,7 +70,7 @@ module _ (old new : Replayed) (settings : Settings) (past : List ReadLine) (line
   blocks_were = measured blocks_in old.totals.live_blocks before.totals.live_blocks ∙ blocks_summed old.given
 
   bytes_were : old.totals.live_bytes ≡ sum_by (λ (given : Given). given.entry.size) old.given
-  bytes_were = measured bytes_in old.totals.live_bytes before.totals.live_bytes ∙ bytes_summed old.given
+  bytes_were = measured asked_bytes_in old.totals.live_bytes before.totals.live_bytes ∙ bytes_summed old.given
 
   exchanges : Exchanges (bytes_asked line) old.totals new.totals freed now.given
   unfolding moments
@@ -78,7 +78,7 @@ module _ (old new : Replayed) (settings : Settings) (past : List ReadLine) (line
     served = served_more now ms old.totals.served new.totals.served before.totals.served after.totals.served;
     size = by_given now.given refl;
     blocks = omega (arith, changes (λ given. 1), blocks_were, measured_now blocks_in new.totals.live_blocks after.totals.live_blocks, blocks_summed new.given);
-    bytes = omega (arith, changes (λ given. given.entry.size), bytes_were, measured_now bytes_in new.totals.live_bytes after.totals.live_bytes, bytes_summed new.given);
+    bytes = omega (arith, changes (λ given. given.entry.size), bytes_were, measured_now asked_bytes_in new.totals.live_bytes after.totals.live_bytes, bytes_summed new.given);
     within_blocks = omega (arith, blocks_were, freed_within (λ given. 1));
     within_bytes = omega (arith, bytes_were, freed_within (λ given. given.entry.size));
   }
@@ -96,7 +96,7 @@ module _ (old new : Replayed) (settings : Settings) (past : List ReadLine) (line
           all = new.given;
           held = after.held;
           measured = behind freed now.given (rounded_bytes_in new.given) exchanges (omega (arith, were, rounded_few old.given, few))
-              (omega (arith, changes block_bytes, were, rounded_summed old.given, rounded_summed new.given));
+              (omega (arith, changes bytes_of_block, were, rounded_summed old.given, rounded_summed new.given));
         }
 
     pub needs_more : more.most ≡ max needs.most new.totals.live_blocks → more.most_rounded ≡ max needs.most_rounded more.rounded

@@ -16,7 +16,7 @@ use Rattle.mtrace_replay.specs.declared.no_heap.prepared.Prepared.TheVariants as
 use Rattle.mtrace_replay.specs.Prepared.{IsOf, AreHeldSites, HasNamed, held_text, prepared_text}
 use Rattle.mtrace_replay.specs.Entry.{Entry}
 use Rattle.mtrace_replay.specs.Sites.{Site, AreSites}
-use Rattle.mtrace_replay.specs.Totals.{bytes_in, first_moments}
+use Rattle.mtrace_replay.specs.Totals.{asked_bytes_in, first_moments}
 use Rattle.mtrace_replay.proofs.History.TotalsLemmas.{measure_is_one}
 use Rattle.mtrace_replay.specs.Moment.{ReadLine, Given, half}
 use Rattle.mtrace_replay.specs.History.{held, pending, entries_of}
@@ -70,7 +70,7 @@ module _ (replay : Standing) (lines : List ReadLine) (stands : IsServed replay (
 
   peak_bytes_are : replay.peak_bytes ≡ total_size (entries_of peak_all)
   peak_bytes_are =
-      measure_is_one bytes_in (first_moments replay.peak_line (served_history lines)) replay.peak_bytes (bytes_in peak_all) stands.peak.reached
+      measure_is_one asked_bytes_in (first_moments replay.peak_line (served_history lines)) replay.peak_bytes (asked_bytes_in peak_all) stands.peak.reached
       (record { all = peak_all; held = stands.at_peak.blocks.held; measured = refl })
 
   sections_are : (peak end : List Site) → both_sections replay.peak_line replay.peak_blocks replay.peak_bytes peak (length replay.all) (total_size replay.all) end

@@ -6,11 +6,11 @@ ghost use Rattle.mtrace_replay.specs.Texts.{site_text, section, both_sections, c
 
 use crate::held::amount::Amount;
 use crate::held::caller::Caller;
+use crate::held::count::Count;
 use crate::held::line_text::{LineText, peak_words, push_bytes, push_number, section_text};
 use crate::held::lines::{InLine, put_lines};
 use crate::held::location_text::put_line_at;
 use crate::held::site::Site;
-use crate::no_heap::count::Count;
 use arrayvec::ArrayVec;
 use mtrace_log::{Failed, Sink, put_all};
 

@@ -7,10 +7,10 @@ ghost use Rattle.mtrace_replay.specs.Served.{IsServed, FeedsLedger, RaisesPeak, 
 
 use super::ledger::Ledger;
 use super::line::outcome;
-use crate::heap::replay::{half_before, half_diagnostic, old_address, put_half};
 use crate::held::amount::Amount;
 use crate::held::diagnostic::Note;
 use crate::held::findings::Findings;
+use crate::held::half::{half_before, half_diagnostic, old_address, put_half};
 use crate::runs::line_replay::LineReplay;
 use mtrace_log::{Addr, Event, LentLocation, LineFault};
 use std::alloc::{AllocError, Global};

@@ -20,8 +20,7 @@ use crate::held::line_text::{LineText, push_bytes, push_column, push_number};
 use crate::held::lines::{InLine, put_lines};
 use crate::held::told::tell_lines;
 use crate::runs::flush::flush_behind;
-use crate::runs::following::Stop;
-use crate::runs::reading::Reading;
+use crate::runs::reading::{Reading, Stop};
 use crate::runs::status::{RunFault, Status};
 use crate::runs::timeline::MOST_PARTS;
 use arrayvec::ArrayVec;
@@ -99,7 +98,6 @@ fn read_points<R: Again>(
             Ok(()) => points.push_reserved(ledger_point(&replay)),
             Err(Stop::Memory) => return Err(RunFault::OutOfMemory),
             Err(Stop::Reader) => return Err(RunFault::Read),
-            Err(Stop::Writer) => return Err(RunFault::Read),
         }
     }
     reading.holds_few();

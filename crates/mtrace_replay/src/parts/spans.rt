@@ -1,6 +1,6 @@
 //! The spans of all neighbouring ranges, and the range of each block that is held.
 
-ghost use Rattle.std.specs.Prelude.{◌≡◌, ℕ, [], ◌+◌, ◌^◌, ◌<◌, ◌≤◌, ◌==◌, map, Some, None, OnOk, IfOk, if◌then◌else◌};
+ghost use Rattle.std.specs.Prelude.{◌≡◌, ℕ, [], ◌+◌, ◌^◌, ◌<◌, ◌≤◌, ◌==◌, map, Some, None, OnOk, OnErr, IfOk, if◌then◌else◌};
 ghost use Rattle.std.specs.Prelude.{nat_eq};
 ghost use Rattle.std.specs.HashMap.{get};
 ghost use Rattle.std.specs.List.{All, Contains};
@@ -111,6 +111,8 @@ impl Spans {
         requires few { All (λ span. span.live + 1 < 2 ^ 64) self.old.all.items }
         ensures spans { OnOk result (self.new.all.items ≡ map (with_block (range_of size) size) self.old.all.items) }
         ensures ranges { OnOk result ((other : ℕ) → get nat_eq self.new.ranges other ≡ (if address == other then Some (range_of size) else get nat_eq self.old.ranges other)) }
+        ensures spans_stay { OnErr result (self.new.all ≡ self.old.all) }
+        ensures ranges_stay { OnErr result ((other : ℕ) → get nat_eq self.new.ranges other ≡ get nat_eq self.old.ranges other) }
     {
         let range = range_of(size);
         self.ranges.insert(address.value(), range)?;

@@ -11,17 +11,6 @@ use crate::runs::run::put_findings;
 use crate::runs::status::RunFault;
 use mtrace_log::{Failed, Lines, Sink, Source};
 
-/// Why no more lines are followed.
-#[derive(Clone, Copy)]
-pub(crate) enum Stop {
-    // The reader failed, or a line past the last number would come.
-    Reader,
-    // The writer failed.
-    Writer,
-    // Memory was refused.
-    Memory,
-}
-
 /// Puts what is wrong with a line, and then nothing is. Answers whether anything was.
 #[inline(always)]
 fn put_found<W: Sink>(writer: &mut W, findings: &mut Findings) -> Result<bool, Failed>

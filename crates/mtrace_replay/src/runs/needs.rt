@@ -8,12 +8,12 @@ ghost use Rattle.mtrace_replay.specs.Asked.{greater_class};
 ghost use Rattle.mtrace_replay.specs.Run.{Runs};
 ghost use Rattle.mtrace_replay.specs.Started.{started};
 ghost use Rattle.mtrace_replay.specs.declared.heap.settings.Settings.{Settings};
-ghost use Rattle.mtrace_replay.specs.Needs.{of_one, block_bytes, BehindExchange, AreNeeds, status_with, EndsWithNeeds};
+ghost use Rattle.mtrace_replay.specs.Needs.{of_one, bytes_of_block, BehindExchange, AreNeeds, status_with, EndsWithNeeds};
 
-use crate::heap::asked::{Asked, rounded_bytes};
 use crate::heap::replay::{Replay, ReplayFault};
 use crate::heap::settings::Settings;
 use crate::heap::totals::Totals;
+use crate::held::asked::{Asked, rounded_bytes};
 use crate::held::findings::Findings;
 use crate::runs::following::read_log;
 use crate::runs::line_replay::LineReplay;
@@ -28,7 +28,7 @@ use tlsf_heap::Heap;
 /// Of the blocks held before it, `blocks` are left, of `bytes` bytes as asked for: all of them, or all but the one that it frees.
 fn less_freed(more: u64, blocks: u64, bytes: u64, old: Totals) -> u64
     ensures { (freed : Option Given) (exact : ℕ) → blocks + of_one (λ given. 1) freed ≡ old.live_blocks → bytes + of_one (λ given. given.entry.size) freed ≡ old.live_bytes
-        → exact + of_one block_bytes freed ≡ more → result ≡ exact }
+        → exact + of_one bytes_of_block freed ≡ more → result ≡ exact }
 {
     if blocks == old.live_blocks {
         return more;

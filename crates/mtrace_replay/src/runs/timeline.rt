@@ -8,12 +8,13 @@ ghost use Rattle.mtrace_replay.specs.Settings.{are_bad};
 ghost use Rattle.mtrace_replay.specs.Moment.{ReadLine};
 ghost use Rattle.mtrace_replay.specs.Replay.{StandsFor};
 ghost use Rattle.mtrace_replay.specs.Texts.{point_text, timeline_text};
-ghost use Rattle.mtrace_replay.specs.RunTimeline.{HasRoom, ReadsPoints, TimelineFollows, RunsTimeline};
+ghost use Rattle.mtrace_replay.specs.RunTimeline.{HasRoomForPoints, ReadsPoints, TimelineFollows, RunsTimeline};
 
 use crate::heap::point::{Point, point_after};
 use crate::heap::replay::{Replay, ReplayFault};
 use crate::heap::settings::Settings;
-use crate::held::line_text::{point_text, refused_text};
+use crate::heap::text::point_text;
+use crate::held::line_text::refused_text;
 use crate::held::lines::{InLine, put_lines};
 use crate::held::told::tell_lines;
 use crate::runs::flush::flush_behind;
@@ -84,7 +85,7 @@ struct Room {
 impl Room {
     /// Room for 0, the peak and this many parts. It takes memory twice.
     fn new(alloc: Global, parts: u32) -> Result<Room, AllocError>
-        ensures { IfOk result (λ room. HasRoom parts room.numbers room.points) }
+        ensures { IfOk result (λ room. HasRoomForPoints parts room.numbers room.points) }
     {
         let most = parts as usize + 2;
         Ok(Room {
@@ -107,7 +108,7 @@ fn tell_timeline<R: Again, W: Sink>(
     requires good { are_bad settings ≡ false }
     requires records { replay.old.content.records ≡ settings.records }
     requires some { 0 < parts }
-    requires room { HasRoom parts room.numbers room.points }
+    requires room { HasRoomForPoints parts room.numbers room.points }
     ensures answer { IfOk result (λ answered. answered ≡ status) }
     ensures told { (lines : List ReadLine) → StandsFor replay.old settings (reverse lines)
         → TimelineFollows settings parts lines result (course R.shown reader.old reader.new) (course W.shown writer.old writer.new) }
@@ -124,7 +125,7 @@ fn tell_timeline<R: Again, W: Sink>(
 
 /// Room for what is told, where the settings aren't bad.
 fn take_room(alloc: Global, settings: Settings, parts: u32) -> Result<Room, ReplayFault>
-    ensures room { IfOk result (λ room. HasRoom parts room.numbers room.points) }
+    ensures room { IfOk result (λ room. HasRoomForPoints parts room.numbers room.points) }
     ensures bad_settings { IsErrOf result ReplayFault.BadSettings ↔ IsTrue (are_bad settings) }
 {
     if settings.are_bad() {

@@ -8,7 +8,7 @@ use Rattle.mtrace_replay.specs.Gather.{Grouped, lent_origin}
 use Rattle.mtrace_replay.specs.Entry.{Entry}
 use Rattle.mtrace_replay.proofs.Told.SiteLemmas.Sorting.{ordered_from_sorted}
 use Rattle.mtrace_replay.proofs.Told.SiteLemmas.Exact.{sites_are}
-use Rattle.mtrace_replay.proofs.held.grouping.Grouping.group.Goals as goal
+use Rattle.mtrace_replay.proofs.heap.grouping.Grouping.group.Goals as goal
 
 abbrev now : Bor Entry → Entry
 now entry = entry.now

@@ -3,7 +3,7 @@ use Rattle.std.proofs.Common.{rules}
 use Rattle.mtrace_replay.specs.Sites.{Site}
 use Rattle.mtrace_replay.proofs.Told.SiteLemmas.Exact.{site_total}
 use Rattle.mtrace_replay.proofs.Told.SiteLemmas.Sorting.{sorted-from_sort_by}
-use Rattle.mtrace_replay.proofs.held.grouping.sort_sites.Goals as goal
+use Rattle.mtrace_replay.proofs.held.site.sort_sites.Goals as goal
 
 pub returns : goal.returns
 returns c = record {

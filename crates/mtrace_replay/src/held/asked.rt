@@ -52,7 +52,14 @@ impl Asked {
                 align: align.value(),
                 size: *size,
             },
-            _ => Asked { align: 0, size: 0 },
+            Ok(
+                Event::Start
+                | Event::End
+                | Event::Free { .. }
+                | Event::Old { .. }
+                | Event::Failed { .. },
+            )
+            | Err(_) => Asked { align: 0, size: 0 },
         }
     }
 

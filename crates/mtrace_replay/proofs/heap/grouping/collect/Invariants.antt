@@ -1,5 +1,5 @@
 use Rattle.std.proofs.Common.{◌≡◌, ◌≤◌, ◌+◌, ◌++◌, vec_len, vec_capacity, length, map}
-use Rattle.mtrace_replay.proofs.held.grouping.collect.Given as goal
+use Rattle.mtrace_replay.proofs.heap.grouping.collect.Given as goal
 
 -- the entries so far, and those to come
 abbrev pub invariant-loop-entry : goal.invariant-loop-entry

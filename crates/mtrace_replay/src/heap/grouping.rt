@@ -2,13 +2,13 @@
 
 ghost use Rattle.std.specs.Prelude.{◌≡◌, ◌+◌, ◌^◌, ◌<◌, ◌≤◌, [], map, length, reverse, vec_len, vec_capacity, IfOk};
 ghost use Rattle.std.specs.List.{All};
-ghost use Rattle.mtrace_replay.specs.Sites.{origin_cmp, site_cmp, AreSites};
+ghost use Rattle.mtrace_replay.specs.Sites.{origin_cmp, AreSites};
 ghost use Rattle.mtrace_replay.specs.Gather.{onto, gather, lent_origin, Sorts};
 ghost use Rattle.mtrace_replay.specs.Texts.{total_size};
 
 use crate::heap::index::Entries;
 use crate::held::entry::Entry;
-use crate::held::site::{Site, compare_locations, location_bytes};
+use crate::held::site::{Site, compare_locations, location_bytes, sort_sites};
 use std::alloc::{AllocError, Global};
 use std::marker::Model;
 
@@ -19,13 +19,6 @@ fn sort_entries(entries: &mut Vec<&Entry>)
     entries.sort_unstable_by(|a, b| {
         compare_locations(location_bytes(&a.at), location_bytes(&b.at))
     });
-}
-
-/// Sorts sites into their order.
-pub(crate) fn sort_sites(sites: &mut Vec<Site<'_>>)
-    ensures { Sorts (λ site. site) site_cmp sites.old sites.new }
-{
-    sites.sort_unstable_by(|a, b| a.compare(b));
 }
 
 /// The entry joins the last site, where it has its location, or begins one.

@@ -1,6 +1,6 @@
 use Rattle.std.proofs.Common.{◌≡◌, ◌≤◌, ◌+◌, vec_len, vec_capacity, length, map, drop, reverse}
 use Rattle.mtrace_replay.specs.Gather.{gather}
-use Rattle.mtrace_replay.proofs.held.grouping.gather_sites.Given as goal
+use Rattle.mtrace_replay.proofs.heap.grouping.gather_sites.Given as goal
 
 -- the sites of the entries that are gone through
 abbrev pub invariant-loop-left : goal.invariant-loop-left

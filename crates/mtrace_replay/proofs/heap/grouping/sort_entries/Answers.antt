@@ -3,7 +3,7 @@ use Rattle.std.proofs.Common.{rules}
 use Rattle.mtrace_replay.specs.Gather.{lent_origin}
 use Rattle.mtrace_replay.proofs.Told.SiteLemmas.Origins.{origin_total}
 use Rattle.mtrace_replay.proofs.Told.SiteLemmas.Sorting.{sorted-from_sort_by}
-use Rattle.mtrace_replay.proofs.held.grouping.sort_entries.Goals as goal
+use Rattle.mtrace_replay.proofs.heap.grouping.sort_entries.Goals as goal
 
 pub returns : goal.returns
 returns c = record {

@@ -6,7 +6,7 @@ use Rattle.mtrace_replay.specs.Sites.{Site}
 use Rattle.mtrace_replay.specs.Entry.{Entry}
 use Rattle.mtrace_replay.proofs.Told.SiteLemmas.Gathered.{gather_small}
 use Rattle.mtrace_replay.proofs.Told.SiteLemmas.Sorting.{small_sites, part_sum}
-use Rattle.mtrace_replay.proofs.held.grouping.gather_sites.Goals as goal
+use Rattle.mtrace_replay.proofs.heap.grouping.gather_sites.Goals as goal
 
 pub join-requires-clause-blocks : goal.join-requires-clause-blocks
 join-requires-clause-blocks c k d lt =
