@@ -7,7 +7,8 @@
    IO_WAIT=N,N..   the N-th read begins 1.2 seconds later
    IO_COUNT=FILE   at the end FILE gets the number of reads and the number of writes
    IO_GROW=FILE    behind call IO_GROW_AT a line is appended to FILE
-   IO_CUT=FILE     behind call IO_CUT_AT FILE is cut to IO_CUT_TO bytes */
+   IO_CUT=FILE     behind call IO_CUT_AT FILE is cut to IO_CUT_TO bytes
+   IO_NO_RANDOM=E  there are no random bytes, for this error */
 #define _GNU_SOURCE
 #include <dlfcn.h>
 #include <errno.h>
@@ -88,6 +89,17 @@ ssize_t write(int file, const void *bytes, size_t count) {
         most = next(file, bytes, most);
     end();
     return most;
+}
+
+int getentropy(void *bytes, size_t count) {
+    static int (*next)(void *, size_t);
+    if (getenv("IO_NO_RANDOM") != NULL) {
+        errno = (int)number_of("IO_NO_RANDOM");
+        return -1;
+    }
+    if (next == NULL)
+        next = dlsym(RTLD_NEXT, "getentropy");
+    return next(bytes, count);
 }
 
 __attribute__((destructor)) static void tell_count(void) {

@@ -128,6 +128,12 @@ class System {
     return offset;
   }
 
+  // Random bytes, of which a call asks for at most 256.
+  random(place, count) {
+    crypto.getRandomValues(this.bytes(place, count));
+    return 0;
+  }
+
   time(place) {
     const now = performance.now(), view = new DataView(this.memory.buffer, Number(place) >>> 0, 16);
     view.setBigInt64(0, BigInt(Math.floor(now / 1000)), true);
@@ -148,6 +154,7 @@ class System {
       read: (number, place, room) => this.read(number, place, room),
       write: (number, place, count) => this.write(number, place, count),
       lseek: (number, offset, from) => this.seek(number, offset, from),
+      getentropy: (place, count) => this.random(place, count),
       clock_gettime: (clock, place) => this.time(place),
       __xpg_strerror_r: (number, place, room) => this.tellFault(number, place, room),
       ...Object.fromEntries(REFUSED_CALLS.map((name) => [name, () => this.refuse("ENOSYS")])),

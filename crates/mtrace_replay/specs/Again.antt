@@ -14,7 +14,8 @@ use Rattle.mtrace_replay.specs.declared.runs.status.Status.{Status}
 use Rattle.mtrace_replay.specs.declared.runs.status.RunFault.{RunFault}
 use Rattle.mtrace_replay.specs.declared.runs.status.RunFault.TheVariants.{Read, Write}
 use Rattle.mtrace_replay.specs.Saving.{PutsAndFlushes}
-use Rattle.mtrace_replay.specs.Run.{Reports, Runs, NothingDone, FailedInPiece}
+use Rattle.mtrace_replay.specs.Run.{Reports, Runs, NothingDone}
+use Rattle.mtrace_replay.specs.Following.{FailedInPiece}
 use Rattle.mtrace_log.specs.declared.call.Call.TheVariants.{Began, Failed}
 
 -- The first lines of a text were read, this many. Unused are the bytes that were asked of the reader and belong to none of

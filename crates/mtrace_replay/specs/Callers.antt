@@ -10,7 +10,7 @@ use Rattle.mtrace_replay.specs.Moment.{ReadLine, Given, Moment}
 use Rattle.mtrace_replay.specs.History.{held}
 use Rattle.mtrace_replay.specs.Sites.{Origin, origin_cmp, blocks_at, bytes_at}
 use Rattle.mtrace_replay.specs.Texts.{total_size}
-use Rattle.mtrace_replay.specs.declared.no_heap.count.Count.{Count}
+use Rattle.mtrace_replay.specs.declared.held.count.Count.{Count}
 use Rattle.mtrace_replay.specs.Calls.{Caller, Called, called_at}
 
 -- the calls with the entry in front that was given a block, if one was

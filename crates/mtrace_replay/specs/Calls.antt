@@ -3,7 +3,7 @@ use Rattle.std.specs.Prelude.{◌≡◌, ℕ, ◌+◌, ◌==◌, Bool, false, Li
 use Rattle.std.specs.List.{sum_by}
 use Rattle.mtrace_replay.specs.Entry.{Entry}
 use Rattle.mtrace_replay.specs.Sites.{Origin, weigh}
-use Rattle.mtrace_replay.specs.declared.no_heap.count.Count.{Count}
+use Rattle.mtrace_replay.specs.declared.held.count.Count.{Count}
 
 -- what one origin asked for: how many calls, of how many bytes, and how many of them were temporary
 pub record Caller : Type 0 where

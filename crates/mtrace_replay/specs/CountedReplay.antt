@@ -1,5 +1,5 @@
 -- A replay that counts the blocks held of each span of sizes.
-use Rattle.std.specs.Prelude.{◌≡◌, ℕ, Bool, true, false, List, ◌∷◌, length, Result, OnOk}
+use Rattle.std.specs.Prelude.{◌≡◌, ℕ, Bool, true, false, List, ◌∷◌, ◌++◌, length, Result, OnOk}
 use Rattle.mtrace_replay.specs.declared.held.diagnostic.Diagnostic.{Diagnostic}
 use Rattle.mtrace_replay.specs.declared.parts.change.Change.{Change}
 use Rattle.mtrace_replay.specs.declared.parts.replay.CountedReplay.{CountedReplay}
@@ -7,7 +7,7 @@ use Rattle.mtrace_replay.specs.Moment.{ReadLine}
 use Rattle.mtrace_replay.specs.History.{held, pending}
 use Rattle.mtrace_replay.specs.Totals.{is_served}
 use Rattle.mtrace_replay.specs.Asked.{class_asked}
-use Rattle.mtrace_replay.specs.Served.{served_moment, served_moments, IsServed, added_served}
+use Rattle.mtrace_replay.specs.Served.{served_moment, served_moments, IsServed, served_noted}
 use Rattle.mtrace_replay.specs.Spans.{released_by, address_asked, AreCountedOf, AreFew}
 use Rattle.mtrace_replay.specs.LineReplay.{LineRules}
 
@@ -23,7 +23,7 @@ pub record IsChangeOf (change : Change) (served : Bool) (line : ReadLine) (past 
 pub record FeedsCounted {E : Type 0} (number : ℕ) (line : ReadLine) (diagnostics : List Diagnostic) (result : Result (Unit {0}) E) (old new : CountedReplay) : Type 0 where
   pub stands : OnOk result ((past : List ReadLine) → IsServed old.ledger past → IsServed new.ledger (line ∷ past))
   pub spans : OnOk result ((past : List ReadLine) → IsServed old.ledger past → AreCountedOf past old.spans → AreCountedOf (line ∷ past) new.spans)
-  pub told : OnOk result ((past : List ReadLine) → IsServed old.ledger past → diagnostics ≡ added_served line past)
+  pub told : OnOk result ((past : List ReadLine) → IsServed old.ledger past → served_noted (line ∷ past) ≡ served_noted past ++ diagnostics)
   pub counted : OnOk result (new.ledger.lines ≡ number)
   pub few : OnOk result (AreFew number new.spans)
 
@@ -32,7 +32,7 @@ abbrev pub counted_rules : LineRules CountedReplay
 counted_rules = record {
   Start = Unit {0};
   Stands = λ start replay past. IsServed replay.ledger past × AreCountedOf past replay.spans;
-  added = λ start. added_served;
+  noted = λ start past. served_noted past;
   lines = λ replay. replay.ledger.lines;
   IsReady = λ replay. AreFew replay.ledger.lines replay.spans;
   fixed = λ replay. 0;

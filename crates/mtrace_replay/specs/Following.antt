@@ -1,78 +1,119 @@
 -- What a call leaves that reads the lines of a log, replays them, and puts what is wrong with each.
-use Rattle.std.specs.Prelude.{◌≡◌, ◌≢◌, ◌⊎◌, ℕ, Bool, List, [], ◌∷◌, ◌++◌, reverse, Result, Err, IfOk, OnOk, IsErrOf}
-use Rattle.mtrace_log.specs.HasRead.{HasReadAll}
+use Rattle.std.specs.Prelude.{◌≡◌, ◌⊎◌, ℕ, Bool, true, false, List, [], ◌∷◌, ◌++◌, length, reverse, Result, Ok, Err}
+use Rattle.std.specs.Io.KnownBytes.{prepend_known}
+use Rattle.mtrace_log.specs.HasRead.{HasRead, HasReadAll, HasReadBefore}
+use Rattle.mtrace_log.specs.Progress.{HasMore, greatest_number}
 use Rattle.mtrace_log.specs.Shown.{ReaderState, WriterState}
 use Rattle.mtrace_log.specs.Output.{Wrote, Begins}
-use Rattle.mtrace_log.specs.Trace.{HasGivenAll, HasNotFailed, HasTaken, HasTakenAndFailed}
+use Rattle.mtrace_log.specs.Trace.{HasGiven, HasGivenAll, HasGivenAndFailed, HasNotFailed, HasTaken, HasTakenAndFlushed, HasFailedToWrite, FlushWasAsked}
 use Rattle.mtrace_replay.specs.declared.held.diagnostic.Diagnostic.{Diagnostic}
-use Rattle.mtrace_replay.specs.declared.runs.following.Stop.{Stop}
-use Rattle.mtrace_replay.specs.declared.runs.following.Stop.TheVariants.{Reader, Writer, Memory}
+use Rattle.mtrace_replay.specs.declared.runs.status.RunFault.{RunFault}
+use Rattle.mtrace_replay.specs.declared.runs.status.RunFault.TheVariants.{Read, Write, OutOfMemory}
 use Rattle.mtrace_replay.specs.Moment.{ReadLine}
 use Rattle.mtrace_replay.specs.Texts.{diagnostics_text}
-use Rattle.mtrace_replay.specs.Run.{with_unused, FailedInPiece, IsPastLastNumber, HasReadThese, has_some}
-use Rattle.mtrace_replay.specs.LineReplay.{LineRules, noted}
+use Rattle.mtrace_replay.specs.LineReplay.{LineRules}
 
--- the text of the diagnostics of lines, the latest of which comes first
-abbrev pub noted_text : (added : ReadLine → List ReadLine → List Diagnostic) → List ReadLine → List ℕ
-noted_text added past = diagnostics_text (noted added past)
+-- the reader, with bytes that were asked of it and belong to no line put back in front
+abbrev pub with_unused : List ℕ → ReaderState → ReaderState
+with_unused unused reader = record reader { left = prepend_known unused reader.left }
 
--- one line more was followed, and its diagnostics were written
-pub record LineFollowed (Stands : List ReadLine → Type 0) (added : List Diagnostic) (line : ReadLine) (past : List ReadLine) (has_diagnostics : Bool) (writer_old writer_new : WriterState) : Type 0 where
-  pub stands : Stands (line ∷ past)
-  pub wrote : Wrote writer_old writer_new (diagnostics_text added)
-  pub has_diagnostics_is : has_diagnostics ≡ has_some added
+-- as many lines were read as there are numbers, more is to come, and the reader has not failed
+pub record IsPastLastNumber (reader_old reader_new : ReaderState) (lines : List ReadLine) : Type 0 where
+  pub count : length lines ≡ greatest_number
+  pub read : HasRead reader_old.left reader_new.left lines
+  pub more : HasMore reader_new.left
+  pub given : HasGiven reader_old.calls reader_new.calls
 
--- one line more was followed, and its diagnostics were begun
-pub record LineBegun (Stands : List ReadLine → Type 0) (added : List Diagnostic) (line : ReadLine) (past : List ReadLine) (writer_old writer_new : WriterState) : Type 0 where
-  pub stands : Stands (line ∷ past)
-  pub begun : Begins writer_old writer_new (diagnostics_text added)
+-- the reader failed, once and last: whole lines were read, and perhaps a piece of the next one, which is lost
+abbrev pub FailedInPiece : (reader_old reader_new : ReaderState) → List ReadLine → Type 0
+FailedInPiece reader_old reader_new lines = HasReadBefore reader_old.left reader_new.left lines × HasGivenAndFailed reader_old.calls reader_new.calls
+
+-- the lines were read, and perhaps to the end of the log
+abbrev pub HasReadThese : (reader_old reader_new : ReaderState) → List ReadLine → Type 0
+HasReadThese reader_old reader_new lines = HasRead reader_old.left reader_new.left lines ⊎ HasReadAll reader_old.left reader_new.left lines
+
+-- whether the list has an item
+abbrev pub has_some : {A : Type 0} → List A → Bool
+has_some [] = false
+has_some (first ∷ more) = true
+
+-- the text of the diagnostics of lines, the first line first
+abbrev pub noted_text : (noted : List ReadLine → List Diagnostic) → List ReadLine → List ℕ
+noted_text noted lines = diagnostics_text (noted (reverse lines))
 
 -- all lines of the log were read and followed, and their diagnostics were written
-pub record HasFollowed (Stands : List ReadLine → Type 0) (added : ReadLine → List ReadLine → List Diagnostic) (has_diagnostics : Bool) (reader_old reader_new : ReaderState) (writer_old writer_new : WriterState) : Type 0 where
+pub record HasFollowed (Stands : List ReadLine → Type 0) (noted : List ReadLine → List Diagnostic) (has_diagnostics : Bool) (reader_old reader_new : ReaderState) (writer_old writer_new : WriterState) : Type 0 where
   pub lines : List ReadLine
   pub read : HasReadAll reader_old.left reader_new.left lines
   pub stands : Stands (reverse lines)
-  pub wrote : Wrote writer_old writer_new (noted_text added (reverse lines))
-  pub has_diagnostics_is : has_diagnostics ≡ has_some (noted added (reverse lines))
+  pub wrote : Wrote writer_old writer_new (noted_text noted lines)
+  pub has_diagnostics_is : has_diagnostics ≡ has_some (noted (reverse lines))
 
--- The reader failed, or a line past the last number would come. The diagnostics of the lines read were written. In the second case
--- unused are the bytes that were asked of the reader and belong to no line that was read.
-pub record StopsReading (added : ReadLine → List ReadLine → List Diagnostic) (reader_old reader_new : ReaderState) (writer_old writer_new : WriterState) : Type 0 where
+-- The reader failed, or a line past the last number would come. In the second case unused are the bytes that were
+-- asked of the reader and belong to no line that was read. The diagnostics of the lines read were written.
+pub record StopsReading (noted : List ReadLine → List Diagnostic) (reader_old reader_new : ReaderState) (writer_old writer_new : WriterState) : Type 0 where
   pub lines : List ReadLine
   pub reason : FailedInPiece reader_old reader_new lines
       ⊎ ((unused : List ℕ) × IsPastLastNumber reader_old (with_unused unused reader_new) lines)
-  pub wrote : Wrote writer_old writer_new (noted_text added (reverse lines))
+  pub wrote : Wrote writer_old writer_new (noted_text noted lines)
 
 -- The writer failed, after a beginning of the diagnostics of the lines read. Unused are the bytes that were asked of the reader and
 -- belong to no line that was read.
-pub record StopsWriting (Stands : List ReadLine → Type 0) (added : ReadLine → List ReadLine → List Diagnostic) (reader_old reader_new : ReaderState) (writer_old writer_new : WriterState) : Type 0 where
+pub record StopsWriting (Stands : List ReadLine → Type 0) (noted : List ReadLine → List Diagnostic) (reader_old reader_new : ReaderState) (writer_old writer_new : WriterState) : Type 0 where
   pub lines : List ReadLine
   pub unused : List ℕ
   pub read : HasReadThese reader_old (with_unused unused reader_new) lines
   pub stands : Stands (reverse lines)
-  pub begun : Begins writer_old writer_new (noted_text added (reverse lines))
+  pub begun : Begins writer_old writer_new (noted_text noted lines)
 
--- Memory was refused, at the line behind these. Their diagnostics were written. Unused are the bytes that were asked of the reader
--- and belong to no line that was read.
-pub record StopsWanting (added : ReadLine → List ReadLine → List Diagnostic) (reader_old reader_new : ReaderState) (writer_old writer_new : WriterState) : Type 0 where
+-- Memory was refused, at the line behind these, or behind the last one of the log. The diagnostics of these lines were written.
+-- Unused are the bytes that were asked of the reader and belong to no line that was read.
+pub record StopsWanting (noted : List ReadLine → List Diagnostic) (reader_old reader_new : ReaderState) (writer_old writer_new : WriterState) : Type 0 where
   pub lines : List ReadLine
   pub unused : List ℕ
-  pub line : ReadLine
-  pub read : HasReadThese reader_old (with_unused unused reader_new) (lines ++ line ∷ [])
-  pub wrote : Wrote writer_old writer_new (noted_text added (reverse lines))
+  pub reason : ((line : ReadLine) × HasReadThese reader_old (with_unused unused reader_new) (lines ++ line ∷ []))
+      ⊎ HasReadAll reader_old.left reader_new.left lines
+  pub wrote : Wrote writer_old writer_new (noted_text noted lines)
 
--- What a call leaves that reads and follows all lines and puts what is wrong with each, unless the reader or the writer fails, or
--- memory is refused.
-pub record FollowsLines {R : Type 0} (rules : LineRules R) (result : Result Bool Stop) (old new : R) (reader_old reader_new : ReaderState) (writer_old writer_new : WriterState) : Type 0 where
-  pub done : IfOk result (λ has_diagnostics. (start : rules.Start) → rules.Stands start old []
-      → HasFollowed (rules.Stands start new) (rules.added start) has_diagnostics reader_old reader_new writer_old writer_new)
+-- all of the log was read, and the whole text was written and flushed
+pub record RunsToEnd (Finished : Type 0) (reader_old reader_new : ReaderState) (writer_old writer_new : WriterState) : Type 0 where
+  pub finished : Finished
+  pub reader_ended : HasGivenAll reader_old.calls reader_new.calls
+  pub writer_flushed : HasTakenAndFlushed writer_old.calls writer_new.calls
+
+-- the reading stopped, and then the writer was asked to flush
+pub record RunsToRead (noted : List ReadLine → List Diagnostic) (reader_old reader_new : ReaderState) (writer_old writer_new : WriterState) : Type 0 where
+  pub read_fault : StopsReading noted reader_old reader_new writer_old writer_new
+  pub flush_asked : FlushWasAsked writer_old.calls writer_new.calls
+
+-- the writer failed, and the reader did not
+pub record RunsToWrite (Stops : Type 0) (reader_old reader_new : ReaderState) (writer_old writer_new : WriterState) : Type 0 where
+  pub write_fault : Stops
+  pub writer_failed : HasFailedToWrite writer_old.calls writer_new.calls
+  pub reader_not_failed : HasNotFailed reader_old.calls reader_new.calls
+
+-- memory was refused, and then the writer was asked to flush; the reader did not fail
+pub record RunsToMemory (noted : List ReadLine → List Diagnostic) (reader_old reader_new : ReaderState) (writer_old writer_new : WriterState) : Type 0 where
+  pub memory : StopsWanting noted reader_old reader_new writer_old writer_new
+  pub flush_asked : FlushWasAsked writer_old.calls writer_new.calls
+  pub reader_not_failed : HasNotFailed reader_old.calls reader_new.calls
+
+-- how a reading of a whole log ended, by its answer, which is never `BadSettings` or `Image`
+abbrev pub ReadEnds : (Stands : List ReadLine → Type 0) (noted : List ReadLine → List Diagnostic) (Lacks : Type 0)
+    → Result Bool RunFault → (reader_old reader_new : ReaderState) (writer_old writer_new : WriterState) → Type 0
+ReadEnds Stands noted Lacks (Ok has_diagnostics) reader_old reader_new writer_old writer_new =
+    HasFollowed Stands noted has_diagnostics reader_old reader_new writer_old writer_new
+    × HasGivenAll reader_old.calls reader_new.calls × HasTaken writer_old.calls writer_new.calls
+ReadEnds Stands noted Lacks (Err Read) reader_old reader_new writer_old writer_new = RunsToRead noted reader_old reader_new writer_old writer_new
+ReadEnds Stands noted Lacks (Err Write) reader_old reader_new writer_old writer_new =
+    RunsToWrite (StopsWriting Stands noted reader_old reader_new writer_old writer_new) reader_old reader_new writer_old writer_new
+ReadEnds Stands noted Lacks (Err OutOfMemory) reader_old reader_new writer_old writer_new =
+    RunsToMemory noted reader_old reader_new writer_old writer_new × Lacks
+ReadEnds Stands noted Lacks (Err _) reader_old reader_new writer_old writer_new = ⊥
+
+-- what a call leaves that reads and follows a whole log from no line on, and puts what is wrong with its lines
+pub record ReadsLog {R : Type 0} (rules : LineRules R) (result : Result Bool RunFault) (old new : R) (reader_old reader_new : ReaderState) (writer_old writer_new : WriterState) : Type 0 where
+  pub ends : (start : rules.Start) → rules.Stands start old [] → rules.noted start [] ≡ []
+      → ReadEnds (rules.Stands start new) (rules.noted start) rules.Lacks result reader_old reader_new writer_old writer_new
   pub whole : reader_new.whole ≡ reader_old.whole
   pub fixed : rules.fixed new ≡ rules.fixed old
-  pub reader_ended : OnOk result (HasGivenAll reader_old.calls reader_new.calls)
-  pub reader_not_failed : result ≢ Err Reader → HasNotFailed reader_old.calls reader_new.calls
-  pub writer_took : result ≢ Err Writer → HasTaken writer_old.calls writer_new.calls
-  pub writer_failed : IsErrOf result Writer → HasTakenAndFailed writer_old.calls writer_new.calls
-  pub read : IsErrOf result Reader → (start : rules.Start) → rules.Stands start old [] → StopsReading (rules.added start) reader_old reader_new writer_old writer_new
-  pub write : IsErrOf result Writer → (start : rules.Start) → rules.Stands start old [] → StopsWriting (rules.Stands start new) (rules.added start) reader_old reader_new writer_old writer_new
-  pub lacks : IsErrOf result Memory → rules.Lacks
-  pub memory : IsErrOf result Memory → (start : rules.Start) → rules.Stands start old [] → StopsWanting (rules.added start) reader_old reader_new writer_old writer_new

@@ -1,8 +1,8 @@
 -- What the lines of a log do, one after the other. The latest line comes first, but for `history` and `diagnostics`.
-use Rattle.std.specs.Prelude.{◌≡◌, ℕ, List, [], ◌∷◌, ◌++◌, length, map, reverse, ◌↔◌, Option, Some, None, Ok, if◌then◌else◌, ◌==◌}
+use Rattle.std.specs.Prelude.{◌≡◌, ℕ, List, [], ◌∷◌, ◌++◌, length, map, reverse, ◌↔◌, Option, Some, None, Ok, Err, if◌then◌else◌, ◌==◌}
 use Rattle.std.specs.List.{Contains}
 use Rattle.std.specs.List.Sorted.{IsStrictlyIncreasing}
-use Rattle.mtrace_log.specs.declared.event.Event.TheVariants.{Old}
+use Rattle.mtrace_log.specs.declared.event.Event.TheVariants.{Start, End, Alloc, Free, Old, New, Failed, Aligned}
 use Rattle.mtrace_replay.specs.Entry.{Entry}
 use Rattle.mtrace_replay.specs.declared.held.diagnostic.Diagnostic.{Diagnostic}
 use Rattle.mtrace_replay.specs.declared.heap.settings.Settings.{Settings}
@@ -35,8 +35,15 @@ content_after start (moment ∷ past) = moment.content
 
 -- the address of a line `<`
 abbrev pub old_address : ReadLine → Option ℕ
+old_address (Err fault) = None
+old_address (Ok Start) = None
+old_address (Ok End) = None
+old_address (Ok (Alloc at address size)) = None
+old_address (Ok (Free at address)) = None
 old_address (Ok (Old at address)) = Some address
-old_address _ = None
+old_address (Ok (New at address size)) = None
+old_address (Ok (Failed at address size)) = None
+old_address (Ok (Aligned at address align size)) = None
 
 -- the address of the last line, where that is `<`
 abbrev pub pending : List ReadLine → Option ℕ

@@ -26,8 +26,8 @@ in_order [] = []
 in_order (entry ∷ rest) = put_in_order entry (in_order rest)
 
 -- what is held under an address
-abbrev pub held_at : List Entry → ℕ → Option Entry
-held_at all address = find (λ entry. entry.addr == address) all
+abbrev pub entry_under : List Entry → ℕ → Option Entry
+entry_under all address = find (λ entry. entry.addr == address) all
 
 -- what is kept of an address: its size is a number of 64 bits, and its location is there
 pub record IsKept (locations : List (List ℕ)) (held : Kept) : Type 0 where

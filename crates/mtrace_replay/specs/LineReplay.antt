@@ -1,5 +1,5 @@
 -- What every replay of a log's lines says of itself.
-use Rattle.std.specs.Prelude.{◌≡◌, ℕ, List, [], ◌∷◌, ◌++◌, Result, OnOk, OnErr}
+use Rattle.std.specs.Prelude.{◌≡◌, ℕ, List, ◌∷◌, ◌++◌, Result, OnOk, OnErr}
 use Rattle.mtrace_replay.specs.declared.held.diagnostic.Diagnostic.{Diagnostic}
 use Rattle.mtrace_replay.specs.Moment.{ReadLine}
 
@@ -8,8 +8,8 @@ pub record LineRules (R : Type 0) : Type 1 where
   pub Start : Type 0
   -- it stands for these lines, the latest first
   pub Stands : Start → R → List ReadLine → Type 0
-  -- the diagnostics that a line adds to those of the lines before it, the latest of which comes first
-  pub added : Start → ReadLine → List ReadLine → List Diagnostic
+  -- all diagnostics of lines in the order found, where the latest line comes first
+  pub noted : Start → List ReadLine → List Diagnostic
   -- how many lines there were
   pub lines : R → ℕ
   -- it can take one more line
@@ -19,15 +19,10 @@ pub record LineRules (R : Type 0) : Type 1 where
   -- it may lack memory
   pub Lacks : Type 0
 
--- the diagnostics of lines in the order found, where each adds these to those before it
-abbrev pub noted : (added : ReadLine → List ReadLine → List Diagnostic) → List ReadLine → List Diagnostic
-noted added [] = []
-noted added (line ∷ past) = noted added past ++ added line past
-
 -- the line of this number was taken, unless memory was refused
 pub record TakesLine {R E : Type 0} (rules : LineRules R) (number : ℕ) (line : ReadLine) (diagnostics : List Diagnostic) (result : Result (Unit {0}) E) (old new : R) : Type 0 where
   pub stands : OnOk result ((start : rules.Start) (past : List ReadLine) → rules.Stands start old past → rules.Stands start new (line ∷ past))
-  pub told : OnOk result ((start : rules.Start) (past : List ReadLine) → rules.Stands start old past → diagnostics ≡ rules.added start line past)
+  pub told : OnOk result ((start : rules.Start) (past : List ReadLine) → rules.Stands start old past → rules.noted start (line ∷ past) ≡ rules.noted start past ++ diagnostics)
   pub counted : OnOk result (rules.lines new ≡ number)
   pub ready : OnOk result (rules.IsReady new)
   pub fixed : rules.fixed new ≡ rules.fixed old

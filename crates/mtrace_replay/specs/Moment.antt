@@ -1,7 +1,7 @@
 -- What one line of a log asks for, by the line before it and by what is held: its plan. What that leaves, on what the heap holds.
 use Rattle.std.specs.Prelude.{ℕ, suc, Bool, true, false, not, ◌&&◌, List, [], ◌∷◌, ◌++◌, is_some, unwrap_or, Option, Some, None, Result, Ok, Err, if◌then◌else◌, ◌==◌}
 use Rattle.mtrace_log.specs.Event.{Event}
-use Rattle.mtrace_log.specs.declared.event.Event.TheVariants.{Alloc, Free, New, Aligned}
+use Rattle.mtrace_log.specs.declared.event.Event.TheVariants.{Start, End, Alloc, Free, Old, New, Failed, Aligned}
 use Rattle.mtrace_log.specs.declared.event.LineFault.{LineFault}
 use Rattle.mtrace_log.specs.declared.event.LineFault.TheVariants as fault
 use Rattle.mtrace_replay.specs.Entry.{Entry}
@@ -81,7 +81,11 @@ plan number (Ok (Alloc at (Some address) size)) pending held = allocation (recor
 plan number (Ok (Aligned at address align size)) pending held = allocation (record { addr = address; size = size; line = number; at = at }) (Some align) (held address)
 plan number (Ok (Free at address)) pending held = release number address (held address)
 plan number (Ok (New at address size)) pending held = renewal (record { addr = address; size = size; line = number; at = at }) pending held
-plan number (Ok _) pending held = doing idle
+plan number (Ok (Alloc at None size)) pending held = doing idle
+plan number (Ok (Old at address)) pending held = doing idle
+plan number (Ok (Failed at address size)) pending held = doing idle
+plan number (Ok Start) pending held = doing idle
+plan number (Ok End) pending held = doing idle
 
 -- whether the heap is asked
 abbrev pub acts : Act → Bool
@@ -150,8 +154,15 @@ outcome number line pending held content = carried_out (plan number line pending
 
 -- whether a line is `>`
 abbrev pub is_new : ReadLine → Bool
+is_new (Err fault) = false
+is_new (Ok Start) = false
+is_new (Ok End) = false
+is_new (Ok (Alloc at address size)) = false
+is_new (Ok (Free at address)) = false
+is_new (Ok (Old at address)) = false
 is_new (Ok (New at address size)) = true
-is_new _ = false
+is_new (Ok (Failed at address size)) = false
+is_new (Ok (Aligned at address align size)) = false
 
 -- the line of this number is `<`, where an address is pending, and no `>` follows
 abbrev pub half : ℕ → Option ℕ → List Diagnostic

@@ -15,7 +15,7 @@ use Rattle.mtrace_replay.specs.History.{moments}
 use Rattle.mtrace_replay.specs.Totals.{blocks_in, rounded_bytes_in, Measures, IsMost}
 use Rattle.mtrace_replay.specs.Asked.{greatest_class}
 use Rattle.mtrace_replay.specs.LineReplay.{LineRules}
-use Rattle.mtrace_replay.specs.Replay.{added_diagnostics, StandsFor}
+use Rattle.mtrace_replay.specs.Replay.{heap_notes, StandsFor}
 use Rattle.mtrace_replay.specs.Run.{EndsAt}
 
 -- a measure of what was given or freed, 0 where nothing was
@@ -24,8 +24,8 @@ of_one measure None = 0
 of_one measure (Some given) = measure given
 
 -- the bytes of the block of what is held
-abbrev pub block_bytes : Given → ℕ
-block_bytes given = rounded_bytes given.entry.size
+abbrev pub bytes_of_block : Given → ℕ
+bytes_of_block given = rounded_bytes given.entry.size
 
 -- by the sums before and after, what is held lost `freed` and got `given`, of `asked` bytes; either may be none
 pub record Exchanges (asked : ℕ) (old new : Totals) (freed given : Option Given) : Type 0 where
@@ -39,7 +39,7 @@ pub record Exchanges (asked : ℕ) (old new : Totals) (freed given : Option Give
 -- the bytes of the blocks held behind an exchange, by those before it
 abbrev pub BehindExchange : (asked : ℕ) (old new : Totals) (before behind : ℕ) → Type 0
 BehindExchange asked old new before behind = (freed given : Option Given) (exact : ℕ) → Exchanges asked old new freed given → before + greatest_size < 2 ^ 64
-    → exact + of_one block_bytes freed ≡ of_one block_bytes given + before → behind ≡ exact
+    → exact + of_one bytes_of_block freed ≡ of_one bytes_of_block given + before → behind ≡ exact
 
 -- the needs are those of the lines, of which the latest comes first
 pub record AreNeeds (start : Bare) (past : List ReadLine) (needs : Needs) : Type 0 where
@@ -53,7 +53,7 @@ abbrev pub needs_rules : LineRules NeedsReplay
 needs_rules = record {
   Start = Settings;
   Stands = λ settings replay past. StandsFor replay.replay settings past × AreNeeds (started settings) past replay.needs;
-  added = added_diagnostics;
+  noted = heap_notes;
   lines = λ replay. replay.replay.totals.lines;
   IsReady = λ replay. Unit {0};
   fixed = λ replay. replay.replay.content.records;

@@ -11,7 +11,7 @@ use Rattle.mtrace_replay.specs.Started.{Bare, started}
 use Rattle.mtrace_replay.specs.Step.{held_given}
 use Rattle.mtrace_replay.specs.Totals.{AreTotals}
 use Rattle.mtrace_replay.specs.Moment.{ReadLine, Given, plan, acts, half}
-use Rattle.mtrace_replay.specs.History.{AreHeld, next_moment, moments, content_after, pending, entries_of}
+use Rattle.mtrace_replay.specs.History.{AreHeld, next_moment, moments, notes, content_after, pending, entries_of}
 use Rattle.mtrace_replay.specs.LineReplay.{LineRules}
 
 -- a replay: the heap's content, how often it was touched, how many addresses were compared, and the totals. `given`
@@ -75,12 +75,16 @@ pub record TellsEnd {N : Type 0} (lacks : Type 0) (items : N → List Diagnostic
   pub memory : OnErr result lacks
   pub works : OnOk result (replay.out_of_memory ≡ false)
 
+-- all diagnostics of lines, of which the latest comes first
+abbrev pub heap_notes : Settings → List ReadLine → List Diagnostic
+heap_notes settings past = notes (moments (started settings) past)
+
 -- what a replay on a heap says of itself: it begins on the settings, and lacks no memory
 abbrev pub heap_rules : LineRules Replayed
 heap_rules = record {
   Start = Settings;
   Stands = λ settings replay past. StandsFor replay settings past;
-  added = added_diagnostics;
+  noted = heap_notes;
   lines = λ replay. replay.totals.lines;
   IsReady = λ replay. Unit {0};
   fixed = λ replay. replay.content.records;

@@ -7,8 +7,8 @@ use Rattle.mtrace_log.specs.HasRead.{HasReadSo}
 use Rattle.mtrace_log.specs.Event.{Event}
 use Rattle.mtrace_log.specs.declared.event.LineFault.{LineFault}
 use Rattle.mtrace_log.specs.declared.line.ReadFault.{ReadFault}
-use Rattle.mtrace_replay.specs.declared.runs.following.Stop.{Stop}
-use Rattle.mtrace_replay.specs.declared.runs.following.Stop.TheVariants.{Memory}
+use Rattle.mtrace_replay.specs.declared.runs.reading.Stop.{Stop}
+use Rattle.mtrace_replay.specs.declared.runs.reading.Stop.TheVariants.{Memory}
 use Rattle.mtrace_replay.specs.Course.{Course, shown_before, shown_after}
 use Rattle.mtrace_replay.specs.LineReplay.{LineRules}
 use Rattle.mtrace_replay.specs.Again.{StopsEarly}

@@ -1,10 +1,8 @@
 -- What a run read and wrote, by its answer.
 use Rattle.std.specs.Prelude.{◌≡◌, ◌⊎◌, ◌↔◌, ℕ, Bool, true, false, List, [], ◌∷◌, ◌++◌, length, reverse, Result, Ok, Err, IsTrue, IfOk, OnOk, OnErr, IsErrOf, ◌||◌, if◌then◌else◌}
-use Rattle.std.specs.Io.KnownBytes.{prepend_known}
-use Rattle.mtrace_log.specs.HasRead.{HasRead, HasReadAll, HasReadBefore}
-use Rattle.mtrace_log.specs.Progress.{HasMore, greatest_number}
+use Rattle.mtrace_log.specs.HasRead.{HasRead, HasReadAll}
 use Rattle.mtrace_log.specs.Shown.{ReaderState, WriterState}
-use Rattle.mtrace_log.specs.Trace.{HasGiven, HasGivenAll, HasGivenAndFailed, HasNotFailed, HasTakenAndFlushed, HasFailedToWrite, FlushWasAsked}
+use Rattle.mtrace_log.specs.Trace.{HasTakenAndFlushed, HasFailedToWrite}
 use Rattle.mtrace_replay.specs.declared.runs.report.Report.{Report}
 use Rattle.mtrace_replay.specs.declared.runs.report.Report.TheVariants.{Nothing}
 use Rattle.mtrace_replay.specs.declared.runs.run.FinishedRun.{FinishedRun}
@@ -20,13 +18,10 @@ use Rattle.mtrace_replay.specs.Started.{Bare, started}
 use Rattle.mtrace_replay.specs.Totals.{AreTotals}
 use Rattle.mtrace_replay.specs.Moment.{ReadLine, Given, half}
 use Rattle.mtrace_replay.specs.History.{history, notes, diagnostics, AreHeld, entries_of, content_after}
-use Rattle.mtrace_replay.specs.Replay.{Replayed, StandsFor, entries}
+use Rattle.mtrace_replay.specs.Replay.{Replayed, StandsFor, entries, heap_notes}
+use Rattle.mtrace_replay.specs.Following.{with_unused, has_some, RunsToEnd, RunsToRead, RunsToWrite}
 use Rattle.mtrace_replay.specs.Texts.{diagnostics_text, report_text, clean_or_found}
 use Rattle.mtrace_log.specs.Output.{Wrote, Begins, Puts}
-
--- the reader, with bytes that were asked of it and belong to no line put back in front
-abbrev pub with_unused : List ℕ → ReaderState → ReaderState
-with_unused unused reader = record reader { left = prepend_known unused reader.left }
 
 -- the text of the diagnostics of lines, the first line first
 abbrev pub text_of_notes : Settings → List ReadLine → List ℕ
@@ -60,13 +55,6 @@ pub record EndsAt (settings : Settings) (status : Status) (replay : Replayed) (r
   pub stands : StandsFor replay settings (reverse reports.lines)
   pub records : replay.content.records ≡ settings.records
 
--- as many lines were read as there are numbers, more is to come, and the reader has not failed
-pub record IsPastLastNumber (reader_old reader_new : ReaderState) (lines : List ReadLine) : Type 0 where
-  pub count : length lines ≡ greatest_number
-  pub read : HasRead reader_old.left reader_new.left lines
-  pub more : HasMore reader_new.left
-  pub given : HasGiven reader_old.calls reader_new.calls
-
 -- all of the log was read, and a beginning of the whole text was written
 pub record BeginsWhole (report : Report) (settings : Settings) (reader_old reader_new : ReaderState) (writer_old writer_new : WriterState) (lines : List ReadLine) : Type 0 where
   pub read : HasReadAll reader_old.left reader_new.left lines
@@ -75,23 +63,6 @@ pub record BeginsWhole (report : Report) (settings : Settings) (reader_old reade
   pub totals : Totals
   pub summed : AreTotals (started settings) (history settings lines) totals
   pub begun : Begins writer_old writer_new (whole_text report settings lines all totals)
-
--- the reader failed, once and last: whole lines were read, and perhaps a piece of the next one, which is lost
-abbrev pub FailedInPiece : (reader_old reader_new : ReaderState) → List ReadLine → Type 0
-FailedInPiece reader_old reader_new lines = HasReadBefore reader_old.left reader_new.left lines × HasGivenAndFailed reader_old.calls reader_new.calls
-
--- the lines were read, and perhaps to the end of the log
-abbrev pub HasReadThese : (reader_old reader_new : ReaderState) → List ReadLine → Type 0
-HasReadThese reader_old reader_new lines = HasRead reader_old.left reader_new.left lines ⊎ HasReadAll reader_old.left reader_new.left lines
-
--- The reader failed, or a line past the last number would come. In the second case unused are the bytes that were
--- asked of the reader and belong to no line that was read. The diagnostics of the lines read were written, and no
--- report.
-pub record StopsAtRead (settings : Settings) (reader_old reader_new : ReaderState) (writer_old writer_new : WriterState) : Type 0 where
-  pub lines : List ReadLine
-  pub reason : FailedInPiece reader_old reader_new lines
-      ⊎ ((unused : List ℕ) × IsPastLastNumber reader_old (with_unused unused reader_new) lines)
-  pub wrote : Wrote writer_old writer_new (text_of_notes settings lines)
 
 -- a beginning of the diagnostics of the lines read, or of the whole text where the log had ended
 abbrev pub BeginsText : Report → Settings → (reader_old reader_new : ReaderState) (writer_old writer_new : WriterState) → List ReadLine → Type 0
@@ -106,32 +77,15 @@ pub record StopsAtWrite (report : Report) (settings : Settings) (reader_old read
   pub unused : List ℕ
   pub begun : BeginsText report settings reader_old (with_unused unused reader_new) writer_old writer_new lines
 
--- all of the log was read, and the whole text was written and flushed
-pub record RunsToEnd (report : Report) (settings : Settings) (status : Status) (reader_old reader_new : ReaderState) (writer_old writer_new : WriterState) : Type 0 where
-  pub finished : Reports report settings status reader_old reader_new writer_old writer_new
-  pub reader_ended : HasGivenAll reader_old.calls reader_new.calls
-  pub writer_flushed : HasTakenAndFlushed writer_old.calls writer_new.calls
-
--- the reading stopped, and then the writer was asked to flush
-pub record RunsToRead (settings : Settings) (reader_old reader_new : ReaderState) (writer_old writer_new : WriterState) : Type 0 where
-  pub read_fault : StopsAtRead settings reader_old reader_new writer_old writer_new
-  pub flush_asked : FlushWasAsked writer_old.calls writer_new.calls
-
--- the writer failed, and the reader did not
-pub record RunsToWrite (report : Report) (settings : Settings) (reader_old reader_new : ReaderState) (writer_old writer_new : WriterState) : Type 0 where
-  pub write_fault : StopsAtWrite report settings reader_old reader_new writer_old writer_new
-  pub writer_failed : HasFailedToWrite writer_old.calls writer_new.calls
-  pub reader_not_failed : HasNotFailed reader_old.calls reader_new.calls
-
 -- nothing was asked of the reader, nor of the writer
 abbrev pub NothingDone : {R W : Type 0} → Course R ReaderState → Course W WriterState → Type 0
 NothingDone reader writer = (reader.new ≡ reader.old) × (writer.new ≡ writer.old)
 
 -- how a run ended, by what it answers, which is never `Image`
 abbrev pub RunEnds : {R W : Type 0} → Report → Settings → Result Status RunFault → Course R ReaderState → Course W WriterState → Type 0
-RunEnds report settings (Ok status) reader writer = RunsToEnd report settings status (shown_before reader) (shown_after reader) (shown_before writer) (shown_after writer)
-RunEnds report settings (Err Read) reader writer = RunsToRead settings (shown_before reader) (shown_after reader) (shown_before writer) (shown_after writer)
-RunEnds report settings (Err Write) reader writer = RunsToWrite report settings (shown_before reader) (shown_after reader) (shown_before writer) (shown_after writer)
+RunEnds report settings (Ok status) reader writer = RunsToEnd (Reports report settings status (shown_before reader) (shown_after reader) (shown_before writer) (shown_after writer)) (shown_before reader) (shown_after reader) (shown_before writer) (shown_after writer)
+RunEnds report settings (Err Read) reader writer = RunsToRead (heap_notes settings) (shown_before reader) (shown_after reader) (shown_before writer) (shown_after writer)
+RunEnds report settings (Err Write) reader writer = RunsToWrite (StopsAtWrite report settings (shown_before reader) (shown_after reader) (shown_before writer) (shown_after writer)) (shown_before reader) (shown_after reader) (shown_before writer) (shown_after writer)
 RunEnds report settings (Err OutOfMemory) reader writer = NothingDone reader writer
 RunEnds report settings (Err BadSettings) reader writer = NothingDone reader writer
 RunEnds report settings (Err Image) reader writer = ⊥
@@ -147,19 +101,6 @@ pub record Runs {R W : Type 0} (report : Report) (settings : Settings) (result :
 abbrev pub end_text : Report → Replayed → List ℕ
 end_text report replay =
     diagnostics_text (half replay.totals.lines replay.pending) ++ report_text report (entries replay) replay.totals replay.content
-
--- whether the list has an item
-abbrev pub has_some : {A : Type 0} → List A → Bool
-has_some [] = false
-has_some (first ∷ more) = true
-
--- all lines of the log were read and replayed, and their diagnostics were written
-pub record HasReplayed (settings : Settings) (replay : Replayed) (has_diagnostics : Bool) (reader_old reader_new : ReaderState) (writer_old writer_new : WriterState) : Type 0 where
-  pub lines : List ReadLine
-  pub read : HasReadAll reader_old.left reader_new.left lines
-  pub stands : StandsFor replay settings (reverse lines)
-  pub wrote : Wrote writer_old writer_new (text_of_notes settings lines)
-  pub has_diagnostics_is : has_diagnostics ≡ has_some (notes (history settings lines))
 
 -- what a call leaves that puts this text with the report in it
 pub record PutsReport {T E : Type 0} (result : Result T E) (report : Report) (text : List ℕ)

@@ -12,7 +12,7 @@ use Rattle.mtrace_replay.specs.Course.{Course, shown_before, shown_after}
 use Rattle.mtrace_replay.specs.Moment.{ReadLine}
 use Rattle.mtrace_replay.specs.Run.{NothingDone}
 use Rattle.mtrace_replay.specs.Served.{IsServed}
-use Rattle.mtrace_replay.specs.RunServed.{RunsServed, ReportsServed, HasServed}
+use Rattle.mtrace_replay.specs.RunServed.{RunsServed, ReportsServed}
 use Rattle.mtrace_replay.specs.Spans.{AreCountedOf}
 use Rattle.mtrace_replay.specs.Parts.{TellsParts}
 
@@ -62,11 +62,6 @@ pub record IsStart (replay : CountedReplay) : Type 0 where
 -- some lines were followed, and their blocks were counted
 abbrev pub HasLines : CountedReplay → Type 0
 HasLines replay = (lines : List ReadLine) × IsServed replay.ledger (reverse lines) × AreCountedOf (reverse lines) replay.spans
-
--- all lines of the log were read and followed, and their blocks were counted
-pub record HasCounted (replay : CountedReplay) (has_diagnostics : Bool) (reader_old reader_new : ReaderState) (writer_old writer_new : WriterState) : Type 0 where
-  pub served : HasServed replay.ledger has_diagnostics reader_old reader_new writer_old writer_new
-  pub counted : AreCountedOf (reverse served.lines) replay.spans
 
 -- a run without a report, and the replay in the end
 pub record EndsCounted (status : Status) (replay : CountedReplay) (reader_old reader_new : ReaderState) (writer_old writer_new : WriterState) : Type 0 where

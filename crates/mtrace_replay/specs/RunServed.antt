@@ -1,9 +1,9 @@
 -- What a run without a heap read and wrote, by its answer.
-use Rattle.std.specs.Prelude.{◌≡◌, ◌⊎◌, ℕ, Bool, List, [], ◌∷◌, ◌++◌, length, reverse, count_by, Result, Ok, Err, IfOk, OnOk, OnErr, ◌||◌, if◌then◌else◌}
+use Rattle.std.specs.Prelude.{◌≡◌, ◌⊎◌, ℕ, Bool, List, [], ◌++◌, length, reverse, count_by, Result, Ok, Err, IfOk, OnOk, OnErr, ◌||◌, if◌then◌else◌}
 use Rattle.mtrace_log.specs.HasRead.{HasReadAll}
 use Rattle.mtrace_log.specs.Shown.{ReaderState, WriterState}
 use Rattle.mtrace_log.specs.Output.{Wrote, Begins}
-use Rattle.mtrace_log.specs.Trace.{HasGivenAll, HasNotFailed, HasTakenAndFlushed, HasFailedToWrite, FlushWasAsked}
+use Rattle.mtrace_log.specs.Trace.{HasTakenAndFlushed, HasFailedToWrite}
 use Rattle.mtrace_replay.specs.declared.runs.status.Status.{Status}
 use Rattle.mtrace_replay.specs.declared.runs.status.Status.TheVariants.{Clean, Found}
 use Rattle.mtrace_replay.specs.declared.runs.status.RunFault.{RunFault}
@@ -14,14 +14,14 @@ use Rattle.mtrace_replay.specs.declared.no_heap.report.LedgerReport.TheVariants.
 use Rattle.mtrace_replay.specs.declared.no_heap.run.EndedLedger.{EndedLedger}
 use Rattle.mtrace_replay.specs.Moment.{ReadLine, Given, Moment, half}
 use Rattle.mtrace_replay.specs.History.{notes, AreHeld, entries_of}
-use Rattle.mtrace_replay.specs.Totals.{is_served, first_moments, Measures, IsPeak, bytes_in, blocks_in}
+use Rattle.mtrace_replay.specs.Totals.{is_served, first_moments, Measures, IsPeak, asked_bytes_in, blocks_in}
 use Rattle.mtrace_replay.specs.RunSites.{HeldSites, sections_of}
 use Rattle.mtrace_replay.specs.Texts.{diagnostics_text, leaks_report, ledger_peak_report, callers_text, clean_or_found}
-use Rattle.mtrace_replay.specs.declared.no_heap.count.Count.{Count}
+use Rattle.mtrace_replay.specs.declared.held.count.Count.{Count}
 use Rattle.mtrace_replay.specs.Calls.{Caller}
 use Rattle.mtrace_replay.specs.Callers.{calls_in, temporary_in, AreCallers, all_of}
-use Rattle.mtrace_replay.specs.Served.{served_history, served_diagnostics, Standing, IsServed}
-use Rattle.mtrace_replay.specs.Run.{with_unused, FailedInPiece, IsPastLastNumber, HasReadThese, has_some}
+use Rattle.mtrace_replay.specs.Served.{served_history, served_diagnostics, served_noted, Standing, IsServed}
+use Rattle.mtrace_replay.specs.Following.{with_unused, HasReadThese, has_some, RunsToEnd, RunsToRead, RunsToWrite, RunsToMemory}
 
 -- the text of the diagnostics of lines, the first line first
 abbrev pub served_notes : List ReadLine → List ℕ
@@ -31,7 +31,7 @@ served_notes lines = diagnostics_text (notes (served_history lines))
 pub record AreServedTotals (past : List Moment) (totals : LedgerTotals) : Type 0 where
   pub lines : totals.lines ≡ length past
   pub served : totals.served ≡ count_by is_served past
-  pub live_bytes : Measures bytes_in past totals.live_bytes
+  pub live_bytes : Measures asked_bytes_in past totals.live_bytes
   pub live_blocks : Measures blocks_in past totals.live_blocks
   pub peak : IsPeak past totals.peak_bytes totals.peak_line
 
@@ -99,14 +99,6 @@ pub record BeginsServed (report : LedgerReport) (reader_old reader_new : ReaderS
   pub tells : TellsServed report lines text
   pub begun : Begins writer_old writer_new (whole_served lines text)
 
--- The reader failed, or a line past the last number would come. In the second case unused are the bytes that were asked of the
--- reader and belong to no line that was read. The diagnostics of the lines read were written, and no report.
-pub record StopsServedAtRead (reader_old reader_new : ReaderState) (writer_old writer_new : WriterState) : Type 0 where
-  pub lines : List ReadLine
-  pub reason : FailedInPiece reader_old reader_new lines
-      ⊎ ((unused : List ℕ) × IsPastLastNumber reader_old (with_unused unused reader_new) lines)
-  pub wrote : Wrote writer_old writer_new (served_notes lines)
-
 -- The writer failed, after a beginning of what was to be written. Unused are the bytes that were asked of the reader and belong to
 -- no line that was read.
 pub record StopsServedAtWrite (report : LedgerReport) (reader_old reader_new : ReaderState) (writer_old writer_new : WriterState) : Type 0 where
@@ -115,44 +107,12 @@ pub record StopsServedAtWrite (report : LedgerReport) (reader_old reader_new : R
   pub begun : (HasReadThese reader_old (with_unused unused reader_new) lines × Begins writer_old writer_new (served_notes lines))
       ⊎ BeginsServed report reader_old (with_unused unused reader_new) writer_old writer_new lines
 
--- Memory was refused, at the line behind these, or behind the last one of the log. The diagnostics of these lines were written,
--- and no report. Unused are the bytes that were asked of the reader and belong to no line that was read.
-pub record StopsForMemory (reader_old reader_new : ReaderState) (writer_old writer_new : WriterState) : Type 0 where
-  pub lines : List ReadLine
-  pub unused : List ℕ
-  pub reason : ((line : ReadLine) × HasReadThese reader_old (with_unused unused reader_new) (lines ++ line ∷ []))
-      ⊎ HasReadAll reader_old.left reader_new.left lines
-  pub wrote : Wrote writer_old writer_new (served_notes lines)
-
--- all of the log was read, and the whole text was written and flushed
-pub record ServedToEnd (report : LedgerReport) (status : Status) (reader_old reader_new : ReaderState) (writer_old writer_new : WriterState) : Type 0 where
-  pub finished : ReportsServed report status reader_old reader_new writer_old writer_new
-  pub reader_ended : HasGivenAll reader_old.calls reader_new.calls
-  pub writer_flushed : HasTakenAndFlushed writer_old.calls writer_new.calls
-
--- the reading stopped, and then the writer was asked to flush
-pub record ServedToRead (reader_old reader_new : ReaderState) (writer_old writer_new : WriterState) : Type 0 where
-  pub read_fault : StopsServedAtRead reader_old reader_new writer_old writer_new
-  pub flush_asked : FlushWasAsked writer_old.calls writer_new.calls
-
--- the writer failed, and the reader did not
-pub record ServedToWrite (report : LedgerReport) (reader_old reader_new : ReaderState) (writer_old writer_new : WriterState) : Type 0 where
-  pub write_fault : StopsServedAtWrite report reader_old reader_new writer_old writer_new
-  pub writer_failed : HasFailedToWrite writer_old.calls writer_new.calls
-  pub reader_not_failed : HasNotFailed reader_old.calls reader_new.calls
-
--- memory was refused, and then the writer was asked to flush; the reader did not fail
-pub record ServedToMemory (reader_old reader_new : ReaderState) (writer_old writer_new : WriterState) : Type 0 where
-  pub memory : StopsForMemory reader_old reader_new writer_old writer_new
-  pub flush_asked : FlushWasAsked writer_old.calls writer_new.calls
-  pub reader_not_failed : HasNotFailed reader_old.calls reader_new.calls
-
 -- how a run ended, by what it answers, which is never `BadSettings` or `Image`
 abbrev pub ServedEnds : LedgerReport → Result Status RunFault → (reader_old reader_new : ReaderState) (writer_old writer_new : WriterState) → Type 0
-ServedEnds report (Ok status) reader_old reader_new writer_old writer_new = ServedToEnd report status reader_old reader_new writer_old writer_new
-ServedEnds report (Err Read) reader_old reader_new writer_old writer_new = ServedToRead reader_old reader_new writer_old writer_new
-ServedEnds report (Err Write) reader_old reader_new writer_old writer_new = ServedToWrite report reader_old reader_new writer_old writer_new
-ServedEnds report (Err OutOfMemory) reader_old reader_new writer_old writer_new = ServedToMemory reader_old reader_new writer_old writer_new
+ServedEnds report (Ok status) reader_old reader_new writer_old writer_new = RunsToEnd (ReportsServed report status reader_old reader_new writer_old writer_new) reader_old reader_new writer_old writer_new
+ServedEnds report (Err Read) reader_old reader_new writer_old writer_new = RunsToRead served_noted reader_old reader_new writer_old writer_new
+ServedEnds report (Err Write) reader_old reader_new writer_old writer_new = RunsToWrite (StopsServedAtWrite report reader_old reader_new writer_old writer_new) reader_old reader_new writer_old writer_new
+ServedEnds report (Err OutOfMemory) reader_old reader_new writer_old writer_new = RunsToMemory served_noted reader_old reader_new writer_old writer_new
 ServedEnds report (Err _) reader_old reader_new writer_old writer_new = ⊥
 
 -- What a run without a heap leaves. The reader has the same bytes in whole.
@@ -173,14 +133,6 @@ pub record EndsServed (status : Status) (replay : Standing) (reader_old reader_n
 -- what is written at the end: the diagnostic of the last line, and then the text of the report
 abbrev pub served_end : Standing → List ℕ → List ℕ
 served_end replay text = diagnostics_text (half replay.lines replay.pending) ++ text
-
--- all lines of the log were read and followed, and their diagnostics were written
-pub record HasServed (replay : Standing) (has_diagnostics : Bool) (reader_old reader_new : ReaderState) (writer_old writer_new : WriterState) : Type 0 where
-  pub lines : List ReadLine
-  pub read : HasReadAll reader_old.left reader_new.left lines
-  pub stands : IsServed replay (reverse lines)
-  pub wrote : Wrote writer_old writer_new (served_notes lines)
-  pub has_diagnostics_is : has_diagnostics ≡ has_some (notes (served_history lines))
 
 -- What a call leaves that puts all that is written at the end, and flushes. It answers the status, by whether a line had a diagnostic.
 pub record FinishesServed {E : Type 0} (text : List ℕ) (has_diagnostics : Bool) (result : Result Status E) (replay : Standing) (writer_old writer_new : WriterState) : Type 0 where

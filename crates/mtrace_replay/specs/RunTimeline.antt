@@ -51,7 +51,7 @@ pub record RunsTimeline {R W : Type 0} (settings : Settings) (parts : ℕ) (resu
   pub runs : is_bad_parts parts ≡ false → RunsAgain settings (TimelineFollows settings parts) result reader writer
 
 -- empty lists of numbers and of points, each with room for all that are told: 0, the peak's, and one for each part
-pub record HasRoom {N P : Type 0} (parts : ℕ) (numbers : Vec ℕ N) (points : Vec Point P) : Type 0 where
+pub record HasRoomForPoints {N P : Type 0} (parts : ℕ) (numbers : Vec ℕ N) (points : Vec Point P) : Type 0 where
   pub no_number : numbers.items ≡ []
   pub no_point : points.items ≡ []
   pub numbers_room : parts + 2 ≤ vec_capacity numbers

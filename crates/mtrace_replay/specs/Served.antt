@@ -14,7 +14,7 @@ use Rattle.mtrace_replay.specs.Texts.{total_size}
 use Rattle.mtrace_replay.specs.Sites.{Site, AreTallied}
 use Rattle.mtrace_replay.specs.Calls.{Called, CountsMore, CountsReleased}
 use Rattle.mtrace_replay.specs.Callers.{calls_in, temporary_in, AreCounted}
-use Rattle.mtrace_replay.specs.Ledger.{held_at, LedgerState, KeepsPeak}
+use Rattle.mtrace_replay.specs.Ledger.{entry_under, LedgerState, KeepsPeak}
 use Rattle.mtrace_replay.specs.LineReplay.{LineRules}
 
 -- what stands in each moment in the place of a heap
@@ -55,13 +55,13 @@ served_diagnostics lines = notes (served_history lines) ++ half (length lines) (
 
 -- what an address is held under, without a place
 abbrev pub found_in : List Entry → ℕ → Option Given
-found_in all address = option_map unplaced (held_at all address)
+found_in all address = option_map unplaced (entry_under all address)
 
 -- what an act of the line of this number adds to the calls
 abbrev pub CountsAct : ℕ → Act → List Entry → (old new : Called) → Type 0
 CountsAct number idle all old new = new ≡ old
 CountsAct number (give entry align) all old new = CountsMore entry.at 1 entry.size 0 old new
-CountsAct number (take address place) all old new = CountsReleased (Some number) (held_at all address) old new
+CountsAct number (take address place) all old new = CountsReleased (Some number) (entry_under all address) old new
 CountsAct number (move from place entry) all old new = CountsMore entry.at 1 entry.size 0 old new
 
 -- What the line of this number does, or a part of it, as its plan says, and whether a block is given. Where memory is refused what is
@@ -102,14 +102,14 @@ pub record IsServed (replay : Standing) (past : List ReadLine) : Type 0 where
   pub at_peak : IsAtPeak replay (first_moments replay.peak_line (served_moments past))
   pub called : AreCounted (calls_in (served_moments past)) (temporary_in past (served_moments past)) replay.called
 
--- the diagnostics that one more line adds
-abbrev pub added_served : ReadLine → List ReadLine → List Diagnostic
-added_served line past = (served_moment (length past) line (pending past) (held (served_moments past))).diagnostics
+-- all diagnostics of lines, of which the latest comes first
+abbrev pub served_noted : List ReadLine → List Diagnostic
+served_noted past = notes (served_moments past)
 
 -- The line of this number was fed. Where memory is refused the replay is as before the line.
 pub record FeedsLedger {E : Type 0} (number : ℕ) (line : ReadLine) (diagnostics : List Diagnostic) (result : Result (Unit {0}) E) (old new : Standing) : Type 0 where
   pub stands : OnOk result ((past : List ReadLine) → IsServed old past → IsServed new (line ∷ past))
-  pub told : OnOk result ((past : List ReadLine) → IsServed old past → diagnostics ≡ added_served line past)
+  pub told : OnOk result ((past : List ReadLine) → IsServed old past → served_noted (line ∷ past) ≡ served_noted past ++ diagnostics)
   pub counted : OnOk result (new.lines ≡ number)
   pub unchanged : OnErr result (new ≡ old)
 
@@ -153,7 +153,7 @@ abbrev pub ledger_rules : LineRules Standing
 ledger_rules = record {
   Start = Unit {0};
   Stands = λ start replay past. IsServed replay past;
-  added = λ start. added_served;
+  noted = λ start past. served_noted past;
   lines = λ replay. replay.lines;
   IsReady = λ replay. Unit {0};
   fixed = λ replay. 0;

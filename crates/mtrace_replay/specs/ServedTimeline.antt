@@ -8,14 +8,14 @@ use Rattle.mtrace_replay.specs.declared.no_heap.point.LedgerPoint.{LedgerPoint}
 use Rattle.mtrace_replay.specs.declared.runs.status.RunFault.{RunFault}
 use Rattle.mtrace_replay.specs.declared.runs.status.RunFault.TheVariants.{Read, OutOfMemory}
 use Rattle.mtrace_replay.specs.Moment.{ReadLine, Moment}
-use Rattle.mtrace_replay.specs.Totals.{Measures, bytes_in, blocks_in}
+use Rattle.mtrace_replay.specs.Totals.{Measures, asked_bytes_in, blocks_in}
 use Rattle.mtrace_replay.specs.Served.{served_history}
 use Rattle.mtrace_replay.specs.Again.{begun_again, FailsAgain}
 use Rattle.mtrace_replay.specs.RunTimeline.{HasPointsOf}
 
 -- what is held after the moments
 pub record IsLedgerPoint (past : List Moment) (point : LedgerPoint) : Type 0 where
-  pub bytes : Measures bytes_in past point.bytes
+  pub bytes : Measures asked_bytes_in past point.bytes
   pub blocks : Measures blocks_in past point.blocks
 
 -- the point is of these lines

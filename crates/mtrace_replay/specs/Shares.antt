@@ -1,7 +1,7 @@
 -- What each location holds and asked for, by its slot.
 use Rattle.std.specs.Prelude.{◌≡◌, ℕ, suc, ◌+◌, ◌-◌, ◌*◌, ◌≤◌, ◌^◌, ◌==◌, Bool, List, [], ◌∷◌, length, map, None, Some, slice_index_or, if◌then◌else◌}
 use Rattle.std.specs.List.{All, sum_by}
-use Rattle.mtrace_replay.specs.declared.no_heap.count.Count.{Count}
+use Rattle.mtrace_replay.specs.declared.held.count.Count.{Count}
 use Rattle.mtrace_replay.specs.Calls.{Caller, no_calls, count_temporary, has_no_call, caller_of}
 use Rattle.mtrace_replay.specs.declared.held.amount.Amount.{Amount}
 use Rattle.mtrace_replay.specs.declared.no_heap.shares.Share.{Share}

@@ -1,7 +1,7 @@
 -- How many blocks of neighbouring ranges of sizes are held, and the most that were.
-use Rattle.std.specs.Prelude.{◌≡◌, ℕ, suc, ◌+◌, ◌-◌, ◌<◌, ◌≤◌, ◌&&◌, ◌==◌, max, nat_le, nat_eq, Bool, true, false, List, [], ◌∷◌, length, map, is_some, Option, Some, None, Ok, option_map, option_and_then, if◌then◌else◌, ⊤}
+use Rattle.std.specs.Prelude.{◌≡◌, ℕ, suc, ◌+◌, ◌-◌, ◌<◌, ◌≤◌, ◌&&◌, ◌==◌, max, nat_le, nat_eq, Bool, true, false, List, [], ◌∷◌, length, map, is_some, Option, Some, None, Ok, Err, option_map, option_and_then, if◌then◌else◌, ⊤}
 use Rattle.std.specs.List.{All, Contains, list_all}
-use Rattle.mtrace_log.specs.declared.event.Event.TheVariants.{Alloc, Free, New, Aligned}
+use Rattle.mtrace_log.specs.declared.event.Event.TheVariants.{Start, End, Alloc, Free, Old, New, Failed, Aligned}
 use Rattle.std.specs.HashMap.{get}
 use Rattle.mtrace_replay.specs.declared.parts.span.Span.{Span}
 use Rattle.mtrace_replay.specs.declared.parts.spans.Block.{Block}
@@ -78,16 +78,27 @@ pub record AreCounted (past : List ReadLine) (spans : List Span) (ranges : ℕ �
 
 -- the address that a line releases, by that of the line before where that is `<`, and by whether the line is served
 abbrev pub released_by : ReadLine → Option ℕ → Bool → Option ℕ
+released_by (Err fault) pending served = None
+released_by (Ok Start) pending served = None
+released_by (Ok End) pending served = None
+released_by (Ok (Alloc at address size)) pending served = None
 released_by (Ok (Free at address)) pending served = Some address
+released_by (Ok (Old at address)) pending served = None
 released_by (Ok (New at address size)) pending served = if served then pending else None
-released_by line pending served = None
+released_by (Ok (Failed at address size)) pending served = None
+released_by (Ok (Aligned at address align size)) pending served = None
 
 -- the address that a line asks for
 abbrev pub address_asked : ReadLine → Option ℕ
+address_asked (Err fault) = None
+address_asked (Ok Start) = None
+address_asked (Ok End) = None
 address_asked (Ok (Alloc at address size)) = address
-address_asked (Ok (Aligned at address align size)) = Some address
+address_asked (Ok (Free at address)) = None
+address_asked (Ok (Old at address)) = None
 address_asked (Ok (New at address size)) = Some address
-address_asked line = None
+address_asked (Ok (Failed at address size)) = None
+address_asked (Ok (Aligned at address align size)) = Some address
 
 -- the range of what an address that is released is held under
 abbrev pub range_released : (ℕ → Option ℕ) → Option ℕ → Option ℕ
@@ -128,4 +139,5 @@ AreFew lines (Some spans) = All (λ span. span.live ≤ lines) spans.all.items
 -- the block of an address and a size, where both are there
 abbrev pub block_asked : Option ℕ → Option ℕ → Option Block
 block_asked (Some address) (Some size) = Some (record { address = address; size = size })
-block_asked address size = None
+block_asked (Some address) None = None
+block_asked None size = None

@@ -16,7 +16,7 @@ use Rattle.mtrace_replay.specs.declared.heap.point.Point.{Point}
 use Rattle.mtrace_replay.specs.declared.heap.totals.Totals.{Totals}
 use Rattle.mtrace_replay.specs.Started.{Bare}
 use Rattle.mtrace_replay.specs.Calls.{Caller}
-use Rattle.mtrace_replay.specs.declared.no_heap.count.Count.{Count}
+use Rattle.mtrace_replay.specs.declared.held.count.Count.{Count}
 use Rattle.mtrace_replay.specs.Sites.{Site}
 use Rattle.mtrace_replay.specs.declared.runs.fitted.Fitted.{Fitted}
 use Rattle.mtrace_replay.specs.declared.held.diagnostic.Diagnostic.{Diagnostic}

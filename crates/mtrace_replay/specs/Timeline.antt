@@ -7,7 +7,7 @@ use Rattle.mtrace_replay.specs.declared.heap.point.Point.{Point}
 use Rattle.mtrace_replay.specs.Started.{Bare}
 use Rattle.mtrace_replay.specs.Moment.{Moment}
 use Rattle.mtrace_replay.specs.History.{content_after}
-use Rattle.mtrace_replay.specs.Totals.{Measures, bytes_in, blocks_in}
+use Rattle.mtrace_replay.specs.Totals.{Measures, asked_bytes_in, blocks_in}
 use Rattle.mtrace_replay.specs.Texts.{free_sizes, greatest}
 use Rattle.mtrace_replay.specs.Survey.{live_ends}
 
@@ -34,7 +34,7 @@ told_later told last number = if nat_lt last number then told ++ number ∷ [] e
 
 -- What is held after the moments, how far the live blocks reach, and what is free.
 pub record IsPoint (start : Bare) (past : List Moment) (point : Point) : Type 0 where
-  pub bytes : Measures bytes_in past point.bytes
+  pub bytes : Measures asked_bytes_in past point.bytes
   pub blocks : Measures blocks_in past point.blocks
   pub reach : point.reach ≡ greatest (live_ends (content_after start past))
   pub free : point.free ≡ sum_by (λ size. size) (free_sizes (content_after start past))

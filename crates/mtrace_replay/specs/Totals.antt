@@ -36,8 +36,8 @@ pub record Measures (measure : List Given → ℕ) (past : List Moment) (n : ℕ
 abbrev pub blocks_in : List Given → ℕ
 blocks_in all = length all
 
-abbrev pub bytes_in : List Given → ℕ
-bytes_in all = total_size (entries_of all)
+abbrev pub asked_bytes_in : List Given → ℕ
+asked_bytes_in all = total_size (entries_of all)
 
 abbrev pub rounded_bytes_in : List Given → ℕ
 rounded_bytes_in [] = 0
@@ -52,7 +52,7 @@ pub record IsGreatestOf (Holds : List Moment → ℕ → Type 0) (past : List Mo
 
 -- the greatest sum, and the first line after which it is held
 abbrev pub IsPeak : List Moment → (bytes line : ℕ) → Type 0
-IsPeak past bytes line = IsGreatestOf (Measures bytes_in) past bytes line
+IsPeak past bytes line = IsGreatestOf (Measures asked_bytes_in) past bytes line
 
 -- the greatest measure of what is held
 abbrev pub IsMost : (measure : List Given → ℕ) → List Moment → ℕ → Type 0
@@ -74,7 +74,7 @@ pub record AreTotals (start : Bare) (past : List Moment) (totals : Totals) : Typ
   pub lines : totals.lines ≡ length past
   pub served : totals.served ≡ count_by is_served past
   pub refused : totals.refused ≡ count_by is_refused past
-  pub live_bytes : Measures bytes_in past totals.live_bytes
+  pub live_bytes : Measures asked_bytes_in past totals.live_bytes
   pub live_blocks : Measures blocks_in past totals.live_blocks
   pub peak : IsPeak past totals.peak_bytes totals.peak_line
   pub high_place : IsHighPlace start past totals.high_place

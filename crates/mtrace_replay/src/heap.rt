@@ -2,7 +2,7 @@
 
 pub mod again;
 pub mod arrange;
-pub mod asked;
+pub mod grouping;
 pub mod holder;
 pub mod index;
 pub mod key;
@@ -14,6 +14,7 @@ pub mod settings;
 pub mod start;
 pub mod step;
 pub mod survey;
+pub mod text;
 pub mod totals;
 pub mod tried;
 pub mod walk;

@@ -1,6 +1,5 @@
 //! A log replayed without a heap: what is held, of any number of blocks.
 
-pub(crate) mod count;
 mod gathered;
 pub(crate) mod ledger;
 mod line;

@@ -24,12 +24,12 @@ use Rattle.mtrace_replay.specs.declared.runs.size_parts.PartBounds.{PartBounds}
 use Rattle.mtrace_replay.specs.declared.runs.status.RunFault.TheVariants.{OutOfMemory}
 use Rattle.tlsf_tool.specs.declared.asked.Command.{Command}
 use Rattle.mtrace_replay.specs.declared.no_heap.report.LedgerReport.TheVariants as ledger
-use Rattle.tlsf_tool.specs.declared.asked.Command.TheVariants.{Report, Follow, Parts, Reread, Size, SizeParts, Save, Check}
+use Rattle.tlsf_tool.specs.declared.asked.Command.TheVariants.{Report, Ledger, Parts, Reread, Size, SizeParts, Save, Check}
 use Rattle.tlsf_tool.specs.declared.asked.Rereading.TheVariants.{Sites, Timeline, Fit}
-use Rattle.tlsf_tool.specs.declared.asked.Name.{Name}
-use Rattle.tlsf_tool.specs.declared.asked.Name.TheVariants.{Leaks, Peak, Walk}
+use Rattle.tlsf_tool.specs.declared.asked.HeapReport.{HeapReport}
+use Rattle.tlsf_tool.specs.declared.asked.HeapReport.TheVariants.{Leaks, Peak, Walk}
 use Rattle.tlsf_tool.specs.declared.asked.ToolFault.{ToolFault}
-use Rattle.tlsf_tool.specs.declared.asked.ToolFault.TheVariants.{Help, Usage, CannotOpen, InputIsOutput, ImageIsOutput, ReadsOnce, ReadsFileOnce, Run}
+use Rattle.tlsf_tool.specs.declared.asked.ToolFault.TheVariants.{Help, Usage, CannotOpen, InputIsOutput, ImageIsOutput, NoRandomBytes, ReadsOnce, ReadsFileOnce, Run}
 use Rattle.tlsf_tool.specs.CommandLine.{IsArgOf, IsCommandOf, given_rule, AskFor, HasNumber, HasNone, HasSettings, HasBounds, HasNoBounds, HasParts, HasNoLog, HasNoSetting, HasFlag, HasCalls, MatchesAskFor, bare_line, report_line, ledger_line, HasNoHeap, default_settings, sites_line, timeline_line, fit_line, size_line, save_line, check_line, name_text, texts_of, tlsf_line, wrong_with}
 use Rattle.tlsf_tool.specs.Faults.{ExplainsKind, ExplainsWords, IsUsage}
 use Rattle.tlsf_tool.specs.Asks.{Asks, Picks}
@@ -111,11 +111,11 @@ no_such one text none some = let e : None ≡ Some text = sym none ∙ some in c
 -- the subcommand of a command
 abbrev subcommand_text : Command → Text
 subcommand_text (Report name settings log) = name_text name
-subcommand_text (Follow Held log) = codes "leaks"
-subcommand_text (Follow Sums log) = codes "peak"
-subcommand_text (Follow ledger.Sites log) = codes "sites"
-subcommand_text (Follow Callers log) = codes "sites"
-subcommand_text (Follow Nothing log) = []
+subcommand_text (Ledger Held log) = codes "leaks"
+subcommand_text (Ledger Sums log) = codes "peak"
+subcommand_text (Ledger ledger.Sites log) = codes "sites"
+subcommand_text (Ledger Callers log) = codes "sites"
+subcommand_text (Ledger Nothing log) = []
 subcommand_text (Parts heaps log) = codes "fit"
 subcommand_text (Reread (Sites settings) log) = codes "sites"
 subcommand_text (Reread (Timeline heap parts) log) = codes "timeline"
@@ -127,11 +127,11 @@ subcommand_text (Check image) = codes "check"
 
 asked_under : (found : Text × List Row) (command : Command) → MatchesAskFor (Some found) command → found.0 ≡ subcommand_text command
 asked_under found (Report name settings log) asks = asks.0
-asked_under found (Follow Held log) asks = asks.0.0
-asked_under found (Follow Sums log) asks = asks.0.0
-asked_under found (Follow ledger.Sites log) asks = asks.0.0
-asked_under found (Follow Callers log) asks = asks.0.0
-asked_under found (Follow Nothing log) asks = absurd asks.0.0
+asked_under found (Ledger Held log) asks = asks.0.0
+asked_under found (Ledger Sums log) asks = asks.0.0
+asked_under found (Ledger ledger.Sites log) asks = asks.0.0
+asked_under found (Ledger Callers log) asks = asks.0.0
+asked_under found (Ledger Nothing log) asks = absurd asks.0.0
 asked_under found (Parts heaps log) asks = asks.0
 asked_under found (Reread (Sites settings) log) asks = asks.0
 asked_under found (Reread (Timeline heap parts) log) asks = asks.0
@@ -184,15 +184,15 @@ module _ (rows : List Row) where
   has_all text (Report Peak settings log) asks (inr much) = asks.1 much.0
   has_all text (Report Walk settings log) asks (inl missing) = no_log settings log missing asks.2 asks.3
   has_all text (Report Walk settings log) asks (inr without) = asks.1 without
-  has_all text (Follow Held log) asks (inl missing) = no_log default_settings log missing asks.0.2 asks.1
-  has_all text (Follow Held log) asks (inr much) = much.1 asks.0.2
-  has_all text (Follow Sums log) asks (inl missing) = no_log default_settings log missing asks.0.2 asks.1
-  has_all text (Follow Sums log) asks (inr much) = much.1 asks.0.2
-  has_all text (Follow ledger.Sites log) asks (inl none) = no_such (first_of (codes "LOG") rows) (string_bytes log) none asks.1
-  has_all text (Follow ledger.Sites log) asks (inr much) = asks.0.2 much.0
-  has_all text (Follow Callers log) asks (inl none) = no_such (first_of (codes "LOG") rows) (string_bytes log) none asks.1
-  has_all text (Follow Callers log) asks (inr much) = much.1 asks.0.1
-  has_all text (Follow Nothing log) asks missing = asks.0.0
+  has_all text (Ledger Held log) asks (inl missing) = no_log default_settings log missing asks.0.2 asks.1
+  has_all text (Ledger Held log) asks (inr much) = much.1 asks.0.2
+  has_all text (Ledger Sums log) asks (inl missing) = no_log default_settings log missing asks.0.2 asks.1
+  has_all text (Ledger Sums log) asks (inr much) = much.1 asks.0.2
+  has_all text (Ledger ledger.Sites log) asks (inl none) = no_such (first_of (codes "LOG") rows) (string_bytes log) none asks.1
+  has_all text (Ledger ledger.Sites log) asks (inr much) = asks.0.2 much.0
+  has_all text (Ledger Callers log) asks (inl none) = no_such (first_of (codes "LOG") rows) (string_bytes log) none asks.1
+  has_all text (Ledger Callers log) asks (inr much) = much.1 asks.0.1
+  has_all text (Ledger Nothing log) asks missing = asks.0.0
   has_all text (Parts heaps log) asks (inl none) = no_such (first_of (codes "LOG") rows) (string_bytes log) none asks.3
   has_all text (Parts heaps log) asks (inr both) = asks.2 both.1.0 both.1.1
   has_all text (Reread (Sites settings) log) asks (inl none) = no_such (first_of (codes "LOG") rows) (string_bytes log) none asks.3
@@ -210,7 +210,7 @@ module _ (rows : List Row) where
   text_asks_nothing : (text : Text) → IsMissing text → AsksNothing (Some (text, rows))
   text_asks_nothing text missing command asks = has_all text command asks (subst IsMissing (asked_under (text, rows) command asks) missing)
 
-  pub report_asks_nothing : (name : Name) → HasNoLog rows → AsksNothing (Some (name_text name, rows))
+  pub report_asks_nothing : (name : HeapReport) → HasNoLog rows → AsksNothing (Some (name_text name, rows))
   report_asks_nothing Leaks missing = text_asks_nothing (codes "leaks") (inl missing)
   report_asks_nothing Peak missing = text_asks_nothing (codes "peak") (inl missing)
   report_asks_nothing Walk missing = text_asks_nothing (codes "walk") (inl missing)
@@ -234,7 +234,7 @@ module _ (rows : List Row) where
       let S : ℕ → ℕ → ℕ → Settings = λ pool pools records. record { pool = pool; pools = pools; records = records } in
       ap (λ (n : ℕ). S n settings.pools settings.records) pool ∙ ap (λ (n : ℕ). S other.pool n settings.records) pools ∙ ap (λ (n : ℕ). S other.pool other.pools n) records
 
-  pub follow_asks_nothing : (name : Name) (settings : Settings) → HasNoHeap rows → HasSettings rows settings → (settings ≡ default_settings → ⊥)
+  pub follow_asks_nothing : (name : HeapReport) (settings : Settings) → HasNoHeap rows → HasSettings rows settings → (settings ≡ default_settings → ⊥)
       → AsksNothing (Some (name_text name, rows))
   follow_asks_nothing Leaks settings without has other = text_asks_nothing (codes "leaks") (inr (without, λ default. other (one_heap settings default_settings has default)))
   follow_asks_nothing Peak settings without has other = text_asks_nothing (codes "peak") (inr (without, λ default. other (one_heap settings default_settings has default)))
@@ -306,6 +306,7 @@ no_memory_explained k (Usage text) is explains = explains.2 is
 no_memory_explained k (CannotOpen file) is explains = explains
 no_memory_explained k (InputIsOutput file) is explains = explains
 no_memory_explained k (ImageIsOutput file) is explains = explains
+no_memory_explained k NoRandomBytes is explains = explains
 no_memory_explained k ReadsOnce is explains = explains
 no_memory_explained k (ReadsFileOnce log) is explains = explains
 no_memory_explained k (Run fault) is explains = explains

@@ -19,10 +19,10 @@ use Rattle.mtrace_replay.specs.declared.no_heap.report.LedgerReport.TheVariants 
 use Rattle.mtrace_replay.specs.declared.runs.size.Bounds.{Bounds}
 use Rattle.mtrace_replay.specs.declared.runs.size_parts.PartBounds.{PartBounds}
 use Rattle.tlsf_tool.specs.declared.asked.Command.{Command}
-use Rattle.tlsf_tool.specs.declared.asked.Command.TheVariants.{Report, Follow, Parts, Reread, Size, SizeParts, Save, Check}
+use Rattle.tlsf_tool.specs.declared.asked.Command.TheVariants.{Report, Ledger, Parts, Reread, Size, SizeParts, Save, Check}
 use Rattle.tlsf_tool.specs.declared.asked.Rereading.TheVariants.{Sites, Timeline, Fit}
-use Rattle.tlsf_tool.specs.declared.asked.Name.{Name}
-use Rattle.tlsf_tool.specs.declared.asked.Name.TheVariants.{Leaks, Peak, Walk}
+use Rattle.tlsf_tool.specs.declared.asked.HeapReport.{HeapReport}
+use Rattle.tlsf_tool.specs.declared.asked.HeapReport.TheVariants.{Leaks, Peak, Walk}
 
 -- ---- the command line's description
 
@@ -133,7 +133,7 @@ pub record IsCommandOf (line : App) (command : Clap) : Type 0 where
 
 -- ---- what matches ask for
 
-abbrev pub name_text : Name → Text
+abbrev pub name_text : HeapReport → Text
 name_text Leaks = codes "leaks"
 name_text Peak = codes "peak"
 name_text Walk = codes "walk"
@@ -246,7 +246,7 @@ abbrev pub MatchesAskFor : Option (Text × List Row) → Command → Type 0
 MatchesAskFor None command = ⊥
 MatchesAskFor (Some found) (Report name settings log) = (found.0 ≡ name_text name) × (HasNoHeap found.1 → ⊥)
     × HasSettings found.1 settings × (first_of (codes "LOG") found.1 ≡ Some (string_bytes log))
-MatchesAskFor (Some found) (Follow report log) = AskForLedger report found × (first_of (codes "LOG") found.1 ≡ Some (string_bytes log))
+MatchesAskFor (Some found) (Ledger report log) = AskForLedger report found × (first_of (codes "LOG") found.1 ≡ Some (string_bytes log))
 MatchesAskFor (Some found) (Reread (Sites settings) log) = (found.0 ≡ codes "sites")
     × HasHeap found.1 (Some settings) × (HasCalls found.1 → ⊥) × (first_of (codes "LOG") found.1 ≡ Some (string_bytes log))
 MatchesAskFor (Some found) (Reread (Timeline heap parts) log) = (found.0 ≡ codes "timeline")

@@ -2,7 +2,7 @@
 use Rattle.std.specs.Prelude.{◌≡◌, ◌⊎◌, ◌&&◌, Bool, true, false, not, List, Result, Err, String, IfOk, IfErr, codes, string_bytes, bytes_eq}
 use Rattle.std.specs.declared.alloc.Global.{Global}
 use Rattle.tlsf_tool.specs.declared.asked.Command.{Command}
-use Rattle.tlsf_tool.specs.declared.asked.Command.TheVariants.{Report, Follow, Parts, Reread, Save}
+use Rattle.tlsf_tool.specs.declared.asked.Command.TheVariants.{Report, Ledger, Parts, Reread, Save}
 use Rattle.tlsf_tool.specs.declared.asked.ToolFault.{ToolFault}
 use Rattle.tlsf_tool.specs.declared.asked.ToolFault.TheVariants.{ReadsOnce}
 use Rattle.tlsf_tool.specs.declared.plan.Plan.{Plan}
@@ -21,7 +21,7 @@ is_told_of streams log = streams.shown && not (streams.typed && is_dash log)
 -- It is told how far a run is where a log is read.
 abbrev pub is_told : Streams → Command → Bool
 is_told streams (Report name settings log) = is_told_of streams log
-is_told streams (Follow report log) = is_told_of streams log
+is_told streams (Ledger report log) = is_told_of streams log
 is_told streams (Parts heaps log) = is_told_of streams log
 is_told streams (Reread what log) = streams.shown
 is_told streams (Save settings log image) = is_told_of streams log

@@ -9,19 +9,19 @@ use Rattle.mtrace_replay.specs.RunFit.{RunsFit}
 use Rattle.mtrace_replay.specs.Saving.{PutsAndFlushes}
 use Rattle.tlsf_tool.specs.declared.asked.Rereading.{Rereading}
 use Rattle.tlsf_tool.specs.declared.asked.Rereading.TheVariants.{Sites, Timeline, Fit}
-use Rattle.tlsf_tool.specs.declared.asked.Name.{Name}
-use Rattle.tlsf_tool.specs.declared.asked.Name.TheVariants.{Leaks, Peak, Walk}
+use Rattle.tlsf_tool.specs.declared.asked.HeapReport.{HeapReport}
+use Rattle.tlsf_tool.specs.declared.asked.HeapReport.TheVariants.{Leaks, Peak, Walk}
 use Rattle.mtrace_replay.specs.declared.runs.report.Report.{Report}
 use Rattle.mtrace_replay.specs.declared.runs.report.Report.TheVariants as report
 use Rattle.tlsf_tool.specs.declared.asked.ToolFault.{ToolFault}
-use Rattle.tlsf_tool.specs.declared.asked.ToolFault.TheVariants.{Help, Usage, CannotOpen, InputIsOutput, ImageIsOutput, ReadsOnce, ReadsFileOnce, Run}
+use Rattle.tlsf_tool.specs.declared.asked.ToolFault.TheVariants.{Help, Usage, CannotOpen, InputIsOutput, ImageIsOutput, NoRandomBytes, ReadsOnce, ReadsFileOnce, Run}
 use Rattle.mtrace_replay.specs.declared.runs.status.Status.{Status}
 use Rattle.mtrace_replay.specs.declared.runs.status.Status.TheVariants.{Clean, Found}
 use Rattle.mtrace_replay.specs.declared.runs.status.RunFault.{RunFault}
 use Rattle.mtrace_replay.specs.declared.runs.status.RunFault.TheVariants.{Read, Write, OutOfMemory, BadSettings, Image}
 
 -- the report of a name
-abbrev pub report_of : Name → Report
+abbrev pub report_of : HeapReport → Report
 report_of Leaks = report.Leaks
 report_of Peak = report.Peak
 report_of Walk = report.Walk
@@ -66,6 +66,7 @@ status_of_fault (Usage text) = 2
 status_of_fault (CannotOpen file) = 3
 status_of_fault (InputIsOutput file) = 3
 status_of_fault (ImageIsOutput file) = 3
+status_of_fault NoRandomBytes = 3
 status_of_fault ReadsOnce = 2
 status_of_fault (ReadsFileOnce log) = 2
 status_of_fault (Run fault) = status_of_run_fault fault

@@ -8,9 +8,9 @@ use mtrace_replay::{Bounds, LedgerReport, PartBounds, RunFault, Settings};
 use std::alloc::Global;
 use thiserror::Error;
 
-/// The reports.
+/// The reports of a log that is replayed on a heap.
 #[derive(Clone, Copy, Debug, PartialEq, Eq)]
-pub enum Name {
+pub enum HeapReport {
     /// The report of leaks.
     Leaks,
     /// The report of the peak.
@@ -42,14 +42,14 @@ pub enum Command {
     /// A report of a log.
     Report {
         /// Which report.
-        name: Name,
+        name: HeapReport,
         /// The heap that the log is replayed on.
         settings: Settings,
         /// The log's name, `-` for standard input.
         log: String,
     },
     /// A report of a log that no heap is asked for.
-    Follow {
+    Ledger {
         /// Which report.
         report: LedgerReport,
         /// The log's name, `-` for standard input.
@@ -119,6 +119,9 @@ pub enum ToolFault {
     /// A log that has to be read more than once is to come from standard input.
     #[error("tlsf: standard input can't be read twice")]
     ReadsOnce,
+    /// The system gives no random bytes.
+    #[error("tlsf: read failed")]
+    NoRandomBytes,
     /// The run ended early.
     #[error("tlsf: {0}")]
     Run(RunFault),
@@ -144,8 +147,10 @@ impl ToolFault {
         match self {
             ToolFault::Help(_) => 0,
             ToolFault::Usage(_) | ToolFault::ReadsOnce | ToolFault::ReadsFileOnce(_) => 2,
-            ToolFault::CannotOpen(_) | ToolFault::InputIsOutput(_) | ToolFault::ImageIsOutput(_) =>
-                3,
+            ToolFault::CannotOpen(_)
+            | ToolFault::InputIsOutput(_)
+            | ToolFault::ImageIsOutput(_)
+            | ToolFault::NoRandomBytes => 3,
             ToolFault::Run(fault) => fault_status(*fault),
         }
     }

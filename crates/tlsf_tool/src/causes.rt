@@ -8,7 +8,7 @@ use std::io::{ErrorKind, Read, Seek, SeekFrom, Write};
 /// The error of the last call on a stream, where that failed.
 pub(crate) type Cause = Cell<Option<io::Error>>;
 
-/// The error of the last call on each stream of a run.
+/// The error of the last call on each stream of a run, and of that for random bytes.
 #[derive(Drop)]
 pub(crate) struct Causes {
     /// Of what is read.
@@ -17,6 +17,8 @@ pub(crate) struct Causes {
     pub output: Cause,
     /// Of the image that is written.
     pub image: Cause,
+    /// Of the system's random bytes.
+    pub random: Cause,
     /// Whether what is read is standard input.
     pub is_standard: Cell<bool>,
 }
@@ -28,6 +30,7 @@ impl Causes {
             input: Cell::new(None),
             output: Cell::new(None),
             image: Cell::new(None),
+            random: Cell::new(None),
             is_standard: Cell::new(false),
         }
     }
@@ -43,6 +46,7 @@ impl Causes {
         tell_cause(rt, input, &self.input)
             || tell_cause(rt, image, &self.image)
             || tell_cause(rt, "standard output", &self.output)
+            || tell_cause(rt, "random bytes", &self.random)
     }
 }
 

@@ -24,7 +24,7 @@ mod tests;
 mod word_faults;
 mod words;
 
-use crate::asked::{Command, Name, Rereading, ToolFault};
+use crate::asked::{Command, HeapReport, Rereading, ToolFault};
 use crate::causes::Causes;
 use crate::check::check_image;
 use crate::files::{FileNumber, are_one, make_file};
@@ -114,7 +114,7 @@ fn standard_input(run: &Run<'_>, name: String) -> Result<Input<Stdin>, ToolFault
 /// Makes a report of a log that is open.
 fn report<R: Read + Drop>(
     run: &Run<'_>,
-    name: Name,
+    name: HeapReport,
     settings: Settings,
     log: Input<R>,
 ) -> Result<u8, ToolFault> {
@@ -144,6 +144,7 @@ fn follow<R: Read + Drop>(
     let mut writer = run.output()?;
     let status = serve_ledger(
         run.rt.alloc(),
+        run.seed()?,
         report,
         &mut reader,
         &mut writer,
@@ -157,7 +158,14 @@ fn parts<R: Read + Drop>(run: &Run<'_>, heaps: u32, log: Input<R>) -> Result<u8,
     let mut reader = run.reader(log.file);
     let mut errors = run.errors();
     let mut writer = run.output()?;
-    let status = serve_parts(run.rt.alloc(), heaps, &mut reader, &mut writer, &mut errors);
+    let status = serve_parts(
+        run.rt.alloc(),
+        run.seed()?,
+        heaps,
+        &mut reader,
+        &mut writer,
+        &mut errors,
+    );
     Ok(run.end(status, log.name.as_str(), ""))
 }
 
@@ -173,6 +181,7 @@ fn reread(run: &Run<'_>, what: Rereading, log: String) -> Result<u8, ToolFault> 
     let mut writer = run.output()?;
     let status = serve_again(
         run.rt.alloc(),
+        run.seed()?,
         what,
         &mut reader,
         &mut writer,
@@ -260,7 +269,12 @@ fn size_parts(run: &Run<'_>, parts: &[PartBounds]) -> u8 {
 }
 
 /// Makes a report of a log, which is opened first where it is a file.
-fn report_log(run: &Run<'_>, name: Name, settings: Settings, log: String) -> Result<u8, ToolFault> {
+fn report_log(
+    run: &Run<'_>,
+    name: HeapReport,
+    settings: Settings,
+    log: String,
+) -> Result<u8, ToolFault> {
     if is_standard(&log) {
         return report(run, name, settings, standard_input(run, log)?);
     }
@@ -304,7 +318,7 @@ fn act(run: &Run<'_>, command: Command) -> Result<u8, ToolFault> {
             settings,
             log,
         } => report_log(run, name, settings, log),
-        Command::Follow { report, log } => follow_log(run, report, log),
+        Command::Ledger { report, log } => follow_log(run, report, log),
         Command::Parts { heaps, log } => parts_log(run, heaps, log),
         Command::Reread { what, log } => reread(run, what, log),
         Command::Save {
@@ -346,8 +360,10 @@ fn tell(rt: &HostRuntime, causes: &Causes, fault: &ToolFault) -> u8 {
             let _ = eprintln!(rt; "{fault}");
         }
     }
-    if let ToolFault::CannotOpen(name) = fault {
-        run.tell_cause(name.as_str(), name.as_str());
+    match fault {
+        ToolFault::CannotOpen(name) => run.tell_cause(name.as_str(), name.as_str()),
+        ToolFault::NoRandomBytes => run.tell_cause("", ""),
+        _ => {}
     }
     fault.status()
 }

@@ -41,7 +41,7 @@ fn is_told(streams: Streams, command: &Command) -> bool
 {
     match command {
         Command::Report { log, .. }
-        | Command::Follow { log, .. }
+        | Command::Ledger { log, .. }
         | Command::Parts { log, .. }
         | Command::Save { log, .. } => streams.shown && !(streams.typed && is_standard(log)),
         Command::Reread { .. } => streams.shown,

@@ -9,6 +9,7 @@ use crate::shown::Shown;
 use mtrace_log::{FromRead, ToWrite};
 use mtrace_replay::RunFault;
 use std::fs::File;
+use std::hash::RandomState;
 use std::io::{BufWriter, IsTerminal, Read, Stderr, Stdout, Write};
 use std::{env, io};
 
@@ -41,6 +42,20 @@ impl<'a> Run<'a> {
             rt,
             notice: Notice::new(rt, is_told),
             causes,
+        }
+    }
+
+    /// A seed by random bytes of the system, for the maps of addresses and locations: so no log can be made to slow them.
+    ///
+    /// # Errors
+    ///
+    /// `NoRandomBytes` where the system gives none.
+    pub fn seed(&self) -> Result<RandomState, ToolFault> {
+        let seed = RandomState::new(self.rt);
+        keep(&self.causes.random, &seed);
+        match seed {
+            Ok(seed) => Ok(seed),
+            Err(_) => Err(ToolFault::NoRandomBytes),
         }
     }
 

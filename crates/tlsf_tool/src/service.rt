@@ -10,7 +10,7 @@ ghost use Rattle.mtrace_replay.specs.SizeParts.{RunsSizeParts};
 ghost use Rattle.mtrace_replay.specs.Saving.{RunsAndSaves, PutsAndFlushes};
 ghost use Rattle.tlsf_tool.specs.Statuses.{report_of, EndsAs, Rereads, PutsHelp};
 
-use crate::asked::{Name, Rereading, ToolFault};
+use crate::asked::{HeapReport, Rereading, ToolFault};
 use crate::statuses::{end_status, fault_status};
 use arrayvec::ArrayString;
 use mtrace_log::{Again, Failed, Sink, Source, put_all};
@@ -21,6 +21,7 @@ use mtrace_replay::{
 };
 use std::alloc::Global;
 use std::fmt::Write;
+use std::hash::RandomState;
 
 /// No text of a run's fault is longer, in bytes.
 const LONGEST_FAULT: usize = 64;
@@ -70,7 +71,7 @@ pub fn serve_help<W: Sink, E: Sink>(text: &str, writer: &mut W, errors: &mut E) 
 /// Makes the report of this name from what the reader has left.
 fn run_named<R: Source, W: Sink>(
     alloc: Global,
-    name: Name,
+    name: HeapReport,
     settings: Settings,
     reader: &mut R,
     writer: &mut W,
@@ -78,9 +79,9 @@ fn run_named<R: Source, W: Sink>(
     ensures { Runs (report_of name) settings result (course R.shown reader.old reader.new) (course W.shown writer.old writer.new) }
 {
     match name {
-        Name::Leaks => run_leaks(alloc, reader, writer, settings),
-        Name::Peak => run_peak(alloc, reader, writer, settings),
-        Name::Walk => run_walk(alloc, reader, writer, settings),
+        HeapReport::Leaks => run_leaks(alloc, reader, writer, settings),
+        HeapReport::Peak => run_peak(alloc, reader, writer, settings),
+        HeapReport::Walk => run_walk(alloc, reader, writer, settings),
     }
 }
 
@@ -89,7 +90,7 @@ fn run_named<R: Source, W: Sink>(
 /// was, and 2 for bad settings. It is 3 where the reader or the writer failed, and 4 where memory was refused.
 pub fn serve<R: Source, W: Sink, E: Sink>(
     alloc: Global,
-    name: Name,
+    name: HeapReport,
     settings: Settings,
     reader: &mut R,
     writer: &mut W,
@@ -106,6 +107,7 @@ pub fn serve<R: Source, W: Sink, E: Sink>(
 /// was. It is 3 where the reader or the writer failed, and 4 where memory was refused.
 pub fn serve_ledger<R: Source, W: Sink, E: Sink>(
     alloc: Global,
+    seed: RandomState,
     report: LedgerReport,
     reader: &mut R,
     writer: &mut W,
@@ -114,12 +116,13 @@ pub fn serve_ledger<R: Source, W: Sink, E: Sink>(
     ensures { EndsAs (λ outcome. RunsServed report outcome (R.shown reader.old) (R.shown reader.new) (W.shown writer.old) (W.shown writer.new))
         result errors.old errors.new }
 {
-    end_run(errors, run_ledger(alloc, reader, writer, report))
+    end_run(errors, run_ledger(alloc, seed, reader, writer, report))
 }
 
 /// Makes what reads its log more than once, of the log that the reader has left.
 pub(crate) fn run_again<R: Again, W: Sink, T: Watch>(
     alloc: Global,
+    seed: RandomState,
     what: Rereading,
     reader: &mut R,
     writer: &mut W,
@@ -130,7 +133,7 @@ pub(crate) fn run_again<R: Again, W: Sink, T: Watch>(
     match what {
         Rereading::Sites(settings) => run_sites(alloc, reader, writer, settings),
         Rereading::Timeline { heap: None, parts } => {
-            run_ledger_timeline(alloc, reader, writer, parts)
+            run_ledger_timeline(alloc, seed, reader, writer, parts)
         }
         Rereading::Timeline {
             heap: Some(settings),
@@ -146,6 +149,7 @@ pub(crate) fn run_again<R: Again, W: Sink, T: Watch>(
 /// refused.
 pub fn serve_parts<R: Source, W: Sink, E: Sink>(
     alloc: Global,
+    seed: RandomState,
     heaps: u32,
     reader: &mut R,
     writer: &mut W,
@@ -154,7 +158,7 @@ pub fn serve_parts<R: Source, W: Sink, E: Sink>(
     ensures { EndsAs (λ outcome. RunsParts heaps outcome (course R.shown reader.old reader.new) (course W.shown writer.old writer.new))
         result errors.old errors.new }
 {
-    end_run(errors, run_fit_heaps(alloc, reader, writer, heaps))
+    end_run(errors, run_fit_heaps(alloc, seed, reader, writer, heaps))
 }
 
 /// Makes what reads its log more than once, of the log that the reader has left. Puts the line of a fault to `errors`,
@@ -163,6 +167,7 @@ pub fn serve_parts<R: Source, W: Sink, E: Sink>(
 /// writer failed, or the reader didn't begin again, and 4 where memory was refused.
 pub fn serve_again<R: Again, W: Sink, E: Sink, T: Watch>(
     alloc: Global,
+    seed: RandomState,
     what: Rereading,
     reader: &mut R,
     writer: &mut W,
@@ -172,7 +177,7 @@ pub fn serve_again<R: Again, W: Sink, E: Sink, T: Watch>(
     ensures { EndsAs (λ outcome. Rereads what outcome (course R.shown reader.old reader.new) (course W.shown writer.old writer.new))
         result errors.old errors.new }
 {
-    end_run(errors, run_again(alloc, what, reader, writer, watch))
+    end_run(errors, run_again(alloc, seed, what, reader, writer, watch))
 }
 
 /// Tells how large a pool is always enough within the bounds, by `run_size`. Puts the line of a fault to `errors`, whose

@@ -28,7 +28,25 @@ mod timeline;
 mod words;
 
 use std::fmt::Debug;
+use std::hash::RandomState;
+use std::io;
 use std::process::Abort;
+use std::random::RandomSource;
+
+/// Gives bytes that are the same in each run.
+struct SameBytes;
+
+impl RandomSource for SameBytes {
+    fn fill_bytes(&self, buf: &mut [u8]) -> io::Result<()> {
+        buf.fill(7);
+        Ok(())
+    }
+}
+
+/// The seed of a run that is tested.
+pub(crate) fn seed(rt: &impl Abort) -> RandomState {
+    RandomState::new(&SameBytes).expect(rt, "a seed")
+}
 
 /// Compares two values, by one call: a proof goes over `assert_eq!` once here, and not at each place again.
 pub(crate) fn expect_eq<T: PartialEq + Debug + Drop>(rt: &impl Abort, found: T, wanted: T) {

@@ -6,7 +6,7 @@ ghost use Rattle.tlsf_tool.specs.CommandLine.{HasNumber, HasFlag, HasNoHeap, IsO
 ghost use Rattle.tlsf_tool.specs.Faults.{ExplainsKind, IsUsage};
 ghost use Rattle.tlsf_tool.specs.Asks.{MatchesGive, WordsGive};
 
-use crate::asked::{Command, Name, Rereading, ToolFault};
+use crate::asked::{Command, HeapReport, Rereading, ToolFault};
 use crate::command_line::tlsf_command;
 use crate::option_values::{
     NO_COMMAND, NO_MEMORY, heap_of, log_of, option_number, size_of, word_of,
@@ -42,7 +42,7 @@ fn asked_sites(alloc: Global, matches: &ArgMatches<'_>) -> Result<Command, ToolF
         } else {
             LedgerReport::Sites
         };
-        return Ok(Command::Follow { report, log });
+        return Ok(Command::Ledger { report, log });
     };
     if has_calls {
         return Err(ToolFault::usage(alloc, NO_CALLS));
@@ -123,7 +123,7 @@ fn has_flag(matches: &ArgMatches<'_>, id: &str) -> bool
 /// What the matches of the subcommand of this name ask for, which is of a report without a heap.
 fn asked_ledger(
     alloc: Global,
-    name: Name,
+    name: HeapReport,
     report: LedgerReport,
     matches: &ArgMatches<'_>,
 ) -> Result<Command, ToolFault>
@@ -135,11 +135,15 @@ fn asked_ledger(
     if settings != Settings::DEFAULT {
         return Err(ToolFault::usage(alloc, NO_SETTINGS));
     }
-    Ok(Command::Follow { report, log })
+    Ok(Command::Ledger { report, log })
 }
 
 /// What the matches of the subcommand ask for of a report on a heap.
-fn asked_on_heap(alloc: Global, name: Name, matches: &ArgMatches<'_>) -> Result<Command, ToolFault>
+fn asked_on_heap(
+    alloc: Global,
+    name: HeapReport,
+    matches: &ArgMatches<'_>,
+) -> Result<Command, ToolFault>
     requires none { HasNoHeap (rows_of (found_of matches.now)) → ⊥ }
     ensures { MatchesGive (Some (name_text name, rows_of (found_of matches.now))) result }
 {
@@ -152,16 +156,20 @@ fn asked_on_heap(alloc: Global, name: Name, matches: &ArgMatches<'_>) -> Result<
 }
 
 /// What the matches of a report's subcommand ask for.
-fn asked_report(alloc: Global, name: Name, matches: &ArgMatches<'_>) -> Result<Command, ToolFault>
+fn asked_report(
+    alloc: Global,
+    name: HeapReport,
+    matches: &ArgMatches<'_>,
+) -> Result<Command, ToolFault>
     ensures { MatchesGive (Some (name_text name, rows_of (found_of matches.now))) result }
 {
     if !has_flag(matches, "no-heap") {
         return asked_on_heap(alloc, name, matches);
     }
     match name {
-        Name::Leaks => asked_ledger(alloc, name, LedgerReport::Held, matches),
-        Name::Peak => asked_ledger(alloc, name, LedgerReport::Sums, matches),
-        Name::Walk => Err(ToolFault::usage(alloc, NO_COMMAND)),
+        HeapReport::Leaks => asked_ledger(alloc, name, LedgerReport::Held, matches),
+        HeapReport::Peak => asked_ledger(alloc, name, LedgerReport::Sums, matches),
+        HeapReport::Walk => Err(ToolFault::usage(alloc, NO_COMMAND)),
     }
 }
 
@@ -179,9 +187,9 @@ fn asked(alloc: Global, matches: &ArgMatches<'_>) -> Result<Command, ToolFault>
         "save" => asked_save(alloc, sub_matches),
         "size" => asked_size(alloc, sub_matches),
         "check" => asked_check(alloc, sub_matches),
-        "leaks" => asked_report(alloc, Name::Leaks, sub_matches),
-        "peak" => asked_report(alloc, Name::Peak, sub_matches),
-        "walk" => asked_report(alloc, Name::Walk, sub_matches),
+        "leaks" => asked_report(alloc, HeapReport::Leaks, sub_matches),
+        "peak" => asked_report(alloc, HeapReport::Peak, sub_matches),
+        "walk" => asked_report(alloc, HeapReport::Walk, sub_matches),
         _ => Err(ToolFault::usage(alloc, NO_COMMAND)),
     }
 }

@@ -14,7 +14,7 @@ use Rattle.mtrace_replay.specs.declared.held.diagnostic.Kind.TheVariants.{Alread
 use Rattle.mtrace_replay.specs.Started.{Bare}
 use Rattle.mtrace_replay.specs.Moment.{ReadLine, Given, Moment, Plan, Act, idle, give, take, move, plan, allocation, release, reallocation, renewal, none_for, doing, done, moment, answered, moved, asked_size, after_diagnostics, half, is_new}
 use Rattle.mtrace_replay.specs.History.{held, given_or, unless_taken, pending, notes, AreHeld, entries_of, moments, next_moment, content_after}
-use Rattle.mtrace_replay.specs.Totals.{is_served, is_refused, is_refusal, Measures, IsPeak, bytes_in, blocks_in, first_moments, AreTotals}
+use Rattle.mtrace_replay.specs.Totals.{is_served, is_refused, is_refusal, Measures, IsPeak, asked_bytes_in, blocks_in, first_moments, AreTotals}
 use Rattle.mtrace_replay.specs.Step.{held_given}
 use Rattle.mtrace_replay.specs.RunServed.{AreServedTotals}
 use Rattle.mtrace_replay.specs.declared.heap.totals.Totals.{Totals}
@@ -337,10 +337,10 @@ module _ (past : List Moment) where
 
 -- ---- the sums
 
-bytes_on : (past : List Moment) (n : ℕ) → Measures bytes_in past n → Measures bytes_in (map plain past) n
+bytes_on : (past : List Moment) (n : ℕ) → Measures asked_bytes_in past n → Measures asked_bytes_in (map plain past) n
 bytes_on past n is = record { all = unplaced_all is.all; held = held_unplaced is.all past is.held; measured = is.measured ∙ ap total_size (sym (entries_unplaced_all is.all)) }
 
-bytes_back : (past : List Moment) (n : ℕ) → Measures bytes_in (map plain past) n → Measures bytes_in past n
+bytes_back : (past : List Moment) (n : ℕ) → Measures asked_bytes_in (map plain past) n → Measures asked_bytes_in past n
 bytes_back past n is = record { all = _; held = held_back past is.all is.held; measured = is.measured ∙ ap total_size (sym (entries_back past is.all is.held)) }
 
 blocks_on : (past : List Moment) (n : ℕ) → Measures blocks_in past n → Measures blocks_in (map plain past) n
@@ -357,16 +357,16 @@ first_plain k past = ap (λ n. drop (n - k) (map plain past)) (length_plain past
 peak_plain : (past : List Moment) (bytes line : ℕ) → IsPeak past bytes line → IsPeak (map plain past) bytes line
 peak_plain past bytes line is = record {
   within = omega (arith, is.within, length_plain past);
-  reached = subst (λ ms. Measures bytes_in ms bytes) (sym (first_plain line past)) (bytes_on (first_moments line past) bytes is.reached);
-  greatest = λ k n has. is.greatest k n (bytes_back (first_moments k past) n (subst (λ ms. Measures bytes_in ms n) (first_plain k past) has));
-  first = λ k n less has. is.first k n less (bytes_back (first_moments k past) n (subst (λ ms. Measures bytes_in ms n) (first_plain k past) has));
+  reached = subst (λ ms. Measures asked_bytes_in ms bytes) (sym (first_plain line past)) (bytes_on (first_moments line past) bytes is.reached);
+  greatest = λ k n has. is.greatest k n (bytes_back (first_moments k past) n (subst (λ ms. Measures asked_bytes_in ms n) (first_plain k past) has));
+  first = λ k n less has. is.first k n less (bytes_back (first_moments k past) n (subst (λ ms. Measures asked_bytes_in ms n) (first_plain k past) has));
 }
 
 pub sums_alike : (start : Bare) (past : List Moment) (totals : Totals) (sums : LedgerTotals) → AreTotals start past totals → AreServedTotals (map plain past) sums → sums ≡ without_places totals
 sums_alike start past totals sums are told =
     let lines : sums.lines ≡ totals.lines = told.lines ∙ length_plain past ∙ sym are.lines in
     let served : sums.served ≡ totals.served = told.served ∙ count_plain past ∙ sym are.served in
-    let bytes = measure_is_one bytes_in (map plain past) sums.live_bytes totals.live_bytes told.live_bytes (bytes_on past totals.live_bytes are.live_bytes) in
+    let bytes = measure_is_one asked_bytes_in (map plain past) sums.live_bytes totals.live_bytes told.live_bytes (bytes_on past totals.live_bytes are.live_bytes) in
     let blocks = measure_is_one blocks_in (map plain past) sums.live_blocks totals.live_blocks told.live_blocks (blocks_on past totals.live_blocks are.live_blocks) in
     let peak = peak_plain past totals.peak_bytes totals.peak_line are.peak in
     let most = one_greatest _ (map plain past) sums.peak_bytes totals.peak_bytes sums.peak_line totals.peak_line told.peak peak in
@@ -391,6 +391,6 @@ none_refused_before start (line ∷ later) past none =
 pub points_alike : (start : Bare) (past : List Moment) (point : Point) (other : LedgerPoint) → IsPoint start past point → IsLedgerPoint (map plain past) other
     → (other.bytes ≡ point.bytes) × (other.blocks ≡ point.blocks)
 points_alike start past point other is told = (
-  measure_is_one bytes_in (map plain past) other.bytes point.bytes told.bytes (bytes_on past point.bytes is.bytes),
+  measure_is_one asked_bytes_in (map plain past) other.bytes point.bytes told.bytes (bytes_on past point.bytes is.bytes),
   measure_is_one blocks_in (map plain past) other.blocks point.blocks told.blocks (blocks_on past point.blocks is.blocks),
 )

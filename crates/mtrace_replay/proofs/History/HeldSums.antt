@@ -9,7 +9,7 @@ use Rattle.mtrace_replay.specs.History.{AreHeld, held, unless_taken, given_or, e
 use Rattle.mtrace_replay.specs.Step.{held_given}
 use Rattle.mtrace_replay.specs.Texts.{total_size}
 use Rattle.mtrace_replay.specs.Totals.{rounded_bytes_in}
-use Rattle.mtrace_replay.specs.Needs.{of_one, block_bytes}
+use Rattle.mtrace_replay.specs.Needs.{of_one, bytes_of_block}
 use Rattle.mtrace_replay.proofs.History.SortedLemmas.{addresses, one_list}
 use Rattle.mtrace_replay.proofs.History.FoundLemmas.{found_is_held, held_as_found}
 use Rattle.mtrace_replay.proofs.History.HeldCounts.{Rise, put, still_held, with_given, sum-put, sum-without, held_given-put, rise-put, rise-rest, held_given-rest}
@@ -72,6 +72,6 @@ bytes_summed [] = refl
 bytes_summed (given ∷ all) =
     omega (arith, bytes_summed all, sum_by-cons (λ (given : Given). given.entry.size) given all, sum_by-cons (λ (entry : Entry). entry.size) given.entry (entries_of all))
 
-pub rounded_summed : (all : List Given) → rounded_bytes_in all ≡ sum_by block_bytes all
+pub rounded_summed : (all : List Given) → rounded_bytes_in all ≡ sum_by bytes_of_block all
 rounded_summed [] = refl
-rounded_summed (given ∷ all) = omega (arith, rounded_summed all, sum_by-cons block_bytes given all)
+rounded_summed (given ∷ all) = omega (arith, rounded_summed all, sum_by-cons bytes_of_block given all)

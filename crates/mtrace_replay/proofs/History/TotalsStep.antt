@@ -12,7 +12,7 @@ use Rattle.mtrace_replay.specs.Moment.{Given, Moment}
 use Rattle.mtrace_replay.specs.History.{AreHeld, content_after, entries_of}
 use Rattle.mtrace_replay.specs.Step.{end_of}
 use Rattle.mtrace_replay.specs.Texts.{total_size}
-use Rattle.mtrace_replay.specs.Totals.{is_served, is_refusal, is_refused, bytes_in, Measures, IsPeak, IsLiveIn, IsEnd, IsHighPlace, AreTotals, gone_on}
+use Rattle.mtrace_replay.specs.Totals.{is_served, is_refusal, is_refused, asked_bytes_in, Measures, IsPeak, IsLiveIn, IsEnd, IsHighPlace, AreTotals, gone_on}
 use Rattle.mtrace_replay.proofs.History.TotalsLemmas.{first_moments_all, greatest_goes_on, peak_goes_on}
 
 -- an end is there where something was given
@@ -84,7 +84,7 @@ totals_of_line start past moment all old end refused bytes blocks are end_is ref
   high_place = high_goes_on start past moment old.high_place are.high_place end stood given;
 }
   where
-    sum_now : Measures bytes_in (moment ∷ past) bytes
+    sum_now : Measures asked_bytes_in (moment ∷ past) bytes
     sum_now = record { all = all; held = held; measured = sum }
 
     -- the line is as many as there were, and one
@@ -92,4 +92,4 @@ totals_of_line start past moment all old end refused bytes blocks are end_is ref
     peak =
         let last : suc (length past) ≡ old.lines + 1 = omega (arith, are.lines) in
         subst (λ n. IsPeak (moment ∷ past) (if nat_lt old.peak_bytes bytes then bytes else old.peak_bytes) (if nat_lt old.peak_bytes bytes then n else old.peak_line)) last
-        (peak_goes_on bytes_in moment past old.peak_bytes bytes sum_now old.peak_line are.peak (nat_lt old.peak_bytes bytes) refl)
+        (peak_goes_on asked_bytes_in moment past old.peak_bytes bytes sum_now old.peak_line are.peak (nat_lt old.peak_bytes bytes) refl)

@@ -22,7 +22,7 @@ use Rattle.mtrace_replay.specs.Holding.{Holding}
 use Rattle.mtrace_replay.specs.declared.heap.totals.Totals.{Totals}
 use Rattle.mtrace_replay.specs.Index.{held_at}
 use Rattle.mtrace_replay.specs.Texts.{total_size}
-use Rattle.mtrace_replay.specs.Totals.{bytes_in, AreTotals, blocks_in, gone_on, is_refusal}
+use Rattle.mtrace_replay.specs.Totals.{asked_bytes_in, AreTotals, blocks_in, gone_on, is_refusal}
 use Rattle.mtrace_replay.proofs.OnHeap.StepLemmas.{found_given, given_under}
 use Rattle.mtrace_replay.proofs.OnHeap.LiveBefore.{stood_outcome}
 use Rattle.mtrace_replay.proofs.History.TotalsLemmas.{none_measured, most_none, high_none, started_free}
@@ -159,9 +159,9 @@ totals_none settings = record {
   lines = refl;
   served = refl;
   refused = refl;
-  live_bytes = none_measured bytes_in refl;
+  live_bytes = none_measured asked_bytes_in refl;
   live_blocks = none_measured blocks_in refl;
-  peak = most_none bytes_in refl;
+  peak = most_none asked_bytes_in refl;
   high_place = high_none (started settings) (started_free settings);
 }
 

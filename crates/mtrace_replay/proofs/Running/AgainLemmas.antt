@@ -10,10 +10,10 @@ use Rattle.mtrace_log.specs.HasRead.{HasRead, HasReadAll, HasReadSo}
 use Rattle.mtrace_log.specs.Event.{Event}
 use Rattle.mtrace_log.specs.declared.event.LineFault.{LineFault}
 use Rattle.mtrace_replay.specs.declared.heap.settings.Settings.{Settings}
-use Rattle.mtrace_replay.specs.declared.runs.following.Stop.{Stop}
+use Rattle.mtrace_replay.specs.declared.runs.reading.Stop.{Stop}
 use Rattle.mtrace_replay.specs.Course.{Course, shown_before, shown_after}
 use Rattle.mtrace_replay.specs.Replay.{Replayed, StandsFor, heap_rules}
-use Rattle.mtrace_replay.specs.Run.{with_unused, FailedInPiece, IsPastLastNumber}
+use Rattle.mtrace_replay.specs.Following.{with_unused, FailedInPiece, IsPastLastNumber}
 use Rattle.mtrace_replay.specs.Again.{HasReadFirst, HasReplayedFirst, StopsEarly, ReplaysFirst, begun_again}
 use Rattle.mtrace_replay.specs.Replaying.{no_line, IsFollowed, HasGivenSo, FollowsUpTo}
 use Rattle.mtrace_replay.proofs.Running.ReplayingLemmas.{used_to_end, followed_start}

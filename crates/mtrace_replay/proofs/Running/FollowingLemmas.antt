@@ -1,5 +1,5 @@
 -- Lines that are followed, with what is wrong with each put at once: how that goes on and ends.
-use Rattle.std.proofs.Common.{◌≡◌, ℕ, Bool, true, false, ◌||◌, List, [], ◌∷◌, ◌++◌, length, refl, sym, ap, ◌∙◌, subst, reverse, arith}
+use Rattle.std.proofs.Common.{◌≡◌, ℕ, Bool, true, false, ◌||◌, List, [], ◌∷◌, ◌++◌, length, refl, sym, ap, ◌∙◌, subst, reverse, arith, inl}
 use Rattle.std.specs.Prelude.{◌==◌}
 use Rattle.std.proofs.lemmas.Bool.{eqb-true}
 use Rattle.mtrace_log.specs.Progress.{Progress, Faulted, to_come, GivesLine, FindsEnd, GivesFault, CallsFor}
@@ -12,78 +12,79 @@ use Rattle.mtrace_log.proofs.Writing.{Wrote-nothing, Wrote-append, Begins-after}
 use Rattle.mtrace_replay.specs.declared.held.diagnostic.Diagnostic.{Diagnostic}
 use Rattle.mtrace_replay.specs.Moment.{ReadLine}
 use Rattle.mtrace_replay.specs.Texts.{diagnostics_text}
-use Rattle.mtrace_replay.specs.Run.{has_some}
 use Rattle.mtrace_replay.specs.Replaying.{IsFollowed}
-use Rattle.mtrace_replay.specs.LineReplay.{noted}
-use Rattle.mtrace_replay.specs.Following.{noted_text, LineFollowed, LineBegun, HasFollowed, StopsReading, StopsWriting, StopsWanting}
+use Rattle.mtrace_replay.specs.Following.{has_some, noted_text, HasFollowed, StopsReading, StopsWriting, StopsWanting}
 use Rattle.mtrace_replay.specs.Replaying.{no_line}
 use Rattle.mtrace_replay.proofs.Running.ReplayingLemmas.{followed_start, followed_line, followed_end, followed_fault, line_read, reverse-more}
 use Rattle.mtrace_replay.proofs.Told.DiagnosticLemmas.{diagnostics_text-append, some_diagnostic-append}
 
 -- the lines so far were read and followed, and their diagnostics written
-pub record IsFollowing (Stands : List ReadLine → Type 0) (added : ReadLine → List ReadLine → List Diagnostic) (progress : Progress) (has_diagnostics : Bool) (reader_start reader_now : ReaderState) (writer_start writer_now : WriterState) : Type 0 where
+pub record IsFollowing (Stands : List ReadLine → Type 0) (noted : List ReadLine → List Diagnostic) (progress : Progress) (has_diagnostics : Bool) (reader_start reader_now : ReaderState) (writer_start writer_now : WriterState) : Type 0 where
   pub so_far : IsFollowed Stands progress reader_start reader_now
-  pub wrote : Wrote writer_start writer_now (noted_text added (reverse so_far.lines))
-  pub has_diagnostics_is : has_diagnostics ≡ has_some (noted added (reverse so_far.lines))
+  pub wrote : Wrote writer_start writer_now (noted_text noted so_far.lines)
+  pub has_diagnostics_is : has_diagnostics ≡ has_some (noted (reverse so_far.lines))
 
-module _ (added : ReadLine → List ReadLine → List Diagnostic) where
-  noted_more : (lines : List ReadLine) (line : ReadLine) → noted_text added (reverse (lines ++ line ∷ [])) ≡ noted_text added (reverse lines) ++ diagnostics_text (added line (reverse lines))
-  noted_more lines line = ap (noted_text added) (reverse-more lines line) ∙ diagnostics_text-append (noted added (reverse lines)) (added line (reverse lines))
-
+module _ (noted : List ReadLine → List Diagnostic) where
   -- before the first line
-  pub following_start : (Stands : List ReadLine → Type 0) (reader : ReaderState) (writer : WriterState) → Stands [] → IsFollowing Stands added no_line false reader reader writer writer
-  following_start Stands reader writer stands = record { so_far = followed_start Stands reader stands; wrote = Wrote-nothing writer; has_diagnostics_is = refl }
+  pub following_start : (Stands : List ReadLine → Type 0) (reader : ReaderState) (writer : WriterState) → Stands [] → noted [] ≡ [] → IsFollowing Stands noted no_line false reader reader writer writer
+  following_start Stands reader writer stands none = record {
+    so_far = followed_start Stands reader stands;
+    wrote = subst (λ (all : List Diagnostic). Wrote writer writer (diagnostics_text all)) (sym none) (Wrote-nothing writer);
+    has_diagnostics_is = sym (ap has_some none);
+  }
 
   module _ (Stood Stands : List ReadLine → Type 0) (old new : Progress) (had_diagnostics : Bool) (start before after : ReaderState) (writer_start writer_old writer_new : WriterState) (line : Line)
-      (under : IsFollowing Stood added old had_diagnostics start before writer_start writer_old) (given : GivesLine old new (to_come old before.left) (to_come new after.left) line) where
+      (under : IsFollowing Stood noted old had_diagnostics start before writer_start writer_old) (given : GivesLine old new (to_come old before.left) (to_come new after.left) line) where
     abbrev past_lines : List ReadLine
     past_lines = reverse under.so_far.lines
 
-    -- one line more
-    pub following_line : (more : Bool) → LineFollowed Stands (added line.event past_lines) line.event past_lines more writer_old writer_new
-        → IsFollowing Stands added new (had_diagnostics || more) start after writer_start writer_new
-    following_line more gives =
-        let lines = under.so_far.lines in
-        let its = added line.event past_lines in
-        record {
-          so_far = followed_line Stood Stands old new start before after line under.so_far given gives.stands;
-          wrote = subst (λ (text : List ℕ). Wrote writer_start writer_new text) (sym (noted_more lines line.event))
-              (Wrote-append writer_start writer_old writer_new (noted_text added past_lines) (diagnostics_text its) under.wrote gives.wrote);
-          has_diagnostics_is = ap (λ b. b || more) under.has_diagnostics_is ∙ ap (λ b. has_some (noted added past_lines) || b) gives.has_diagnostics_is
-              ∙ sym (ap (λ past. has_some (noted added past)) (reverse-more lines line.event) ∙ some_diagnostic-append (noted added past_lines) its);
-        }
+    module _ (stands : Stands (line.event ∷ past_lines)) (its : List Diagnostic) (told : noted (line.event ∷ past_lines) ≡ noted past_lines ++ its) where
+      noted_more : noted (reverse (under.so_far.lines ++ line.event ∷ [])) ≡ noted past_lines ++ its
+      noted_more = ap noted (reverse-more under.so_far.lines line.event) ∙ told
 
-    -- the writer failed at a line's diagnostics
-    pub following_write : LineBegun Stands (added line.event past_lines) line.event past_lines writer_old writer_new → StopsWriting Stands added start after writer_start writer_new
-    following_write begins =
-        let now = followed_line Stood Stands old new start before after line under.so_far given begins.stands in
-        record {
-          lines = now.lines;
-          unused = new.held;
-          read = line_read new.stage start.left (to_come old before.left) (to_come new after.left) now.lines line.event given.taken now.read;
-          stands = now.stands;
-          begun = subst (λ (text : List ℕ). Begins writer_start writer_new text) (sym (noted_more under.so_far.lines line.event))
-              (Begins-after writer_start writer_old writer_new (noted_text added past_lines) (diagnostics_text (added line.event past_lines)) under.wrote begins.begun);
-        }
+      text_more : noted_text noted (under.so_far.lines ++ line.event ∷ []) ≡ noted_text noted under.so_far.lines ++ diagnostics_text its
+      text_more = ap diagnostics_text noted_more ∙ diagnostics_text-append (noted past_lines) its
+
+      -- one line more
+      pub following_line : (more : Bool) → Wrote writer_old writer_new (diagnostics_text its) → more ≡ has_some its → IsFollowing Stands noted new (had_diagnostics || more) start after writer_start writer_new
+      following_line more wrote more_is = record {
+        so_far = followed_line Stood Stands old new start before after line under.so_far given stands;
+        wrote = subst (λ (text : List ℕ). Wrote writer_start writer_new text) (sym text_more)
+            (Wrote-append writer_start writer_old writer_new (noted_text noted under.so_far.lines) (diagnostics_text its) under.wrote wrote);
+        has_diagnostics_is = ap (λ b. b || more) under.has_diagnostics_is ∙ ap (λ b. has_some (noted past_lines) || b) more_is
+            ∙ sym (ap has_some noted_more ∙ some_diagnostic-append (noted past_lines) its);
+      }
+
+      -- the writer failed at a line's diagnostics
+      pub following_write : Begins writer_old writer_new (diagnostics_text its) → StopsWriting Stands noted start after writer_start writer_new
+      following_write begun =
+          let now = followed_line Stood Stands old new start before after line under.so_far given stands in
+          record {
+            lines = now.lines;
+            unused = new.held;
+            read = line_read new.stage start.left (to_come old before.left) (to_come new after.left) now.lines line.event given.taken now.read;
+            stands = now.stands;
+            begun = subst (λ (text : List ℕ). Begins writer_start writer_new text) (sym text_more)
+                (Begins-after writer_start writer_old writer_new (noted_text noted under.so_far.lines) (diagnostics_text its) under.wrote begun);
+          }
 
     -- memory was refused at a line
-    pub following_memory : writer_new ≡ writer_old → StopsWanting added start after writer_start writer_new
+    pub following_memory : writer_new.taken ≡ writer_old.taken → StopsWanting noted start after writer_start writer_new
     following_memory same =
         -- the line was read, and isn't followed
         let now = followed_line Stood (λ past. Unit {0}) old new start before after line under.so_far given tt in
         record {
           lines = under.so_far.lines;
           unused = new.held;
-          line = line.event;
-          read = line_read new.stage start.left (to_come old before.left) (to_come new after.left) now.lines line.event given.taken now.read;
-          wrote = subst (λ (writer : WriterState). Wrote writer_start writer (noted_text added past_lines)) (sym same) under.wrote;
+          reason = inl (line.event, line_read new.stage start.left (to_come old before.left) (to_come new after.left) now.lines line.event given.taken now.read);
+          wrote = same ∙ under.wrote;
         }
 
   module _ {R : Type 0} (reads : R → ReaderState) (Stands : List ReadLine → Type 0) (old new : Progress) (has_diagnostics : Bool) (start : ReaderState) (reader_old reader_new : R) (writer_start writer : WriterState)
-      (under : IsFollowing Stands added old has_diagnostics start (reads reader_old) writer_start writer) where
+      (under : IsFollowing Stands noted old has_diagnostics start (reads reader_old) writer_start writer) where
     -- the end of the log
     pub following_end : FindsEnd old.stage old new reader_old reader_new (to_come old (reads reader_old).left) (to_come new (reads reader_new).left)
-        → HasFollowed Stands added has_diagnostics start (reads reader_new) writer_start writer
+        → HasFollowed Stands noted has_diagnostics start (reads reader_new) writer_start writer
     following_end found = record {
       lines = under.so_far.lines;
       read = followed_end reads Stands old new start reader_old reader_new under.so_far found;
@@ -93,13 +94,13 @@ module _ (added : ReadLine → List ReadLine → List Diagnostic) where
     }
 
     -- the reader failed, or there are no numbers left
-    pub following_fault : (fault : ReadFault) → GivesFault old.stage fault old new reader_old reader_new (to_come old (reads reader_old).left) (to_come new (reads reader_new).left)
+    pub following_fault : (fault : ReadFault) (writer_new : WriterState) → GivesFault old.stage fault old new reader_old reader_new (to_come old (reads reader_old).left) (to_come new (reads reader_new).left)
         → (fault ≡ ReaderFailed → new.held ≡ []) → CallsFor (Faulted fault) start.calls (reads reader_new).calls
-        → StopsReading added start (reads reader_new) writer_start writer
-    following_fault fault given nothing came = record {
+        → writer_new.taken ≡ writer.taken → StopsReading noted start (reads reader_new) writer_start writer_new
+    following_fault fault writer_new given nothing came same = record {
       lines = under.so_far.lines;
       reason = followed_fault reads Stands old new start reader_old reader_new fault under.so_far given nothing came;
-      wrote = under.wrote;
+      wrote = same ∙ under.wrote;
     }
 
 pub no_findings : (findings : List Diagnostic) → (length findings == 0) ≡ true → findings ≡ []

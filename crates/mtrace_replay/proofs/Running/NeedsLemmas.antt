@@ -14,18 +14,18 @@ use Rattle.mtrace_replay.specs.declared.runs.status.Status.TheVariants.{Clean, F
 use Rattle.mtrace_replay.specs.Started.{started}
 use Rattle.mtrace_replay.specs.Moment.{ReadLine, Given, Moment, half}
 use Rattle.mtrace_replay.specs.History.{next_moment, moments, held, pending, content_after}
-use Rattle.mtrace_replay.specs.Totals.{blocks_in, bytes_in, rounded_bytes_in, is_served, Measures, IsMost}
+use Rattle.mtrace_replay.specs.Totals.{blocks_in, asked_bytes_in, rounded_bytes_in, is_served, Measures, IsMost}
 use Rattle.mtrace_replay.specs.Asked.{bytes_asked, class_asked, greater_class}
-use Rattle.mtrace_replay.specs.Replay.{Replayed, StandsFor, entries, added_diagnostics, heap_rules}
-use Rattle.mtrace_replay.specs.Following.{HasFollowed, StopsWriting}
-use Rattle.mtrace_replay.specs.Run.{end_text, has_some}
-use Rattle.mtrace_replay.specs.Needs.{of_one, block_bytes, Exchanges, BehindExchange, AreNeeds, needs_rules, EndsWithNeeds}
+use Rattle.mtrace_replay.specs.Replay.{Replayed, StandsFor, entries, heap_notes}
+use Rattle.mtrace_replay.specs.Following.{has_some, HasFollowed}
+use Rattle.mtrace_replay.specs.Run.{end_text}
+use Rattle.mtrace_replay.specs.Needs.{of_one, bytes_of_block, Exchanges, BehindExchange, AreNeeds, needs_rules, EndsWithNeeds}
 use Rattle.mtrace_replay.proofs.History.TotalsLemmas.{measure_is_one, none_measured, most_none, most_goes_on}
 use Rattle.mtrace_replay.proofs.OnHeap.HeldFew.{rounded_few}
 use Rattle.mtrace_replay.proofs.History.GivenSize.{given_size, given_vacant}
 use Rattle.mtrace_replay.proofs.History.HeldSums.{freed_of, sum-freed, sum-changes, blocks_summed, bytes_summed, rounded_summed}
 use Rattle.mtrace_replay.proofs.History.TotalsStep.{served_more}
-use Rattle.mtrace_replay.proofs.Running.RunLemmas.{has_replayed, ends_at}
+use Rattle.mtrace_replay.proofs.Running.RunLemmas.{followed_also, ends_at}
 
 -- what no line needs
 pub needs_none : (settings : Settings) → AreNeeds (started settings) [] (record { most = 0; rounded = 0; most_rounded = 0; class_size = Some unit })
@@ -70,7 +70,7 @@ module _ (old new : Replayed) (settings : Settings) (past : List ReadLine) (line
   blocks_were = measured blocks_in old.totals.live_blocks before.totals.live_blocks ∙ blocks_summed old.given
 
   bytes_were : old.totals.live_bytes ≡ sum_by (λ (given : Given). given.entry.size) old.given
-  bytes_were = measured bytes_in old.totals.live_bytes before.totals.live_bytes ∙ bytes_summed old.given
+  bytes_were = measured asked_bytes_in old.totals.live_bytes before.totals.live_bytes ∙ bytes_summed old.given
 
   exchanges : Exchanges (bytes_asked line) old.totals new.totals freed now.given
   unfolding moments
@@ -78,7 +78,7 @@ module _ (old new : Replayed) (settings : Settings) (past : List ReadLine) (line
     served = served_more now ms old.totals.served new.totals.served before.totals.served after.totals.served;
     size = by_given now.given refl;
     blocks = omega (arith, changes (λ given. 1), blocks_were, measured_now blocks_in new.totals.live_blocks after.totals.live_blocks, blocks_summed new.given);
-    bytes = omega (arith, changes (λ given. given.entry.size), bytes_were, measured_now bytes_in new.totals.live_bytes after.totals.live_bytes, bytes_summed new.given);
+    bytes = omega (arith, changes (λ given. given.entry.size), bytes_were, measured_now asked_bytes_in new.totals.live_bytes after.totals.live_bytes, bytes_summed new.given);
     within_blocks = omega (arith, blocks_were, freed_within (λ given. 1));
     within_bytes = omega (arith, bytes_were, freed_within (λ given. given.entry.size));
   }
@@ -96,7 +96,7 @@ module _ (old new : Replayed) (settings : Settings) (past : List ReadLine) (line
           all = new.given;
           held = after.held;
           measured = behind freed now.given (rounded_bytes_in new.given) exchanges (omega (arith, were, rounded_few old.given, few))
-              (omega (arith, changes block_bytes, were, rounded_summed old.given, rounded_summed new.given));
+              (omega (arith, changes bytes_of_block, were, rounded_summed old.given, rounded_summed new.given));
         }
 
     pub needs_more : more.most ≡ max needs.most new.totals.live_blocks → more.most_rounded ≡ max needs.most_rounded more.rounded
@@ -111,39 +111,22 @@ module _ (old new : Replayed) (settings : Settings) (past : List ReadLine) (line
           ∙ ap (λ size. if is_served now then greater_class size (class_asked line) else size) are.class;
     }
 
-module _ (settings : Settings) (replay : NeedsReplay) (reader_old reader_new : ReaderState) (writer_old writer_new : WriterState) where
-  -- where the lines were followed with what they need, the replay followed them
-  abbrev pub followed_alone : (has_diagnostics : Bool) → HasFollowed (needs_rules.Stands settings replay) (added_diagnostics settings) has_diagnostics reader_old reader_new writer_old writer_new
-      → HasFollowed (heap_rules.Stands settings replay.replay) (added_diagnostics settings) has_diagnostics reader_old reader_new writer_old writer_new
-  followed_alone has_diagnostics done = record {
-    lines = done.lines;
-    read = done.read;
-    stands = done.stands.0;
-    wrote = done.wrote;
-    has_diagnostics_is = done.has_diagnostics_is;
-  }
-
-  pub stopped_alone : StopsWriting (needs_rules.Stands settings replay) (added_diagnostics settings) reader_old reader_new writer_old writer_new
-      → StopsWriting (heap_rules.Stands settings replay.replay) (added_diagnostics settings) reader_old reader_new writer_old writer_new
-  stopped_alone stops = record {
-    lines = stops.lines;
-    unused = stops.unused;
-    read = stops.read;
-    stands = stops.stands.0;
-    begun = stops.begun;
-  }
+-- the needs aside, the replay alone followed the lines
+abbrev pub alone : (settings : Settings) (replay : NeedsReplay) (has_diagnostics : Bool) (reader_old reader_new : ReaderState) (writer_old writer_new : WriterState)
+    → HasFollowed (needs_rules.Stands settings replay) (heap_notes settings) has_diagnostics reader_old reader_new writer_old writer_new
+    → HasFollowed (λ past. StandsFor replay.replay settings past) (heap_notes settings) has_diagnostics reader_old reader_new writer_old writer_new
+alone settings replay has_diagnostics reader_old reader_new writer_old writer_new done =
+    followed_also (needs_rules.Stands settings replay) (λ past. StandsFor replay.replay settings past) (heap_notes settings) has_diagnostics reader_old reader_new writer_old writer_new (λ past both. both.0) done
 
 -- all was written of a run without a report
 pub ends_with_needs : (settings : Settings) (replay : NeedsReplay) (end : Replayed) (has_diagnostics : Bool) (status : Status) (reader_old reader_new : ReaderState) (writer_old writer_middle writer_new : WriterState)
-    → HasFollowed (needs_rules.Stands settings replay) (added_diagnostics settings) has_diagnostics reader_old reader_new writer_old writer_middle
+    → HasFollowed (needs_rules.Stands settings replay) (heap_notes settings) has_diagnostics reader_old reader_new writer_old writer_middle
     → Wrote writer_middle writer_new (end_text Nothing replay.replay)
     → status ≡ (if has_diagnostics || (has_some (half replay.replay.totals.lines replay.replay.pending) || has_some (entries replay.replay)) then Found else Clean)
     → end ≡ replay.replay → replay.replay.content.records ≡ settings.records → EndsWithNeeds settings status (record { replay = end; needs = replay.needs }) reader_old reader_new writer_old writer_new
-unfolding has_replayed ends_at
-ends_with_needs settings replay end has_diagnostics status reader_old reader_new writer_old writer_middle writer_new done wrote is kept records =
-    let alone = followed_alone settings replay reader_old reader_new writer_old writer_middle has_diagnostics done in
-    record {
-      ends = ends_at settings replay.replay end has_diagnostics status reader_old reader_new writer_old writer_middle writer_new
-          (has_replayed settings replay.replay has_diagnostics reader_old reader_new writer_old writer_middle alone) wrote is kept records;
-      needs = done.stands.1;
-    }
+unfolding ends_at
+ends_with_needs settings replay end has_diagnostics status reader_old reader_new writer_old writer_middle writer_new done wrote is kept records = record {
+  ends = ends_at settings replay.replay end has_diagnostics status reader_old reader_new writer_old writer_middle writer_new
+      (alone settings replay has_diagnostics reader_old reader_new writer_old writer_middle done) wrote is kept records;
+  needs = done.stands.1;
+}

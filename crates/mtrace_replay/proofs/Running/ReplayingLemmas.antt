@@ -12,7 +12,7 @@ use Rattle.mtrace_log.specs.declared.line.Line.{Line}
 use Rattle.mtrace_log.specs.declared.line.ReadFault.{ReadFault}
 use Rattle.mtrace_log.specs.declared.line.ReadFault.TheVariants.{ReaderFailed, TooManyLines}
 use Rattle.mtrace_log.proofs.ReadLemmas.{HasRead-none, HasReadSo-line, HasReadSo-end, HasReadSo-fault}
-use Rattle.mtrace_replay.specs.Run.{with_unused, FailedInPiece, IsPastLastNumber}
+use Rattle.mtrace_replay.specs.Following.{with_unused, FailedInPiece, IsPastLastNumber}
 use Rattle.mtrace_replay.specs.Replaying.{no_line, IsFollowed, IsFollowedOn}
 
 pub prepend_nothing : (known : Bytes) → prepend_known [] known ≡ known

@@ -1,6 +1,6 @@
 -- A run under way, and how it goes on and ends.
 use Rattle.std.proofs.Common.{◌≡◌, ℕ, Bool, ◌||◌, List, [], ◌∷◌, ◌++◌, length, refl, sym, ap, ◌∙◌, subst, reverse, inl, inr, append_assoc, if◌then◌else◌}
-use Rattle.std.specs.Prelude.{Result, Ok, Err}
+use Rattle.std.specs.Prelude.{Result, Ok, Err, IsErrOf, IsTrue, ◌↔◌}
 use Rattle.mtrace_log.specs.Trace.{HasTaken, FlushWasAsked, flushed}
 use Rattle.mtrace_log.specs.declared.failed.Failed.{Failed as Failure}
 use Rattle.mtrace_log.specs.declared.call.Call.{Call}
@@ -16,16 +16,19 @@ use Rattle.mtrace_replay.specs.declared.runs.status.Status.{Status}
 use Rattle.mtrace_replay.specs.declared.runs.status.Status.TheVariants.{Clean, Found}
 use Rattle.mtrace_replay.specs.Started.{started}
 use Rattle.mtrace_replay.specs.Moment.{ReadLine, Moment, Given, moment, half}
-use Rattle.mtrace_replay.specs.History.{moments, content_after, held, history, notes, pending, entries_of}
+use Rattle.mtrace_replay.specs.History.{moments, content_after, held, history, notes, diagnostics, pending, entries_of}
 use Rattle.mtrace_replay.specs.Texts.{diagnostics_text, report_text, clean_or_found}
 use Rattle.mtrace_log.specs.Output.{Wrote, Begins}
-use Rattle.mtrace_replay.specs.Replay.{Replayed, StandsFor, entries, added_diagnostics, heap_rules}
+use Rattle.mtrace_replay.specs.Replay.{Replayed, StandsFor, entries, added_diagnostics, heap_notes}
 use Rattle.mtrace_replay.specs.declared.runs.report.Report.{Report}
 use Rattle.mtrace_replay.specs.declared.runs.report.Report.TheVariants.{Nothing}
 use Rattle.mtrace_replay.specs.declared.heap.totals.Totals.{Totals}
-use Rattle.mtrace_replay.specs.LineReplay.{noted}
-use Rattle.mtrace_replay.specs.Following.{noted_text, HasFollowed, StopsReading, StopsWriting}
-use Rattle.mtrace_replay.specs.Run.{text_of_notes, whole_text, end_text, StopsAtRead, StopsAtWrite, Reports, HoldsAtEnd, EndsAt, has_some, HasReplayed}
+use Rattle.mtrace_replay.specs.Following.{has_some, noted_text, HasFollowed, StopsWriting, ReadEnds}
+use Rattle.mtrace_replay.specs.Run.{text_of_notes, whole_text, end_text, StopsAtWrite, Reports, Runs, HoldsAtEnd, EndsAt}
+use Rattle.mtrace_replay.specs.Course.{Course, shown_before, shown_after}
+use Rattle.mtrace_replay.specs.Settings.{are_bad}
+use Rattle.mtrace_replay.specs.declared.runs.status.RunFault.{RunFault}
+use Rattle.mtrace_replay.specs.declared.runs.status.RunFault.TheVariants as fault
 use Rattle.mtrace_replay.proofs.History.Moments.{moments-none, moments-line}
 use Rattle.mtrace_replay.proofs.Told.DiagnosticLemmas.{diagnostics_text-append}
 use Rattle.mtrace_replay.proofs.Running.ReplayingLemmas.{prepend_nothing, reverse-more}
@@ -39,112 +42,9 @@ next_moment settings lines line =
 pub history-more : (settings : Settings) (lines : List (Result Event LineFault)) (line : Result Event LineFault) → history settings (lines ++ line ∷ []) ≡ next_moment settings lines line ∷ history settings lines
 history-more settings lines line = ap (moments (started settings)) (reverse-more lines line) ∙ moments-line (started settings) line (reverse lines)
 
--- what comes behind the diagnostics of the lines: that of the end, and the report
-abbrev pub last_text : Report → Settings → List (Result Event LineFault) → List Given → Totals → List ℕ
-last_text report settings lines all totals =
-    diagnostics_text (half (length lines) (pending (reverse lines)))
-    ++ report_text report (entries_of all) totals (content_after (started settings) (history settings lines))
-
--- the whole text, of the diagnostics of the lines and what comes at the end
-pub whole_is : (report : Report) (settings : Settings) (lines : List (Result Event LineFault)) (all : List Given) (totals : Totals)
-    → whole_text report settings lines all totals ≡ text_of_notes settings lines ++ last_text report settings lines all totals
-whole_is report settings lines all totals =
-    let last = half (length lines) (pending (reverse lines)) in
-    let told = report_text report (entries_of all) totals (content_after (started settings) (history settings lines)) in
-    ap (λ text. text ++ told) (diagnostics_text-append (notes (history settings lines)) last)
-    ∙ append_assoc (text_of_notes settings lines) (diagnostics_text last) told
-
--- the diagnostic at the end, of a replay that stands for the lines
-pub half-is : (settings : Settings) (replay : Replayed) (lines : List (Result Event LineFault)) → StandsFor replay settings (reverse lines)
-    → half replay.totals.lines replay.pending ≡ half (length lines) (pending (reverse lines))
-half-is settings replay lines stands =
-    ap (λ n. half n replay.pending) (stands.lines_are ∙ length-reverse lines) ∙ ap (half (length lines)) stands.pending_is
-
--- what a replay that stands for the lines writes at the end
-pub end_is : (report : Report) (settings : Settings) (replay : Replayed) (lines : List (Result Event LineFault)) → StandsFor replay settings (reverse lines)
-    → end_text report replay ≡ last_text report settings lines replay.given replay.totals
-end_is report settings replay lines stands =
-    ap (λ last. diagnostics_text last ++ report_text report (entries replay) replay.totals replay.content) (half-is settings replay lines stands)
-    ∙ ap (λ content. diagnostics_text (half (length lines) (pending (reverse lines))) ++ report_text report (entries replay) replay.totals content) stands.content_is
-
--- the diagnostics of lines, one after the other, are those of their history
-pub noted_is : (settings : Settings) (past : List ReadLine) → noted (added_diagnostics settings) past ≡ notes (moments (started settings) past)
-noted_is settings [] = sym (ap notes (moments-none (started settings)))
-noted_is settings (line ∷ past) =
-    ap (λ all. all ++ added_diagnostics settings line past) (noted_is settings past) ∙ sym (ap notes (moments-line (started settings) line past))
-
-pub noted_text_is : (settings : Settings) (lines : List ReadLine) → noted_text (added_diagnostics settings) (reverse lines) ≡ text_of_notes settings lines
-noted_text_is settings lines = ap diagnostics_text (noted_is settings (reverse lines))
-
--- all lines were followed
-unfoldable pub has_replayed : (settings : Settings) (replay : Replayed) (has_diagnostics : Bool) (reader_old reader_new : ReaderState) (writer_old writer_new : WriterState)
-    → HasFollowed (heap_rules.Stands settings replay) (added_diagnostics settings) has_diagnostics reader_old reader_new writer_old writer_new
-    → HasReplayed settings replay has_diagnostics reader_old reader_new writer_old writer_new
-has_replayed settings replay has_diagnostics reader_old reader_new writer_old writer_new done = record {
-  lines = done.lines;
-  read = done.read;
-  stands = done.stands;
-  wrote = subst (λ (text : List ℕ). Wrote writer_old writer_new text) (noted_text_is settings done.lines) done.wrote;
-  has_diagnostics_is = done.has_diagnostics_is ∙ ap has_some (noted_is settings (reverse done.lines));
-}
-
--- the reader failed, or a line past the last number would come
-pub stops_at_read : (settings : Settings) (reader_old reader_new : ReaderState) (writer_old writer_new : WriterState)
-    → StopsReading (added_diagnostics settings) reader_old reader_new writer_old writer_new → StopsAtRead settings reader_old reader_new writer_old writer_new
-stops_at_read settings reader_old reader_new writer_old writer_new stops = record {
-  lines = stops.lines;
-  reason = stops.reason;
-  wrote = subst (λ (text : List ℕ). Wrote writer_old writer_new text) (noted_text_is settings stops.lines) stops.wrote;
-}
-
--- the writer failed at a line's diagnostics
-pub stops_at_write : (report : Report) (settings : Settings) (replay : Replayed) (reader_old reader_new : ReaderState) (writer_old writer_new : WriterState)
-    → StopsWriting (heap_rules.Stands settings replay) (added_diagnostics settings) reader_old reader_new writer_old writer_new
-    → StopsAtWrite report settings reader_old reader_new writer_old writer_new
-stops_at_write report settings replay reader_old reader_new writer_old writer_new stops =
-    let Q : List ℕ → Type 0 = λ text. Begins writer_old writer_new text in
-    let lines = stops.lines in
-    let begun : Begins writer_old writer_new (text_of_notes settings lines) = subst Q (noted_text_is settings lines) stops.begun in
-    record {
-      lines = lines;
-      unused = stops.unused;
-      begun = elim stops.read [
-        | inl reading ↦ inl (reading, begun)
-        | inr all ↦ inr (record {
-          read = all;
-          all = replay.given;
-          held = stops.stands.held;
-          totals = replay.totals;
-          summed = stops.stands.totals;
-          begun = subst Q (sym (whole_is report settings lines replay.given replay.totals))
-              (Begins-longer writer_old writer_new (text_of_notes settings lines) (last_text report settings lines replay.given replay.totals) begun);
-        })
-      ];
-    }
-
--- the writer failed at the end
-pub report_write : (report : Report) (settings : Settings) (replay : Replayed) (has_diagnostics : Bool) (reader_old reader_new : ReaderState) (writer_old writer_middle writer_new : WriterState)
-    → HasReplayed settings replay has_diagnostics reader_old reader_new writer_old writer_middle
-    → Begins writer_middle writer_new (end_text report replay)
-    → StopsAtWrite report settings reader_old reader_new writer_old writer_new
-report_write report settings replay has_diagnostics reader_old reader_new writer_old writer_middle writer_new done begins =
-    let P : Bytes → Type 0 = λ after. HasReadAll reader_old.left after done.lines in
-    let Q : List ℕ → Type 0 = λ text. Begins writer_old writer_new text in
-    let R : List ℕ → Type 0 = λ text. Begins writer_middle writer_new text in
-    let last = last_text report settings done.lines replay.given replay.totals in
-    record {
-      lines = done.lines;
-      unused = [];
-      begun = inr (record {
-        read = subst P (sym (prepend_nothing reader_new.left)) done.read;
-        all = replay.given;
-        held = done.stands.held;
-        totals = replay.totals;
-        summed = done.stands.totals;
-        begun = subst Q (sym (whole_is report settings done.lines replay.given replay.totals))
-            (Begins-after writer_old writer_middle writer_new (text_of_notes settings done.lines) last done.wrote (subst R (end_is report settings replay done.lines done.stands) begins));
-      });
-    }
+-- the text of diagnostics, and those of the end, and then a text
+pub text_is : (first last : List Diagnostic) (text : List ℕ) → diagnostics_text (first ++ last) ++ text ≡ diagnostics_text first ++ (diagnostics_text last ++ text)
+text_is first last text = ap (λ front. front ++ text) (diagnostics_text-append first last) ∙ append_assoc (diagnostics_text first) (diagnostics_text last) text
 
 -- the status, of the diagnostics of the lines, those at the end, and what is held
 pub status-is : (first last : List Diagnostic) (all : List Entry)
@@ -154,41 +54,150 @@ status-is [] (diagnostic ∷ last) all = refl
 status-is [] [] (one ∷ all) = refl
 status-is [] [] [] = refl
 
--- all was written
-abbrev pub report_all : (report : Report) (settings : Settings) (replay : Replayed) (has_diagnostics : Bool) (status : Status) (reader_old reader_new : ReaderState) (writer_old writer_middle writer_new : WriterState)
-    → HasReplayed settings replay has_diagnostics reader_old reader_new writer_old writer_middle
-    → Wrote writer_middle writer_new (end_text report replay)
-    → status ≡ (if has_diagnostics || (has_some (half replay.totals.lines replay.pending) || has_some (entries replay)) then Found else Clean)
-    → Reports report settings status reader_old reader_new writer_old writer_new
-report_all report settings replay has_diagnostics status reader_old reader_new writer_old writer_middle writer_new done wrote is =
-    let Q : List ℕ → Type 0 = λ text. Wrote writer_old writer_new text in
-    let R : List ℕ → Type 0 = λ text. Wrote writer_middle writer_new text in
-    let last = half (length done.lines) (pending (reverse done.lines)) in
-    let told = last_text report settings done.lines replay.given replay.totals in
+-- all lines were followed, and then come the diagnostics of the end, and a text
+module _ (Stands : List ReadLine → Type 0) (noted : List ReadLine → List Diagnostic) (has_diagnostics : Bool) (reader_old reader_new : ReaderState) (writer_old writer_middle writer_new : WriterState)
+    (done : HasFollowed Stands noted has_diagnostics reader_old reader_new writer_old writer_middle) (last : List Diagnostic) where
+  pub wrote_whole : (text : List ℕ) → Wrote writer_middle writer_new (diagnostics_text last ++ text) → Wrote writer_old writer_new (diagnostics_text (noted (reverse done.lines) ++ last) ++ text)
+  wrote_whole text wrote = subst (λ (all : List ℕ). Wrote writer_old writer_new all) (sym (text_is (noted (reverse done.lines)) last text))
+      (Wrote-append writer_old writer_middle writer_new (noted_text noted done.lines) (diagnostics_text last ++ text) done.wrote wrote)
+
+  pub begun_whole : (text : List ℕ) → Begins writer_middle writer_new (diagnostics_text last ++ text) → Begins writer_old writer_new (diagnostics_text (noted (reverse done.lines) ++ last) ++ text)
+  begun_whole text begun = subst (λ (all : List ℕ). Begins writer_old writer_new all) (sym (text_is (noted (reverse done.lines)) last text))
+      (Begins-after writer_old writer_middle writer_new (noted_text noted done.lines) (diagnostics_text last ++ text) done.wrote begun)
+
+  pub status_whole : (all : List Entry) (status : Status) → status ≡ (if has_diagnostics || (has_some last || has_some all) then Found else Clean) → status ≡ clean_or_found (noted (reverse done.lines) ++ last) all
+  status_whole all status is = is ∙ ap (λ b. if b || (has_some last || has_some all) then Found else Clean) done.has_diagnostics_is ∙ status-is (noted (reverse done.lines)) last all
+
+-- what stands for lines stands for less
+abbrev pub followed_also : (Stood Stands : List ReadLine → Type 0) (noted : List ReadLine → List Diagnostic) (has_diagnostics : Bool) (reader_old reader_new : ReaderState) (writer_old writer_new : WriterState)
+    → ((past : List ReadLine) → Stood past → Stands past)
+    → HasFollowed Stood noted has_diagnostics reader_old reader_new writer_old writer_new → HasFollowed Stands noted has_diagnostics reader_old reader_new writer_old writer_new
+followed_also Stood Stands noted has_diagnostics reader_old reader_new writer_old writer_new also done = record {
+  lines = done.lines;
+  read = done.read;
+  stands = also (reverse done.lines) done.stands;
+  wrote = done.wrote;
+  has_diagnostics_is = done.has_diagnostics_is;
+}
+
+-- the diagnostic at the end, of a replay that stands for the lines
+pub half-is : (settings : Settings) (replay : Replayed) (lines : List (Result Event LineFault)) → StandsFor replay settings (reverse lines)
+    → half replay.totals.lines replay.pending ≡ half (length lines) (pending (reverse lines))
+half-is settings replay lines stands =
+    ap (λ n. half n replay.pending) (stands.lines_are ∙ length-reverse lines) ∙ ap (half (length lines)) stands.pending_is
+
+-- what a replay that stands for the lines writes at the end
+pub whole_is : (report : Report) (settings : Settings) (replay : Replayed) (lines : List ReadLine) → StandsFor replay settings (reverse lines)
+    → diagnostics_text (heap_notes settings (reverse lines) ++ half replay.totals.lines replay.pending) ++ report_text report (entries replay) replay.totals replay.content
+    ≡ whole_text report settings lines replay.given replay.totals
+whole_is report settings replay lines stands =
+    ap (λ last. diagnostics_text (heap_notes settings (reverse lines) ++ last) ++ report_text report (entries replay) replay.totals replay.content) (half-is settings replay lines stands)
+    ∙ ap (λ content. diagnostics_text (diagnostics settings lines) ++ report_text report (entries replay) replay.totals content) stands.content_is
+
+-- no line has diagnostics
+pub no_notes : (settings : Settings) → heap_notes settings [] ≡ []
+no_notes settings = ap notes (moments-none (started settings))
+
+-- the diagnostics of one line more
+pub notes_more : (settings : Settings) (line : ReadLine) (past : List ReadLine) → heap_notes settings (line ∷ past) ≡ heap_notes settings past ++ added_diagnostics settings line past
+notes_more settings line past = ap notes (moments-line (started settings) line past)
+
+-- the writer failed at a line's diagnostics
+pub stops_at_write : (report : Report) (settings : Settings) (Stands : List ReadLine → Type 0) (replay : Replayed) (reader_old reader_new : ReaderState) (writer_old writer_new : WriterState)
+    → ((past : List ReadLine) → Stands past → StandsFor replay settings past) → StopsWriting Stands (heap_notes settings) reader_old reader_new writer_old writer_new
+    → StopsAtWrite report settings reader_old reader_new writer_old writer_new
+stops_at_write report settings Stands replay reader_old reader_new writer_old writer_new also stops =
+    let lines = stops.lines in
+    let stands = also (reverse lines) stops.stands in
+    let notes = heap_notes settings (reverse lines) in
+    let last = half replay.totals.lines replay.pending in
+    let told = report_text report (entries replay) replay.totals replay.content in
     record {
-      lines = done.lines;
-      read = done.read;
+      lines = lines;
+      unused = stops.unused;
+      begun = elim stops.read [
+        | inl reading ↦ inl (reading, stops.begun)
+        | inr all ↦ inr (record {
+          read = all;
+          all = replay.given;
+          held = stands.held;
+          totals = replay.totals;
+          summed = stands.totals;
+          begun = subst (λ (text : List ℕ). Begins writer_old writer_new text) (sym (text_is notes last told) ∙ whole_is report settings replay lines stands)
+              (Begins-longer writer_old writer_new (diagnostics_text notes) (diagnostics_text last ++ told) stops.begun);
+        })
+      ];
+    }
+
+-- the lines weren't all followed, and the run ended so
+pub run_stops : {A B : Type 0} (report : Report) (settings : Settings) (Stands : List ReadLine → Type 0) (replay : Replayed) → ((past : List ReadLine) → Stands past → StandsFor replay settings past)
+    → (stop : RunFault) (reader : Course A ReaderState) (writer : Course B WriterState) → IsErrOf {T = Status} (Err fault.Read) fault.BadSettings ↔ IsTrue (are_bad settings)
+    → ReadEnds Stands (heap_notes settings) ⊥ (Err stop) (shown_before reader) (shown_after reader) (shown_before writer) (shown_after writer)
+    → (shown_after reader).whole ≡ (shown_before reader).whole → Runs report settings (Err stop) reader writer
+run_stops report settings Stands replay also fault.Read reader writer bad ends whole = record { ends = ends; bad_settings = bad; whole = whole }
+run_stops report settings Stands replay also fault.Write reader writer bad ends whole = record {
+  ends = record {
+    write_fault = stops_at_write report settings Stands replay (shown_before reader) (shown_after reader) (shown_before writer) (shown_after writer) also ends.write_fault;
+    writer_failed = ends.writer_failed;
+    reader_not_failed = ends.reader_not_failed;
+  };
+  bad_settings = ((λ is. absurd (cc)), (λ is. absurd (let read = bad.1 is in cc)));
+  whole = whole;
+}
+run_stops report settings Stands replay also fault.OutOfMemory reader writer bad ends whole = absurd ends.1
+run_stops report settings Stands replay also fault.BadSettings reader writer bad ends whole = absurd ends
+run_stops report settings Stands replay also fault.Image reader writer bad ends whole = absurd ends
+
+module _ (report : Report) (settings : Settings) (replay : Replayed) (has_diagnostics : Bool) (reader_old reader_new : ReaderState) (writer_old writer_middle writer_new : WriterState)
+    (done : HasFollowed (λ past. StandsFor replay settings past) (heap_notes settings) has_diagnostics reader_old reader_new writer_old writer_middle) where
+  abbrev its_last : List Diagnostic
+  its_last = half replay.totals.lines replay.pending
+
+  abbrev its_text : List ℕ
+  its_text = report_text report (entries replay) replay.totals replay.content
+
+  -- the writer failed at the end
+  pub report_write : Begins writer_middle writer_new (end_text report replay) → StopsAtWrite report settings reader_old reader_new writer_old writer_new
+  report_write begins = record {
+    lines = done.lines;
+    unused = [];
+    begun = inr (record {
+      read = subst (λ (after : Bytes). HasReadAll reader_old.left after done.lines) (sym (prepend_nothing reader_new.left)) done.read;
       all = replay.given;
       held = done.stands.held;
       totals = replay.totals;
       summed = done.stands.totals;
-      wrote = subst Q (sym (whole_is report settings done.lines replay.given replay.totals))
-          (Wrote-append writer_old writer_middle writer_new (text_of_notes settings done.lines) told done.wrote (subst R (end_is report settings replay done.lines done.stands) wrote));
-      status_is = is
-          ∙ ap (λ b. if b || (has_some (half replay.totals.lines replay.pending) || has_some (entries replay)) then Found else Clean) done.has_diagnostics_is
-          ∙ ap (λ more. if has_some (notes (history settings done.lines)) || (has_some more || has_some (entries replay)) then Found else Clean) (half-is settings replay done.lines done.stands)
-          ∙ status-is (notes (history settings done.lines)) last (entries replay);
-    }
+      begun = subst (λ (text : List ℕ). Begins writer_old writer_new text) (whole_is report settings replay done.lines done.stands)
+          (begun_whole _ (heap_notes settings) has_diagnostics reader_old reader_new writer_old writer_middle writer_new done its_last its_text begins);
+    });
+  }
+
+  -- all was written
+  abbrev pub report_all : (status : Status) → Wrote writer_middle writer_new (end_text report replay)
+      → status ≡ (if has_diagnostics || (has_some its_last || has_some (entries replay)) then Found else Clean)
+      → Reports report settings status reader_old reader_new writer_old writer_new
+  report_all status wrote is = record {
+    lines = done.lines;
+    read = done.read;
+    all = replay.given;
+    held = done.stands.held;
+    totals = replay.totals;
+    summed = done.stands.totals;
+    wrote = subst (λ (text : List ℕ). Wrote writer_old writer_new text) (whole_is report settings replay done.lines done.stands)
+        (wrote_whole _ (heap_notes settings) has_diagnostics reader_old reader_new writer_old writer_middle writer_new done its_last its_text wrote);
+    status_is = status_whole _ (heap_notes settings) has_diagnostics reader_old reader_new writer_old writer_middle writer_new done its_last (entries replay) status is
+        ∙ ap (λ last. clean_or_found (heap_notes settings (reverse done.lines) ++ last) (entries replay)) (half-is settings replay done.lines done.stands);
+  }
 
 -- all was written of a run that makes no report, and the replay in the end
 unfoldable pub ends_at : (settings : Settings) (replay end : Replayed) (has_diagnostics : Bool) (status : Status) (reader_old reader_new : ReaderState) (writer_old writer_middle writer_new : WriterState)
-    → HasReplayed settings replay has_diagnostics reader_old reader_new writer_old writer_middle
+    → HasFollowed (λ past. StandsFor replay settings past) (heap_notes settings) has_diagnostics reader_old reader_new writer_old writer_middle
     → Wrote writer_middle writer_new (end_text Nothing replay)
     → status ≡ (if has_diagnostics || (has_some (half replay.totals.lines replay.pending) || has_some (entries replay)) then Found else Clean)
     → end ≡ replay → replay.content.records ≡ settings.records
     → EndsAt settings status end reader_old reader_new writer_old writer_new
 ends_at settings replay end has_diagnostics status reader_old reader_new writer_old writer_middle writer_new done wrote is kept records = record {
-  reports = report_all Nothing settings replay has_diagnostics status reader_old reader_new writer_old writer_middle writer_new done wrote is;
+  reports = report_all Nothing settings replay has_diagnostics reader_old reader_new writer_old writer_middle writer_new done status wrote is;
   stands = subst (λ (r : Replayed). StandsFor r settings (reverse done.lines)) (sym kept) done.stands;
   records = ap (λ (r : Replayed). r.content.records) kept ∙ records;
 }

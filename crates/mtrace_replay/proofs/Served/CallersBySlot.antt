@@ -6,7 +6,7 @@ use Rattle.std.specs.Map.{values_of}
 use Rattle.std.proofs.lemmas.Bool.{cases_eq, eq-eqb, ne_eqb, eqb-true}
 use Rattle.mtrace_replay.specs.Sites.{Origin, weigh}
 use Rattle.mtrace_replay.specs.declared.no_heap.ledger.Kept.{Kept}
-use Rattle.mtrace_replay.specs.declared.no_heap.count.Count.{Count}
+use Rattle.mtrace_replay.specs.declared.held.count.Count.{Count}
 use Rattle.mtrace_replay.specs.declared.held.amount.Amount.{Amount}
 use Rattle.mtrace_replay.specs.Calls.{Caller, Called, called_at, has_no_call, caller_of, count_more, count_temporary, CountsMore}
 use Rattle.mtrace_replay.specs.Locations.{Extends, location_of, HasLocation}

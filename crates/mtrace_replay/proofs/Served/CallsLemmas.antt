@@ -6,14 +6,14 @@ use Rattle.std.proofs.lemmas.Bool.{false≢true, eq-eqb, ne_eqb, eqb-true}
 use Rattle.mtrace_log.specs.declared.event.Event.TheVariants.{Alloc, Free, New, Aligned}
 use Rattle.mtrace_log.specs.declared.event.LineFault.TheVariants as fault
 use Rattle.mtrace_replay.specs.Entry.{Entry}
-use Rattle.mtrace_replay.specs.declared.no_heap.count.Count.{Count}
+use Rattle.mtrace_replay.specs.declared.held.count.Count.{Count}
 use Rattle.mtrace_replay.specs.Sites.{weigh}
 use Rattle.mtrace_replay.specs.Texts.{total_size}
 use Rattle.mtrace_replay.specs.Moment.{ReadLine, Given, Plan, plan, move, none_for, doing, allocation, reallocation, renewal, release}
 use Rattle.mtrace_replay.specs.declared.held.diagnostic.Kind.TheVariants.{AlreadyHeld}
 use Rattle.mtrace_replay.specs.Calls.{Called, CountsMore, CountsReleased}
 use Rattle.mtrace_replay.specs.Callers.{with_call, with_call_of, with_temporary, AreCounted}
-use Rattle.mtrace_replay.specs.Ledger.{held_at}
+use Rattle.mtrace_replay.specs.Ledger.{entry_under}
 use Rattle.mtrace_replay.specs.Served.{unplaced, all_served, found_in, CountsAct}
 use Rattle.mtrace_replay.proofs.Served.RowsBySlot.{weigh-none}
 
@@ -69,7 +69,7 @@ module _ (calls temporary : List Entry) (old new : Called) (counted : AreCounted
     -- what a line adds that releases the address
     released : (address : ℕ) → CountsAct (suc before) (release (suc before) address (found_in all address)).act all old new
         → AreCounted (with_call (all_served (release (suc before) address (found_in all address))).given calls) (with_call_of before (found_in all address) temporary) new
-    released address = by (held_at all address) refl
+    released address = by (entry_under all address) refl
       where
         -- the call of the line before, and another one
         of_line : (entry : Entry) (b : Bool) → (entry.line == before) ≡ b → MatchBool (entry.line + 1 == suc before) (CountsMore entry.at 0 0 1 old new) (new ≡ old)
@@ -81,7 +81,7 @@ module _ (calls temporary : List Entry) (old new : Called) (counted : AreCounted
             let next : (entry.line + 1 == suc before) ≡ false = ne_eqb (entry.line + 1) (suc before) (λ same. false≢true (sym is ∙ eq-eqb entry.line before (omega (arith, same)))) in
             same_calls (subst (λ (b : Bool). MatchBool b (CountsMore entry.at 0 0 1 old new) (new ≡ old)) next counts)
 
-        by : (here : Option Entry) → held_at all address ≡ here → CountsAct (suc before) (release (suc before) address (option_map unplaced here)).act all old new
+        by : (here : Option Entry) → entry_under all address ≡ here → CountsAct (suc before) (release (suc before) address (option_map unplaced here)).act all old new
             → AreCounted (with_call (all_served (release (suc before) address (option_map unplaced here))).given calls) (with_call_of before (option_map unplaced here) temporary) new
         by None is same = same_calls same
         by (Some entry) is counts = of_line entry (entry.line == before) refl (subst (λ (o : Option Entry). CountsReleased (Some (suc before)) o old new) is counts)

@@ -19,26 +19,26 @@ use Rattle.mtrace_replay.specs.Entry.{Entry}
 use Rattle.mtrace_replay.specs.Texts.{total_size}
 use Rattle.mtrace_replay.specs.declared.no_heap.ledger.Kept.{Kept}
 use Rattle.mtrace_replay.specs.Locations.{Extends, location_of}
-use Rattle.mtrace_replay.specs.Ledger.{entry_of, put_in_order, in_order, held_at, IsKept, IsLedger}
+use Rattle.mtrace_replay.specs.Ledger.{entry_of, put_in_order, in_order, entry_under, IsKept, IsLedger}
 use Rattle.mtrace_replay.proofs.History.HeldCounts.{all_above}
 
 -- a look-up after one more entry was put in order
-held_at-put : (e : Entry) (es : List Entry) (a : ℕ) → held_at (put_in_order e es) a ≡ cond (e.addr == a) (Some e) (held_at es a)
-held_at-put e [] a = refl
-held_at-put e (f ∷ fs) a = by_order (held_at-put e fs a) (nat_lt f.addr e.addr) refl
+entry_under-put : (e : Entry) (es : List Entry) (a : ℕ) → entry_under (put_in_order e es) a ≡ cond (e.addr == a) (Some e) (entry_under es a)
+entry_under-put e [] a = refl
+entry_under-put e (f ∷ fs) a = by_order (entry_under-put e fs a) (nat_lt f.addr e.addr) refl
   where
-    by_first : (held_at (put_in_order e fs) a ≡ cond (e.addr == a) (Some e) (held_at fs a)) → f.addr < e.addr → (b : Bool) → (f.addr == a) ≡ b → cond b (Some f) (held_at (put_in_order e fs) a) ≡ cond (e.addr == a) (Some e) (cond b (Some f) (held_at fs a))
+    by_first : (entry_under (put_in_order e fs) a ≡ cond (e.addr == a) (Some e) (entry_under fs a)) → f.addr < e.addr → (b : Bool) → (f.addr == a) ≡ b → cond b (Some f) (entry_under (put_in_order e fs) a) ≡ cond (e.addr == a) (Some e) (cond b (Some f) (entry_under fs a))
     by_first later lower false is = later
     by_first later lower true is = let other : (e.addr == a) ≡ false = grind (arith, nat_tests) in sym (cond-false (e.addr == a) (Some e) (Some f) other)
 
-    by_order : (held_at (put_in_order e fs) a ≡ cond (e.addr == a) (Some e) (held_at fs a)) → (b : Bool) → nat_lt f.addr e.addr ≡ b → held_at (cond b (f ∷ put_in_order e fs) (e ∷ (f ∷ fs))) a ≡ cond (e.addr == a) (Some e) (held_at (f ∷ fs) a)
+    by_order : (entry_under (put_in_order e fs) a ≡ cond (e.addr == a) (Some e) (entry_under fs a)) → (b : Bool) → nat_lt f.addr e.addr ≡ b → entry_under (cond b (f ∷ put_in_order e fs) (e ∷ (f ∷ fs))) a ≡ cond (e.addr == a) (Some e) (entry_under (f ∷ fs) a)
     by_order later false is = refl
     by_order later true is = by_first later (grind (arith, nat_tests)) (f.addr == a) refl
 
 -- the order doesn't matter to a look-up
-pub held_at-in_order : (es : List Entry) (a : ℕ) → held_at (in_order es) a ≡ held_at es a
-held_at-in_order [] a = refl
-held_at-in_order (e ∷ es) a = held_at-put e (in_order es) a ∙ ap (cond (e.addr == a) (Some e)) (held_at-in_order es a)
+pub entry_under-in_order : (es : List Entry) (a : ℕ) → entry_under (in_order es) a ≡ entry_under es a
+entry_under-in_order [] a = refl
+entry_under-in_order (e ∷ es) a = entry_under-put e (in_order es) a ∙ ap (cond (e.addr == a) (Some e)) (entry_under-in_order es a)
 
 -- one more entry
 length-put : (e : Entry) (es : List Entry) → length (put_in_order e es) ≡ suc (length es)
@@ -73,24 +73,24 @@ module _ (locations : List (List ℕ)) where
   all_in_order held = in_order (map (entry_of locations) held)
 
   -- a look-up among the entries of a map
-  held_at-lookup : (held : List (ℕ × Kept)) (a : ℕ) → held_at (map (entry_of locations) held) a ≡ option_map (λ h. entry_of locations (a, h)) (lookup (nat_eq a) held)
-  held_at-lookup [] a = refl
-  held_at-lookup ((k, h) ∷ more) a = by_key (held_at-lookup more a) (cases_eq k a)
+  entry_under-lookup : (held : List (ℕ × Kept)) (a : ℕ) → entry_under (map (entry_of locations) held) a ≡ option_map (λ h. entry_of locations (a, h)) (lookup (nat_eq a) held)
+  entry_under-lookup [] a = refl
+  entry_under-lookup ((k, h) ∷ more) a = by_key (entry_under-lookup more a) (cases_eq k a)
     where
-      by_key : held_at (map (entry_of locations) more) a ≡ option_map (λ h. entry_of locations (a, h)) (lookup (nat_eq a) more) → (k ≡ a) ⊎ (k ≡ a → ⊥) → held_at (map (entry_of locations) ((k, h) ∷ more)) a ≡ option_map (λ h. entry_of locations (a, h)) (lookup (nat_eq a) ((k, h) ∷ more))
+      by_key : entry_under (map (entry_of locations) more) a ≡ option_map (λ h. entry_of locations (a, h)) (lookup (nat_eq a) more) → (k ≡ a) ⊎ (k ≡ a → ⊥) → entry_under (map (entry_of locations) ((k, h) ∷ more)) a ≡ option_map (λ h. entry_of locations (a, h)) (lookup (nat_eq a) ((k, h) ∷ more))
       by_key later (inl same) =
-          ap (λ b. cond b (Some (entry_of locations (k, h))) (held_at (map (entry_of locations) more) a)) (eq-eqb k a same)
+          ap (λ b. cond b (Some (entry_of locations (k, h))) (entry_under (map (entry_of locations) more) a)) (eq-eqb k a same)
           ∙ ap (λ q. Some (entry_of locations (q, h))) same
           ∙ sym (ap (λ b. option_map (λ h. entry_of locations (a, h)) (cond b (Some h) (lookup (nat_eq a) more))) (eq-eqb a k (sym same)))
       by_key later (inr other) =
-          ap (λ b. cond b (Some (entry_of locations (k, h))) (held_at (map (entry_of locations) more) a)) (ne_eqb k a other)
+          ap (λ b. cond b (Some (entry_of locations (k, h))) (entry_under (map (entry_of locations) more) a)) (ne_eqb k a other)
           ∙ later
           ∙ sym (ap (λ b. option_map (λ h. entry_of locations (a, h)) (cond b (Some h) (lookup (nat_eq a) more))) (ne_eqb a k (λ same. other (sym same))))
 
-  pub found : (held : List (ℕ × Kept)) (a : ℕ) → held_at (all_in_order held) a ≡ option_map (λ h. entry_of locations (a, h)) (lookup (nat_eq a) held)
-  found held a = held_at-in_order (map (entry_of locations) held) a ∙ held_at-lookup held a
+  pub found : (held : List (ℕ × Kept)) (a : ℕ) → entry_under (all_in_order held) a ≡ option_map (λ h. entry_of locations (a, h)) (lookup (nat_eq a) held)
+  found held a = entry_under-in_order (map (entry_of locations) held) a ∙ entry_under-lookup held a
 
-  pub is_found : (held : List (ℕ × Kept)) (a : ℕ) → is_some (held_at (all_in_order held) a) ≡ is_some (lookup (nat_eq a) held)
+  pub is_found : (held : List (ℕ × Kept)) (a : ℕ) → is_some (entry_under (all_in_order held) a) ≡ is_some (lookup (nat_eq a) held)
   is_found held a = ap is_some (found held a) ∙ some_map (lookup (nat_eq a) held)
     where
       some_map : (o : Option Kept) → is_some (option_map (λ h. entry_of locations (a, h)) o) ≡ is_some o
@@ -137,31 +137,31 @@ module _ (locations : List (List ℕ)) where
   -- the map changes at one key, and so do the entries
   pub changes_at : (old new : List (ℕ × Kept)) (now : List Entry) → all_in_order locations old ≡ now → (key address : ℕ) → key ≡ address → (w : Option Kept)
       → ((q : ℕ) → lookup (nat_eq q) new ≡ cond (nat_eq key q) w (lookup (nat_eq q) old))
-      → (q : ℕ) → held_at (all_in_order locations new) q ≡ cond (address == q) (option_map (λ h. entry_of locations (address, h)) w) (held_at now q)
+      → (q : ℕ) → entry_under (all_in_order locations new) q ≡ cond (address == q) (option_map (λ h. entry_of locations (address, h)) w) (entry_under now q)
   changes_at old new now view key address same w updates q =
       found locations new q ∙ ap (option_map (λ h. entry_of locations (q, h))) (updates q) ∙ by_key (cases_eq key q)
     where
-      by_key : (key ≡ q) ⊎ (key ≡ q → ⊥) → option_map (λ h. entry_of locations (q, h)) (cond (nat_eq key q) w (lookup (nat_eq q) old)) ≡ cond (address == q) (option_map (λ h. entry_of locations (address, h)) w) (held_at now q)
+      by_key : (key ≡ q) ⊎ (key ≡ q → ⊥) → option_map (λ h. entry_of locations (q, h)) (cond (nat_eq key q) w (lookup (nat_eq q) old)) ≡ cond (address == q) (option_map (λ h. entry_of locations (address, h)) w) (entry_under now q)
       by_key (inl is) =
           ap (λ b. option_map (λ h. entry_of locations (q, h)) (cond b w (lookup (nat_eq q) old))) (eq-eqb key q is)
           ∙ ap (λ a. option_map (λ h. entry_of locations (a, h)) w) (sym is ∙ same)
-          ∙ sym (ap (λ b. cond b (option_map (λ h. entry_of locations (address, h)) w) (held_at now q)) (eq-eqb address q (sym same ∙ is)))
+          ∙ sym (ap (λ b. cond b (option_map (λ h. entry_of locations (address, h)) w) (entry_under now q)) (eq-eqb address q (sym same ∙ is)))
       by_key (inr other) =
           ap (λ b. option_map (λ h. entry_of locations (q, h)) (cond b w (lookup (nat_eq q) old))) (ne_eqb key q other)
           ∙ sym (found locations old q)
-          ∙ ap (λ all. held_at all q) view
-          ∙ sym (ap (λ b. cond b (option_map (λ h. entry_of locations (address, h)) w) (held_at now q)) (ne_eqb address q (λ is. other (same ∙ is))))
+          ∙ ap (λ all. entry_under all q) view
+          ∙ sym (ap (λ b. cond b (option_map (λ h. entry_of locations (address, h)) w) (entry_under now q)) (ne_eqb address q (λ is. other (same ∙ is))))
 
   -- what a look-up in the map tells
   pub tells_what : (old : List (ℕ × Kept)) (now : List Entry) → all_in_order locations old ≡ now → (key address : ℕ) → key ≡ address → (o : Option Kept) → o ≡ lookup (nat_eq key) old
-      → option_map (λ h. entry_of locations (address, h)) o ≡ held_at now address
+      → option_map (λ h. entry_of locations (address, h)) o ≡ entry_under now address
   tells_what old now view key address same o is =
-      ap (option_map (λ h. entry_of locations (address, h))) (is ∙ ap (λ a. lookup (nat_eq a) old) same) ∙ sym (found locations old address) ∙ ap (λ all. held_at all address) view
+      ap (option_map (λ h. entry_of locations (address, h))) (is ∙ ap (λ a. lookup (nat_eq a) old) same) ∙ sym (found locations old address) ∙ ap (λ all. entry_under all address) view
 
   pub tells : (old : List (ℕ × Kept)) (now : List Entry) → all_in_order locations old ≡ now → (key address : ℕ) → key ≡ address → (o : Option Kept) → o ≡ lookup (nat_eq key) old
-      → is_some o ≡ is_some (held_at now address)
+      → is_some o ≡ is_some (entry_under now address)
   tells old now view key address same o is =
-      ap is_some is ∙ ap (λ a. is_some (lookup (nat_eq a) old)) same ∙ sym (is_found locations old address) ∙ ap (λ all. is_some (held_at all address)) view
+      ap is_some is ∙ ap (λ a. is_some (lookup (nat_eq a) old)) same ∙ sym (is_found locations old address) ∙ ap (λ all. is_some (entry_under all address)) view
 
   -- the map without what was found there
   pub is_within : (old : List (ℕ × Kept)) (bytes : ℕ) → IsLedger locations old bytes → (test : ℕ → Bool) (h : Kept) → lookup test old ≡ Some h

@@ -8,12 +8,12 @@ use Rattle.mtrace_replay.specs.declared.held.diagnostic.Diagnostic.{Diagnostic}
 use Rattle.mtrace_replay.specs.Moment.{ReadLine, Given, Moment, Plan, plan, half, is_new}
 use Rattle.mtrace_replay.specs.History.{held, held_after, pending, old_address, AreHeld, entries_of}
 use Rattle.mtrace_replay.specs.Step.{held_given}
-use Rattle.mtrace_replay.specs.Totals.{is_served, first_moments, Measures, IsPeak, bytes_in, blocks_in}
+use Rattle.mtrace_replay.specs.Totals.{is_served, first_moments, Measures, IsPeak, asked_bytes_in, blocks_in}
 use Rattle.mtrace_replay.specs.Texts.{total_size}
-use Rattle.mtrace_replay.specs.Ledger.{held_at}
+use Rattle.mtrace_replay.specs.Ledger.{entry_under}
 use Rattle.mtrace_replay.specs.Calls.{no_calls}
 use Rattle.mtrace_replay.specs.Callers.{with_call, with_temporary, calls_in, temporary_in, AreCounted}
-use Rattle.mtrace_replay.specs.Served.{CountsAct, unplaced, all_served, served_moment, served_moments, found_in, Standing, IsServed, IsAtPeak, RaisesPeak, added_served}
+use Rattle.mtrace_replay.specs.Served.{CountsAct, unplaced, all_served, served_moment, served_moments, found_in, Standing, IsServed, IsAtPeak, RaisesPeak, served_noted}
 use Rattle.tlsf_heap.proofs.Counts.{count-cons}
 use Rattle.mtrace_replay.proofs.Served.CallsLemmas.{adds}
 use Rattle.mtrace_replay.proofs.History.FoundLemmas.{found_is_held, held_as_found, none_held}
@@ -27,7 +27,7 @@ found_unplaced : (all : List Entry) (address : ℕ) → held_given (map unplaced
 found_unplaced [] address = refl
 found_unplaced (entry ∷ rest) address = by (found_unplaced rest address) (entry.addr == address)
   where
-    by : held_given (map unplaced rest) address ≡ found_in rest address → (b : Bool) → cond b (Some (unplaced entry)) (held_given (map unplaced rest) address) ≡ option_map unplaced (cond b (Some entry) (held_at rest address))
+    by : held_given (map unplaced rest) address ≡ found_in rest address → (b : Bool) → cond b (Some (unplaced entry)) (held_given (map unplaced rest) address) ≡ option_map unplaced (cond b (Some entry) (entry_under rest address))
     by later true = refl
     by later false = later
 
@@ -55,7 +55,7 @@ none_served = record {
   served_are = refl;
   pending_is = refl;
   held = none_held;
-  peak = most_none bytes_in refl;
+  peak = most_none asked_bytes_in refl;
   at_peak = record {
     blocks = record { all = []; held = none_held; measured = refl };
     sites = λ all held.
@@ -113,12 +113,13 @@ module _ (old new : Standing) (past : List ReadLine) (line : ReadLine) (stands :
 
   -- what the line adds to what is wrong
   pub told_on : (diagnostics : List Diagnostic) → diagnostics ≡ (if is_new line then [] else half old.lines old.pending) ++ (all_served (plan (old.lines + 1) line old.pending (found_in old.all))).diagnostics
-      → diagnostics ≡ added_served line past
-  told_on diagnostics is =
+      → served_noted (line ∷ past) ≡ served_noted past ++ diagnostics
+  unfolding served_moments
+  told_on diagnostics is = ap (λ (all : List Diagnostic). served_noted past ++ all) (sym (
       is
       ∙ ap (λ n. (if is_new line then [] else half n old.pending) ++ (all_served (plan (old.lines + 1) line old.pending (found_in old.all))).diagnostics) stands.lines_are
       ∙ ap (λ p. (if is_new line then [] else half (length past) p) ++ (all_served (plan (old.lines + 1) line old.pending (found_in old.all))).diagnostics) stands.pending_is
-      ∙ ap (λ (planned : Plan). (if is_new line then [] else half (length past) (pending past)) ++ (all_served planned).diagnostics) plan_is
+      ∙ ap (λ (planned : Plan). (if is_new line then [] else half (length past) (pending past)) ++ (all_served planned).diagnostics) plan_is))
 
 -- The replay stands for one line more, behind which this is held, and then the peak was raised.
 module _ (old middle new : Standing) (past : List ReadLine) (line : ReadLine) (stands : IsServed old past) (held : AreHeld (map unplaced middle.all) (served_moments (line ∷ past)))
@@ -130,7 +131,7 @@ module _ (old middle new : Standing) (past : List ReadLine) (line : ReadLine) (s
   abbrev total : ℕ
   total = total_size middle.all
 
-  sum_now : Measures bytes_in now total
+  sum_now : Measures asked_bytes_in now total
   sum_now = record { all = map unplaced middle.all; held = held; measured = ap total_size (sym (entries_unplaced middle.all)) }
 
   all_lines : suc (length (served_moments past)) ≡ middle.lines
@@ -139,7 +140,7 @@ module _ (old middle new : Standing) (past : List ReadLine) (line : ReadLine) (s
   its_peak : IsPeak now new.peak_bytes new.peak_line
   unfolding served_moments
   its_peak =
-      let goes_on = peak_goes_on bytes_in _ (served_moments past) old.peak_bytes total sum_now old.peak_line stands.peak (nat_lt old.peak_bytes total) refl in
+      let goes_on = peak_goes_on asked_bytes_in _ (served_moments past) old.peak_bytes total sum_now old.peak_line stands.peak (nat_lt old.peak_bytes total) refl in
       let bytes_are : new.peak_bytes ≡ (if nat_lt old.peak_bytes total then total else old.peak_bytes) = raises.bytes ∙ ap (λ n. if nat_lt n total then total else n) bytes in
       let line_is : new.peak_line ≡ (if nat_lt old.peak_bytes total then suc (length (served_moments past)) else old.peak_line) =
       raises.line ∙ ap (λ n. if nat_lt n total then middle.lines else middle.peak_line) bytes

@@ -1,12 +1,14 @@
 -- A run without a heap under way, and how it goes on and ends.
 use Rattle.std.proofs.Common.{◌≡◌, ℕ, Bool, ◌||◌, List, [], ◌∷◌, ◌++◌, length, map, refl, sym, ap, ◌∙◌, subst, reverse, inl, inr, append_assoc, if◌then◌else◌}
+use Rattle.std.specs.Prelude.{Err}
 use Rattle.std.proofs.lemmas.List.{length-reverse, length-map}
 use Rattle.mtrace_log.specs.Shown.{Bytes, ReaderState, WriterState}
 use Rattle.mtrace_log.specs.HasRead.{HasReadAll}
 use Rattle.mtrace_log.specs.Output.{Wrote, Begins}
-use Rattle.mtrace_log.proofs.Writing.{Wrote-append, Begins-after}
 use Rattle.mtrace_replay.specs.declared.runs.status.Status.{Status}
 use Rattle.mtrace_replay.specs.declared.runs.status.Status.TheVariants.{Clean, Found}
+use Rattle.mtrace_replay.specs.declared.runs.status.RunFault.{RunFault}
+use Rattle.mtrace_replay.specs.declared.runs.status.RunFault.TheVariants as fault
 use Rattle.mtrace_replay.specs.declared.no_heap.report.LedgerReport.{LedgerReport}
 use Rattle.mtrace_replay.specs.declared.no_heap.report.LedgerReport.TheVariants as report
 use Rattle.mtrace_replay.specs.declared.no_heap.prepared.Prepared.{Prepared}
@@ -14,82 +16,33 @@ use Rattle.mtrace_replay.specs.declared.no_heap.prepared.Prepared.TheVariants as
 use Rattle.mtrace_replay.specs.Prepared.{IsOf, AreHeldSites, HasNamed, held_text, prepared_text}
 use Rattle.mtrace_replay.specs.Entry.{Entry}
 use Rattle.mtrace_replay.specs.Sites.{Site, AreSites}
-use Rattle.mtrace_replay.specs.Totals.{bytes_in, first_moments}
+use Rattle.mtrace_replay.specs.Totals.{asked_bytes_in, first_moments}
 use Rattle.mtrace_replay.proofs.History.TotalsLemmas.{measure_is_one}
 use Rattle.mtrace_replay.specs.Moment.{ReadLine, Given, half}
-use Rattle.mtrace_replay.specs.History.{held, notes, pending, entries_of}
+use Rattle.mtrace_replay.specs.History.{held, pending, entries_of}
 use Rattle.mtrace_replay.specs.Texts.{diagnostics_text, leaks_report, both_sections, clean_or_found, total_size}
-use Rattle.mtrace_replay.specs.Run.{has_some}
-use Rattle.mtrace_replay.specs.Served.{unplaced, served_moment, served_moments, served_history, added_served, Standing, IsServed, totals_of}
-use Rattle.mtrace_replay.specs.RunServed.{served_notes, whole_served, AreServedTotals, TellsServedSites, TellsServed, ReportsServed, EndsServed, StopsServedAtRead, StopsServedAtWrite, StopsForMemory, served_end, HasServed}
-use Rattle.mtrace_replay.specs.LineReplay.{noted}
-use Rattle.mtrace_replay.specs.Following.{noted_text, HasFollowed, StopsReading, StopsWriting, StopsWanting}
+use Rattle.mtrace_replay.specs.Served.{unplaced, served_moments, served_history, served_noted, served_diagnostics, Standing, IsServed, totals_of}
+use Rattle.mtrace_replay.specs.RunServed.{whole_served, AreServedTotals, TellsServedSites, TellsServed, ReportsServed, ServedEnds, EndsServed, StopsServedAtWrite, served_end}
+use Rattle.mtrace_replay.specs.Following.{has_some, HasFollowed, StopsWanting, ReadEnds}
 use Rattle.mtrace_replay.proofs.Running.ReplayingLemmas.{prepend_nothing}
-use Rattle.mtrace_replay.proofs.Told.DiagnosticLemmas.{diagnostics_text-append}
-use Rattle.mtrace_replay.proofs.Running.RunLemmas.{status-is}
+use Rattle.mtrace_replay.proofs.Running.RunLemmas.{wrote_whole, begun_whole, status_whole}
 use Rattle.mtrace_replay.proofs.Served.ServedLemmas.{length-served, entries_unplaced}
 
-pub no_moment : served_history [] ≡ []
+-- no line has diagnostics
+pub no_notes : served_noted [] ≡ []
 unfolding served_moments
-no_moment = refl
+no_notes = refl
 
-one_moment : (line : ReadLine) (past : List ReadLine) → served_moments (line ∷ past) ≡ served_moment (length past) line (pending past) (held (served_moments past)) ∷ served_moments past
-unfolding served_moments
-one_moment line past = refl
-
--- the diagnostics of lines, one after the other, are those of their history
-pub noted_is : (past : List ReadLine) → noted added_served past ≡ notes (served_moments past)
-noted_is [] = sym (ap notes no_moment)
-noted_is (line ∷ past) = ap (λ all. all ++ added_served line past) (noted_is past) ∙ sym (ap notes (one_moment line past))
-
-pub noted_text_is : (lines : List ReadLine) → noted_text added_served (reverse lines) ≡ served_notes lines
-noted_text_is lines = ap diagnostics_text (noted_is (reverse lines))
-
-module _ (reader_old reader_new : ReaderState) (writer_old writer_new : WriterState) where
-  -- all lines were followed
-  unfoldable pub has_served : (Stands : List ReadLine → Type 0) (replay : Standing) (has_diagnostics : Bool) → ((past : List ReadLine) → Stands past → IsServed replay past)
-      → (done : HasFollowed Stands added_served has_diagnostics reader_old reader_new writer_old writer_new) → HasServed replay has_diagnostics reader_old reader_new writer_old writer_new
-  has_served Stands replay has_diagnostics served done = record {
-    lines = done.lines;
-    read = done.read;
-    stands = served (reverse done.lines) done.stands;
-    wrote = subst (λ (text : List ℕ). Wrote writer_old writer_new text) (noted_text_is done.lines) done.wrote;
-    has_diagnostics_is = done.has_diagnostics_is ∙ ap has_some (noted_is (reverse done.lines));
-  }
-
-  -- the reader failed, or a line past the last number would come
-  pub stops_served_at_read : StopsReading added_served reader_old reader_new writer_old writer_new → StopsServedAtRead reader_old reader_new writer_old writer_new
-  stops_served_at_read stops = record {
-    lines = stops.lines;
-    reason = stops.reason;
-    wrote = subst (λ (text : List ℕ). Wrote writer_old writer_new text) (noted_text_is stops.lines) stops.wrote;
-  }
-
-  -- the writer failed at a line's diagnostics
-  pub stops_served_at_write : (report : LedgerReport) (Stands : List ReadLine → Type 0) → StopsWriting Stands added_served reader_old reader_new writer_old writer_new → StopsServedAtWrite report reader_old reader_new writer_old writer_new
-  stops_served_at_write report Stands stops = record {
-    lines = stops.lines;
-    unused = stops.unused;
-    begun = inl (stops.read, subst (λ (text : List ℕ). Begins writer_old writer_new text) (noted_text_is stops.lines) stops.begun);
-  }
-
-  -- memory was refused at a line
-  pub stops_for_memory : StopsWanting added_served reader_old reader_new writer_old writer_new → StopsForMemory reader_old reader_new writer_old writer_new
-  stops_for_memory stops = record {
-    lines = stops.lines;
-    unused = stops.unused;
-    reason = inl (stops.line, stops.read);
-    wrote = subst (λ (text : List ℕ). Wrote writer_old writer_new text) (noted_text_is stops.lines) stops.wrote;
-  }
-
--- what comes behind the diagnostics of the lines: that of the end, and a text
-abbrev pub last_text : List ReadLine → List ℕ → List ℕ
-last_text lines text = diagnostics_text (half (length lines) (pending (reverse lines))) ++ text
-
-pub whole_is : (lines : List ReadLine) (text : List ℕ) → whole_served lines text ≡ served_notes lines ++ last_text lines text
-whole_is lines text =
-    let last = half (length lines) (pending (reverse lines)) in
-    ap (λ front. front ++ text) (diagnostics_text-append (notes (served_history lines)) last) ∙ append_assoc (served_notes lines) (diagnostics_text last) text
+-- the lines weren't all followed, and the run ended so
+pub served_stops : (report : LedgerReport) (Stands : List ReadLine → Type 0) (Lacks : Type 0) (fault : RunFault) (reader_old reader_new : ReaderState) (writer_old writer_new : WriterState)
+    → ReadEnds Stands served_noted Lacks (Err fault) reader_old reader_new writer_old writer_new → ServedEnds report (Err fault) reader_old reader_new writer_old writer_new
+served_stops report Stands Lacks fault.Read reader_old reader_new writer_old writer_new ends = ends
+served_stops report Stands Lacks fault.Write reader_old reader_new writer_old writer_new ends =
+    let stops = ends.write_fault in
+    record { write_fault = record { lines = stops.lines; unused = stops.unused; begun = inl (stops.read, stops.begun) }; writer_failed = ends.writer_failed; reader_not_failed = ends.reader_not_failed }
+served_stops report Stands Lacks fault.OutOfMemory reader_old reader_new writer_old writer_new ends = ends.0
+served_stops report Stands Lacks fault.BadSettings reader_old reader_new writer_old writer_new ends = ends
+served_stops report Stands Lacks fault.Image reader_old reader_new writer_old writer_new ends = ends
 
 module _ (replay : Standing) (lines : List ReadLine) (stands : IsServed replay (reverse lines)) where
   abbrev given_of : List Given
@@ -99,8 +52,8 @@ module _ (replay : Standing) (lines : List ReadLine) (stands : IsServed replay (
   half_is = ap (λ n. half n replay.pending) (stands.lines_are ∙ length-reverse lines) ∙ ap (half (length lines)) stands.pending_is
 
   -- what a replay that stands for the lines writes at the end
-  pub end_is : (text : List ℕ) → served_end replay text ≡ last_text lines text
-  end_is text = ap (λ last. diagnostics_text last ++ text) half_is
+  pub end_is : (text : List ℕ) → diagnostics_text (served_noted (reverse lines) ++ half replay.lines replay.pending) ++ text ≡ whole_served lines text
+  end_is text = ap (λ last. diagnostics_text (served_noted (reverse lines) ++ last) ++ text) half_is
 
   pub summed : AreServedTotals (served_history lines) (totals_of replay)
   summed = record {
@@ -117,7 +70,7 @@ module _ (replay : Standing) (lines : List ReadLine) (stands : IsServed replay (
 
   peak_bytes_are : replay.peak_bytes ≡ total_size (entries_of peak_all)
   peak_bytes_are =
-      measure_is_one bytes_in (first_moments replay.peak_line (served_history lines)) replay.peak_bytes (bytes_in peak_all) stands.peak.reached
+      measure_is_one asked_bytes_in (first_moments replay.peak_line (served_history lines)) replay.peak_bytes (asked_bytes_in peak_all) stands.peak.reached
       (record { all = peak_all; held = stands.at_peak.blocks.held; measured = refl })
 
   sections_are : (peak end : List Site) → both_sections replay.peak_line replay.peak_blocks replay.peak_bytes peak (length replay.all) (total_size replay.all) end
@@ -154,7 +107,7 @@ module _ (replay : Standing) (lines : List ReadLine) (stands : IsServed replay (
   prepared_tells report prepared is named = absurd is
 
 module _ (report : LedgerReport) (replay : Standing) (has_diagnostics : Bool) (reader_old reader_new : ReaderState) (writer_old writer_middle writer_new : WriterState)
-    (done : HasServed replay has_diagnostics reader_old reader_new writer_old writer_middle) (prepared : Prepared) (is_of : IsOf report prepared) (named : HasNamed replay prepared) where
+    (done : HasFollowed (λ past. IsServed replay past) served_noted has_diagnostics reader_old reader_new writer_old writer_middle) (prepared : Prepared) (is_of : IsOf report prepared) (named : HasNamed replay prepared) where
   abbrev its_text : List ℕ
   its_text = prepared_text replay prepared
 
@@ -167,9 +120,8 @@ module _ (report : LedgerReport) (replay : Standing) (has_diagnostics : Bool) (r
       read = subst (λ (after : Bytes). HasReadAll reader_old.left after done.lines) (sym (prepend_nothing reader_new.left)) done.read;
       text = its_text;
       tells = prepared_tells replay done.lines done.stands report prepared is_of named;
-      begun = subst (λ (text : List ℕ). Begins writer_old writer_new text) (sym (whole_is done.lines its_text))
-          (Begins-after writer_old writer_middle writer_new (served_notes done.lines) (last_text done.lines its_text) done.wrote
-          (subst (λ (text : List ℕ). Begins writer_middle writer_new text) (end_is replay done.lines done.stands its_text) begins));
+      begun = subst (λ (text : List ℕ). Begins writer_old writer_new text) (end_is replay done.lines done.stands its_text)
+          (begun_whole _ served_noted has_diagnostics reader_old reader_new writer_old writer_middle writer_new done (half replay.lines replay.pending) its_text begins);
     });
   }
 
@@ -177,28 +129,23 @@ module _ (report : LedgerReport) (replay : Standing) (has_diagnostics : Bool) (r
   unfoldable pub served_all : (status : Status) → Wrote writer_middle writer_new (served_end replay its_text)
       → status ≡ (if has_diagnostics || (has_some (half replay.lines replay.pending) || has_some replay.all) then Found else Clean)
       → ReportsServed report status reader_old reader_new writer_old writer_new
-  served_all status wrote is =
-      let last = half (length done.lines) (pending (reverse done.lines)) in
-      record {
-        lines = done.lines;
-        read = done.read;
-        text = its_text;
-        tells = prepared_tells replay done.lines done.stands report prepared is_of named;
-        wrote = subst (λ (text : List ℕ). Wrote writer_old writer_new text) (sym (whole_is done.lines its_text))
-            (Wrote-append writer_old writer_middle writer_new (served_notes done.lines) (last_text done.lines its_text) done.wrote
-            (subst (λ (text : List ℕ). Wrote writer_middle writer_new text) (end_is replay done.lines done.stands its_text) wrote));
-        all = given_of replay done.lines done.stands;
-        held = done.stands.held;
-        status_is = is
-            ∙ ap (λ b. if b || (has_some (half replay.lines replay.pending) || has_some replay.all) then Found else Clean) done.has_diagnostics_is
-            ∙ ap (λ more. if has_some (notes (served_history done.lines)) || (has_some more || has_some replay.all) then Found else Clean) (half_is replay done.lines done.stands)
-            ∙ status-is (notes (served_history done.lines)) last replay.all
-            ∙ ap (clean_or_found (notes (served_history done.lines) ++ last)) (sym (entries_unplaced replay.all));
-      }
+  served_all status wrote is = record {
+    lines = done.lines;
+    read = done.read;
+    text = its_text;
+    tells = prepared_tells replay done.lines done.stands report prepared is_of named;
+    wrote = subst (λ (text : List ℕ). Wrote writer_old writer_new text) (end_is replay done.lines done.stands its_text)
+        (wrote_whole _ served_noted has_diagnostics reader_old reader_new writer_old writer_middle writer_new done (half replay.lines replay.pending) its_text wrote);
+    all = given_of replay done.lines done.stands;
+    held = done.stands.held;
+    status_is = status_whole _ served_noted has_diagnostics reader_old reader_new writer_old writer_middle writer_new done (half replay.lines replay.pending) replay.all status is
+        ∙ ap (λ last. clean_or_found (served_noted (reverse done.lines) ++ last) replay.all) (half_is replay done.lines done.stands)
+        ∙ ap (clean_or_found (served_diagnostics done.lines)) (sym (entries_unplaced replay.all));
+  }
 
 -- a run without a report has ended, with this replay
 pub served_nothing : (replay : Standing) (has_diagnostics : Bool) (reader_old reader_new : ReaderState) (writer_old writer_middle writer_new : WriterState)
-    (done : HasServed replay has_diagnostics reader_old reader_new writer_old writer_middle) (prepared : Prepared) (is_of : IsOf report.Nothing prepared) (named : HasNamed replay prepared) (status : Status)
+    (done : HasFollowed (λ past. IsServed replay past) served_noted has_diagnostics reader_old reader_new writer_old writer_middle) (prepared : Prepared) (is_of : IsOf report.Nothing prepared) (named : HasNamed replay prepared) (status : Status)
     → Wrote writer_middle writer_new (served_end replay (prepared_text replay prepared))
     → status ≡ (if has_diagnostics || (has_some (half replay.lines replay.pending) || has_some replay.all) then Found else Clean)
     → EndsServed status replay reader_old reader_new writer_old writer_new
@@ -210,5 +157,5 @@ served_nothing replay has_diagnostics reader_old reader_new writer_old writer_mi
 
 -- memory was refused behind the last line
 pub served_memory : (replay : Standing) (has_diagnostics : Bool) (reader_old reader_new : ReaderState) (writer_old writer_middle : WriterState)
-    → HasServed replay has_diagnostics reader_old reader_new writer_old writer_middle → StopsForMemory reader_old reader_new writer_old writer_middle
+    → HasFollowed (λ past. IsServed replay past) served_noted has_diagnostics reader_old reader_new writer_old writer_middle → StopsWanting served_noted reader_old reader_new writer_old writer_middle
 served_memory replay has_diagnostics reader_old reader_new writer_old writer_middle done = record { lines = done.lines; unused = []; reason = inr done.read; wrote = done.wrote }

@@ -5,7 +5,7 @@ use Rattle.std.specs.Prelude.{Result, if◌then◌else◌}
 use Rattle.tlsf_heap.specs.declared.refusal.Refusal.{Refusal}
 use Rattle.mtrace_replay.specs.declared.held.diagnostic.Diagnostic.{Diagnostic}
 use Rattle.mtrace_replay.specs.Texts.{diagnostic_text, diagnostics_text}
-use Rattle.mtrace_replay.specs.Run.{has_some}
+use Rattle.mtrace_replay.specs.Following.{has_some}
 use Rattle.mtrace_replay.specs.Started.{Bare}
 use Rattle.mtrace_replay.specs.Moment.{ReadLine, Given, outcome, is_new, half, Act, idle, give, take, move, plan, answered, moved, done, acts}
 use Rattle.mtrace_replay.specs.Entry.{Entry}

@@ -9,11 +9,11 @@ ghost use Rattle.mtrace_replay.specs.Index.{held_at, IsFound, TellsWhether};
 ghost use Rattle.mtrace_replay.specs.Moment.{asked_size, asked_block, allocation, release, doing, move, renewal, plan};
 ghost use Rattle.mtrace_replay.specs.Step.{view, held_given, all_given, Replays, AsksBlock, GivesBlock, Takes, IsUnder, AreLive};
 
-use crate::heap::asked::asked_size;
 use crate::heap::holder::Holder;
 use crate::heap::index::{Index, LookUp};
+use crate::held::asked::asked_size;
 use crate::held::diagnostic::{Diagnostic, Kind};
-use crate::held::entry::Entry;
+use crate::held::entry::{Entry, entry_of};
 use crate::held::findings::Findings;
 use mtrace_log::{Addr, Event, LentLocation, LineFault};
 use std::alloc::AllocError;
@@ -230,23 +230,6 @@ fn renew<H: Heaped>(
         return Ok(None);
     }
     reallocate(holder, &found, ptr, entry, findings)
-}
-
-/// The entry of a line that asks for a block.
-pub(crate) fn entry_of<'a>(
-    number: u64,
-    at: Option<LentLocation<'a>>,
-    addr: Addr,
-    size: u64,
-) -> Entry<LentLocation<'a>>
-    ensures { result ≡ record { addr = addr; size = size; line = number; at = at.entry } }
-{
-    Entry {
-        addr,
-        size,
-        line: number,
-        at,
-    }
 }
 
 /// What the line of this number does, where `pending` is the address of the line before, if that is `<`. At most 356

@@ -5,7 +5,7 @@ ghost use Rattle.tlsf_heap.specs.Bare.{bare};
 ghost use Rattle.mtrace_replay.specs.Rows.{pool_rows, PutsOf};
 ghost use Rattle.mtrace_replay.specs.Texts.{row_text, rows_text, walk_report};
 
-use crate::held::line_text::{pool_text, row_text};
+use crate::heap::text::{pool_text, row_text};
 use mtrace_log::{Failed, Sink, put_all};
 use tlsf_heap::{Cursor, Heaped};
 

@@ -39,3 +39,20 @@ impl Entry {
         set_location(&mut self.at, &other.at);
     }
 }
+
+/// The entry of a line that asks for a block.
+pub(crate) fn entry_of<'a>(
+    number: u64,
+    at: Option<LentLocation<'a>>,
+    addr: Addr,
+    size: u64,
+) -> Entry<LentLocation<'a>>
+    ensures { result ≡ record { addr = addr; size = size; line = number; at = at.entry } }
+{
+    Entry {
+        addr,
+        size,
+        line: number,
+        at,
+    }
+}

@@ -6,10 +6,11 @@ ghost use Rattle.mtrace_replay.specs.Texts.{site_text, section, both_sections, c
 
 use crate::held::amount::Amount;
 use crate::held::caller::Caller;
+use crate::held::count::Count;
 use crate::held::line_text::{LineText, peak_words, push_bytes, push_number, section_text};
+use crate::held::lines::{InLine, put_lines};
 use crate::held::location_text::put_line_at;
 use crate::held::site::Site;
-use crate::no_heap::count::Count;
 use arrayvec::ArrayVec;
 use mtrace_log::{Failed, Sink, put_all};
 
@@ -25,22 +26,13 @@ fn site_front(blocks: u64, bytes: u128) -> LineText
     text
 }
 
-/// Puts the line of a site.
-fn put_site<W: Sink>(writer: &mut W, site: &Site<'_>) -> Result<(), Failed>
-    ensures { Puts result (site_text site.now) (W.shown writer.old) (W.shown writer.new) }
-{
-    let front = site_front(site.blocks, site.bytes);
-    put_line_at(writer, front.as_slice(), site.at)
-}
+impl<'a> InLine for Site<'a> {
+    ghost line = { site_text };
 
-/// Puts a line for each site.
-fn put_sites<W: Sink>(writer: &mut W, sites: &[Site<'_>]) -> Result<(), Failed>
-    ensures { Puts result (flat_map site_text sites.now) (W.shown writer.old) (W.shown writer.new) }
-{
-    for site in sites {
-        put_site(writer, site)?;
+    fn put_line<W: Sink>(&self, writer: &mut W) -> Result<(), Failed> {
+        let front = site_front(self.blocks, self.bytes);
+        put_line_at(writer, front.as_slice(), self.at)
     }
-    Ok(())
 }
 
 /// Puts a section: words, how many blocks are held and their bytes, and a line for each site.
@@ -54,7 +46,7 @@ fn put_section<W: Sink>(
 {
     put_all(writer, words)?;
     put_all(writer, section_text(sum).as_slice())?;
-    put_sites(writer, sites)
+    put_lines(writer, sites)
 }
 
 /// Puts what is held at the peak and what is held at the end, each by its sites.
@@ -91,22 +83,13 @@ fn caller_front(calls: u64, bytes: u128, temporary: u64) -> LineText
     text
 }
 
-/// Puts the line of a caller.
-fn put_caller<W: Sink>(writer: &mut W, caller: &Caller<'_>) -> Result<(), Failed>
-    ensures { Puts result (caller_text caller.now) (W.shown writer.old) (W.shown writer.new) }
-{
-    let front = caller_front(caller.calls, caller.bytes, caller.temporary);
-    put_line_at(writer, front.as_slice(), caller.at)
-}
+impl<'a> InLine for Caller<'a> {
+    ghost line = { caller_text };
 
-/// Puts a line for each caller.
-fn put_caller_lines<W: Sink>(writer: &mut W, callers: &[Caller<'_>]) -> Result<(), Failed>
-    ensures { Puts result (flat_map caller_text callers.now) (W.shown writer.old) (W.shown writer.new) }
-{
-    for caller in callers {
-        put_caller(writer, caller)?;
+    fn put_line<W: Sink>(&self, writer: &mut W) -> Result<(), Failed> {
+        let front = caller_front(self.calls, self.bytes, self.temporary);
+        put_line_at(writer, front.as_slice(), self.at)
     }
-    Ok(())
 }
 
 /// The line above the callers: all calls together.
@@ -133,5 +116,5 @@ pub(crate) fn put_callers<W: Sink>(
     ensures { Puts result (callers_text total callers.now) (W.shown writer.old) (W.shown writer.new) }
 {
     put_all(writer, calls_text(total).as_slice())?;
-    put_caller_lines(writer, callers)
+    put_lines(writer, callers)
 }

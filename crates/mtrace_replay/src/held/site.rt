@@ -3,6 +3,7 @@
 ghost use Rattle.std.specs.Prelude.{◌≡◌};
 ghost use Rattle.std.specs.Option.{option_copied};
 ghost use Rattle.mtrace_replay.specs.Sites.{origin_cmp, site_cmp};
+ghost use Rattle.mtrace_replay.specs.Gather.{Sorts};
 
 use crate::held::entry::Entry;
 use mtrace_log::Location;
@@ -78,4 +79,11 @@ impl<'a> Site<'a> {
             Ordering::Greater => Ordering::Greater,
         }
     }
+}
+
+/// Sorts sites into their order.
+pub(crate) fn sort_sites(sites: &mut Vec<Site<'_>>)
+    ensures { Sorts (λ site. site) site_cmp sites.old sites.new }
+{
+    sites.sort_unstable_by(|a, b| a.compare(b));
 }

@@ -5,11 +5,11 @@ ghost use Rattle.std.specs.Option.{option_copied};
 ghost use Rattle.mtrace_replay.specs.Calls.{has_no_call, caller_of};
 ghost use Rattle.mtrace_replay.specs.Shares.{amount_at, count_at, with_row, with_site, sites_of, callers_of};
 
-use super::count::Count;
 use super::locations::Locations;
 use super::shares::{Shares, When};
 use crate::held::amount::Amount;
 use crate::held::caller::Caller;
+use crate::held::count::Count;
 use crate::held::site::Site;
 use std::alloc::{AllocError, Global};
 

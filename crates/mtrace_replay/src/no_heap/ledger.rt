@@ -12,18 +12,18 @@ ghost use Rattle.mtrace_replay.specs.Calls.{no_calls, is_next, CountsMore, Count
 ghost use Rattle.mtrace_replay.specs.Callers.{AreCounted, AreCallers};
 ghost use Rattle.mtrace_replay.specs.Shares.{count_at, CountsOne, KeepsAmounts};
 ghost use Rattle.mtrace_replay.specs.Sites.{AreTallied, AreSites};
-ghost use Rattle.mtrace_replay.specs.Ledger.{held_at, slot_of, IsCounted, Forgets, KeepsPeak, AreEntries};
+ghost use Rattle.mtrace_replay.specs.Ledger.{entry_under, slot_of, IsCounted, Forgets, KeepsPeak, AreEntries};
 
-use super::count::Count;
 use super::gathered::{gather_callers, gather_sites};
 use super::locations::Locations;
 use super::shares::{Shares, When};
 use crate::held::caller::{Caller, sort_callers};
-use crate::held::grouping::sort_sites;
-use crate::held::site::Site;
+use crate::held::count::Count;
+use crate::held::site::{Site, sort_sites};
 use mtrace_log::Addr;
 use std::alloc::{AllocError, Global};
 use std::collections::HashMap;
+use std::hash::RandomState;
 use std::marker::Model;
 
 /// What is kept of an address that is held.
@@ -60,7 +60,7 @@ pub struct Seen<'a> {
 pub struct Ledger {
     locations: Locations,
     shares: Shares,
-    held: HashMap<u64, Kept>,
+    held: HashMap<u64, Kept, RandomState>,
     bytes: u128,
 }
 
@@ -84,7 +84,10 @@ impl Model for Ledger {
 }
 
 /// The keys of a map, in order.
-fn sorted_keys(alloc: Global, held: &HashMap<u64, Kept>) -> Result<Vec<u64>, AllocError>
+fn sorted_keys(
+    alloc: Global,
+    held: &HashMap<u64, Kept, RandomState>,
+) -> Result<Vec<u64>, AllocError>
     ensures moved { IfOk result (λ all. IsPermutation (keys held.now) all.items) }
     ensures sorted { IfOk result (λ all. IsSorted nat_cmp all.items) }
 {
@@ -133,20 +136,20 @@ fn count_temporary(shares: &mut Shares, slot: usize, is_temporary: bool)
 
 impl Ledger {
     /// Nothing is held.
-    pub fn new(alloc: Global) -> Ledger
+    pub fn new(alloc: Global, seed: RandomState) -> Ledger
         ensures { result ≡ record { all = []; at_peak = []; mark = 0; called = record { callers = []; total = no_calls } } }
     {
         Ledger {
-            locations: Locations::new(alloc),
+            locations: Locations::new(alloc, seed),
             shares: Shares::new(alloc),
-            held: HashMap::new(alloc),
+            held: HashMap::with_hasher(alloc, seed),
             bytes: 0,
         }
     }
 
     /// Whether the address is held.
     pub fn is_held(&self, address: Addr) -> bool
-        ensures { result ≡ is_some (held_at self.now.all address) }
+        ensures { result ≡ is_some (entry_under self.now.all address) }
     {
         self.held.contains_key(&address.value())
     }
@@ -164,8 +167,8 @@ impl Ledger {
         at: Option<&[u8]>,
     ) -> Result<(), AllocError>
         requires few { self.old.called.total.calls + 1 < 2 ^ 64 }
-        ensures held { OnOk result ((other : ℕ) → held_at self.new.all other
-            ≡ (if address == other then Some (record { addr = address; size = size; line = line; at = option_copied at.entry }) else held_at self.old.all other)) }
+        ensures held { OnOk result ((other : ℕ) → entry_under self.new.all other
+            ≡ (if address == other then Some (record { addr = address; size = size; line = line; at = option_copied at.entry }) else entry_under self.old.all other)) }
         ensures peak { OnOk result (KeepsPeak self.old self.new) }
         ensures called { OnOk result (CountsMore (option_copied at.entry) 1 size 0 self.old.called self.new.called) }
         ensures unchanged { OnErr result (self.new ≡ self.old) }
@@ -189,10 +192,10 @@ impl Ledger {
     /// Holds the address no more. Where a line releases it, of this number, and the line before it made the call, that is temporary.
     /// Answers whether the address was held.
     pub fn release(&mut self, address: Addr, line: Option<u64>) -> bool
-        ensures was { result ≡ is_some (held_at self.old.all address) }
-        ensures held { (other : ℕ) → held_at self.new.all other ≡ (if address == other then None else held_at self.old.all other) }
+        ensures was { result ≡ is_some (entry_under self.old.all address) }
+        ensures held { (other : ℕ) → entry_under self.new.all other ≡ (if address == other then None else entry_under self.old.all other) }
         ensures peak { KeepsPeak self.old self.new }
-        ensures called { CountsReleased line (held_at self.old.all address) self.old.called self.new.called }
+        ensures called { CountsReleased line (entry_under self.old.all address) self.old.called self.new.called }
     {
         let Some(held) = self.held.remove(&address.value()) else {
             return false;
@@ -218,9 +221,9 @@ impl Ledger {
         at: Option<&[u8]>,
     ) -> Result<(), AllocError>
         requires few { self.old.called.total.calls + 1 < 2 ^ 64 }
-        ensures held { OnOk result ((other : ℕ) → held_at self.new.all other
+        ensures held { OnOk result ((other : ℕ) → entry_under self.new.all other
             ≡ (if address == other then Some (record { addr = address; size = size; line = line; at = option_copied at.entry })
-            else (if old == other then None else held_at self.old.all other))) }
+            else (if old == other then None else entry_under self.old.all other))) }
         ensures peak { OnOk result (KeepsPeak self.old self.new) }
         ensures called { OnOk result (CountsMore (option_copied at.entry) 1 size 0 self.old.called self.new.called) }
         ensures unchanged { OnErr result (self.new ≡ self.old) }
@@ -314,7 +317,7 @@ impl Ledger {
 
     /// What is held under an address.
     pub fn entry(&self, address: u64) -> Option<Seen<'_>>
-        ensures { option_map (λ seen. record { addr = address; size = seen.size; line = seen.line; at = option_copied seen.at }) result ≡ held_at self.now.all address }
+        ensures { option_map (λ seen. record { addr = address; size = seen.size; line = seen.line; at = option_copied seen.at }) result ≡ entry_under self.now.all address }
     {
         let Some(held) = self.held.get(&address) else {
             return None;

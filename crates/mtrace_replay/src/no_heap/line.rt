@@ -3,13 +3,12 @@
 ghost use Rattle.std.specs.Prelude.{◌≡◌, ◌<◌, ◌+◌, ◌^◌, ◌&&◌, not, is_some, ℕ, [], None, Some, OnOk, OnErr, if◌then◌else◌, ◌==◌};
 ghost use Rattle.mtrace_replay.specs.Moment.{allocation, release, renewal, plan};
 ghost use Rattle.mtrace_replay.specs.Calls.{CountsMore};
-ghost use Rattle.mtrace_replay.specs.Ledger.{held_at, KeepsPeak};
+ghost use Rattle.mtrace_replay.specs.Ledger.{entry_under, KeepsPeak};
 ghost use Rattle.mtrace_replay.specs.Served.{Serves, found_in};
 
 use super::ledger::Ledger;
-use crate::heap::step::entry_of;
 use crate::held::diagnostic::{Diagnostic, Kind};
-use crate::held::entry::Entry;
+use crate::held::entry::{Entry, entry_of};
 use crate::held::findings::Findings;
 use mtrace_log::{Addr, Event, LentLocation, LineFault};
 use std::alloc::AllocError;
@@ -17,7 +16,7 @@ use std::alloc::AllocError;
 /// Holds the address of an entry.
 fn hold(ledger: &mut Ledger, entry: &Entry<LentLocation<'_>>) -> Result<(), AllocError>
     requires few { ledger.old.called.total.calls + 1 < 2 ^ 64 }
-    ensures held { OnOk result ((other : ℕ) → held_at ledger.new.all other ≡ (if entry.now.addr == other then Some entry.now else held_at ledger.old.all other)) }
+    ensures held { OnOk result ((other : ℕ) → entry_under ledger.new.all other ≡ (if entry.now.addr == other then Some entry.now else entry_under ledger.old.all other)) }
     ensures peak { OnOk result (KeepsPeak ledger.old ledger.new) }
     ensures called { OnOk result (CountsMore entry.now.at 1 entry.now.size 0 ledger.old.called ledger.new.called) }
     ensures unchanged { OnErr result (ledger.new ≡ ledger.old) }
@@ -71,8 +70,8 @@ fn replace(
     entry: &Entry<LentLocation<'_>>,
 ) -> Result<(), AllocError>
     requires few { ledger.old.called.total.calls + 1 < 2 ^ 64 }
-    ensures held { OnOk result ((other : ℕ) → held_at ledger.new.all other
-        ≡ (if entry.now.addr == other then Some entry.now else (if old == other then None else held_at ledger.old.all other))) }
+    ensures held { OnOk result ((other : ℕ) → entry_under ledger.new.all other
+        ≡ (if entry.now.addr == other then Some entry.now else (if old == other then None else entry_under ledger.old.all other))) }
     ensures peak { OnOk result (KeepsPeak ledger.old ledger.new) }
     ensures called { OnOk result (CountsMore entry.now.at 1 entry.now.size 0 ledger.old.called ledger.new.called) }
     ensures unchanged { OnErr result (ledger.new ≡ ledger.old) }
@@ -85,7 +84,7 @@ fn replace(
 
 /// Whether the address is another one than the old one, and held.
 fn is_held_too(ledger: &Ledger, address: Addr, old: Addr) -> bool
-    ensures { result ≡ (not (address == old) && is_some (held_at ledger.now.all address)) }
+    ensures { result ≡ (not (address == old) && is_some (entry_under ledger.now.all address)) }
 {
     address != old && ledger.is_held(address)
 }

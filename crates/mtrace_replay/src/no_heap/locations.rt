@@ -9,13 +9,14 @@ ghost use Rattle.mtrace_replay.specs.Locations.{Extends, location_of, HasLocatio
 use super::location_key::LocationKey;
 use indexmap::IndexSet;
 use std::alloc::{AllocError, Global};
+use std::hash::RandomState;
 use std::marker::Model;
 
 /// The locations that were seen, each kept once, by number: the first has number 0.
 #[derive(Drop)]
 pub struct Locations {
     alloc: Global,
-    seen: IndexSet<LocationKey>,
+    seen: IndexSet<LocationKey, RandomState>,
     asked: LocationKey,
 }
 
@@ -29,12 +30,12 @@ impl Model for Locations {
 
 impl Locations {
     /// None yet.
-    pub fn new(alloc: Global) -> Locations
+    pub fn new(alloc: Global, seed: RandomState) -> Locations
         ensures { result ≡ [] }
     {
         Locations {
             alloc,
-            seen: IndexSet::new(alloc),
+            seen: IndexSet::with_hasher(alloc, seed),
             asked: LocationKey::none(alloc),
         }
     }

@@ -7,13 +7,14 @@ ghost use Rattle.mtrace_replay.specs.Served.{IsServed, FeedsLedger, RaisesPeak, 
 
 use super::ledger::Ledger;
 use super::line::outcome;
-use crate::heap::replay::{half_before, half_diagnostic, old_address, put_half};
 use crate::held::amount::Amount;
 use crate::held::diagnostic::Note;
 use crate::held::findings::Findings;
+use crate::held::half::{half_before, half_diagnostic, old_address, put_half};
 use crate::runs::line_replay::LineReplay;
 use mtrace_log::{Addr, Event, LentLocation, LineFault};
 use std::alloc::{AllocError, Global};
+use std::hash::RandomState;
 use std::marker::Model;
 
 /// The sums over the lines of a log, without a heap.
@@ -68,11 +69,11 @@ impl Model for LedgerReplay {
 
 impl LedgerReplay {
     /// A replay of no line yet. It takes no memory.
-    pub fn new(alloc: Global) -> LedgerReplay
+    pub fn new(alloc: Global, seed: RandomState) -> LedgerReplay
         ensures { IsServed result [] }
     {
         LedgerReplay {
-            ledger: Ledger::new(alloc),
+            ledger: Ledger::new(alloc, seed),
             lines: 0,
             served: 0,
             peak_bytes: 0,

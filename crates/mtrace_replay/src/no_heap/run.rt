@@ -11,11 +11,12 @@ use super::prepared::{Prepared, prepare};
 use super::replay::LedgerReplay;
 use super::report::{LedgerReport, put_ledger_report};
 use crate::held::diagnostic::Note;
-use crate::runs::following::{Stop, follow_lines};
+use crate::runs::following::read_log;
 use crate::runs::run::put_diagnostics;
 use crate::runs::status::{RunFault, Status};
 use mtrace_log::{Failed, Sink, Source};
 use std::alloc::Global;
+use std::hash::RandomState;
 
 /// Puts what is wrong at the end, and then the report.
 fn put_end<W: Sink>(
@@ -61,6 +62,7 @@ pub(crate) struct EndedLedger {
 /// Reads a log and follows it without a heap, and writes what is wrong with its lines, and then the report.
 pub(crate) fn follow_log<R: Source, W: Sink>(
     alloc: Global,
+    seed: RandomState,
     reader: &mut R,
     writer: &mut W,
     report: LedgerReport,
@@ -68,18 +70,10 @@ pub(crate) fn follow_log<R: Source, W: Sink>(
     ensures ran { RunsServed report (served_status result) (R.shown reader.old) (R.shown reader.new) (W.shown writer.old) (W.shown writer.new) }
     ensures last { report ≡ Nothing → IfOk result (λ ended. EndsServed ended.status ended.replay (R.shown reader.old) (R.shown reader.new) (W.shown writer.old) (W.shown writer.new)) }
 {
-    let mut replay = LedgerReplay::new(alloc);
-    let has_diagnostics = match follow_lines(reader, writer, &mut replay) {
+    let mut replay = LedgerReplay::new(alloc, seed);
+    let has_diagnostics = match read_log(reader, writer, &mut replay) {
         Ok(has_diagnostics) => has_diagnostics,
-        Err(Stop::Writer) => return Err(RunFault::Write),
-        Err(Stop::Reader) => {
-            let _ = writer.flush();
-            return Err(RunFault::Read);
-        }
-        Err(Stop::Memory) => {
-            let _ = writer.flush();
-            return Err(RunFault::OutOfMemory);
-        }
+        Err(fault) => return Err(fault),
     };
     let Ok(prepared) = prepare(alloc, &replay, report) else {
         let _ = writer.flush();
@@ -106,12 +100,13 @@ pub(crate) fn follow_log<R: Source, W: Sink>(
 /// where memory is refused: then what is wrong with the lines before is written.
 pub fn run_ledger<R: Source, W: Sink>(
     alloc: Global,
+    seed: RandomState,
     reader: &mut R,
     writer: &mut W,
     report: LedgerReport,
 ) -> Result<Status, RunFault>
     ensures { RunsServed report result (R.shown reader.old) (R.shown reader.new) (W.shown writer.old) (W.shown writer.new) }
 {
-    let ended = follow_log(alloc, reader, writer, report)?;
+    let ended = follow_log(alloc, seed, reader, writer, report)?;
     Ok(ended.status)
 }

@@ -4,8 +4,8 @@ ghost use Rattle.std.specs.Prelude.{◌≡◌, ◌+◌, ◌<◌, ◌≤◌, ◌^
 ghost use Rattle.mtrace_replay.specs.Calls.{count_more, count_temporary, no_calls};
 ghost use Rattle.mtrace_replay.specs.Shares.{Changes, Counts, KeepsAmounts, KeepsCounts, KeepsShares, Marks, IsOfWords, amount_at, amount_more, amount_less, count_at, now_at, marked_at, marked_in, no_share, nothing};
 
-use super::count::Count;
 use crate::held::amount::Amount;
+use crate::held::count::Count;
 use std::alloc::{AllocError, Global};
 use std::marker::Model;
 

@@ -17,15 +17,16 @@ use super::replay::{LedgerReplay, LedgerTotals};
 use super::report::LedgerReport;
 use super::run::follow_log;
 use crate::held::line_text::{LineText, push_bytes, push_column, push_number};
+use crate::held::lines::{InLine, put_lines};
 use crate::held::told::tell_lines;
 use crate::runs::flush::flush_behind;
-use crate::runs::following::Stop;
-use crate::runs::reading::Reading;
+use crate::runs::reading::{Reading, Stop};
 use crate::runs::status::{RunFault, Status};
 use crate::runs::timeline::MOST_PARTS;
 use arrayvec::ArrayVec;
 use mtrace_log::{Again, Failed, Sink, put_all};
 use std::alloc::{AllocError, Global};
+use std::hash::RandomState;
 
 /// The line of a point.
 fn point_text(point: &LedgerPoint) -> LineText
@@ -39,14 +40,12 @@ fn point_text(point: &LedgerPoint) -> LineText
     text
 }
 
-/// Puts a line for each point.
-fn put_points<W: Sink>(writer: &mut W, points: &[LedgerPoint]) -> Result<(), Failed>
-    ensures { Puts result (flat_map ledger_point_text points.now) (W.shown writer.old) (W.shown writer.new) }
-{
-    for point in points {
-        put_all(writer, point_text(point).as_slice())?;
+impl InLine for LedgerPoint {
+    ghost line = { ledger_point_text };
+
+    fn put_line<W: Sink>(&self, writer: &mut W) -> Result<(), Failed> {
+        put_all(writer, point_text(self).as_slice())
     }
-    Ok(())
 }
 
 /// Puts the points below their words.
@@ -54,7 +53,7 @@ fn put_timeline<W: Sink>(writer: &mut W, points: &[LedgerPoint]) -> Result<(), F
     ensures { Puts result (ledger_timeline_text points.now) (W.shown writer.old) (W.shown writer.new) }
 {
     put_all(writer, b"line bytes blocks\n")?;
-    put_points(writer, points)
+    put_lines(writer, points)
 }
 
 /// The numbers of the lines that are told, by the sums over all lines.
@@ -79,6 +78,7 @@ fn told_lines(alloc: Global, totals: LedgerTotals, parts: u32) -> Result<Vec<u64
 /// `Read` where the reader doesn't begin again, fails, or has fewer lines then. `OutOfMemory` where memory is refused.
 fn read_points<R: Again>(
     alloc: Global,
+    seed: RandomState,
     reader: &mut R,
     numbers: &[u64],
 ) -> Result<Vec<LedgerPoint>, RunFault>
@@ -91,14 +91,13 @@ fn read_points<R: Again>(
     let Ok(()) = reader.begin() else {
         return Err(RunFault::Read);
     };
-    let mut replay = LedgerReplay::new(alloc);
+    let mut replay = LedgerReplay::new(alloc, seed);
     let mut reading = Reading::new();
     for number in numbers {
         match reading.follow_up_to(reader, &mut replay, *number) {
             Ok(()) => points.push_reserved(ledger_point(&replay)),
             Err(Stop::Memory) => return Err(RunFault::OutOfMemory),
             Err(Stop::Reader) => return Err(RunFault::Read),
-            Err(Stop::Writer) => return Err(RunFault::Read),
         }
     }
     reading.holds_few();
@@ -108,6 +107,7 @@ fn read_points<R: Again>(
 /// Reads the log again, and puts what was held after the lines that are told. Answers this status.
 fn tell_timeline<R: Again, W: Sink>(
     alloc: Global,
+    seed: RandomState,
     reader: &mut R,
     writer: &mut W,
     totals: LedgerTotals,
@@ -122,7 +122,7 @@ fn tell_timeline<R: Again, W: Sink>(
     let Ok(numbers) = told_lines(alloc, totals, parts) else {
         return Err(RunFault::OutOfMemory);
     };
-    let points = match read_points(alloc, reader, numbers.as_slice()) {
+    let points = match read_points(alloc, seed, reader, numbers.as_slice()) {
         Ok(points) => points,
         Err(fault) => return Err(fault),
     };
@@ -147,6 +147,7 @@ fn tell_timeline<R: Again, W: Sink>(
 /// byte of some, or failed a flush: then a beginning of the text is written.
 pub fn run_ledger_timeline<R: Again, W: Sink>(
     alloc: Global,
+    seed: RandomState,
     reader: &mut R,
     writer: &mut W,
     parts: u32,
@@ -156,11 +157,11 @@ pub fn run_ledger_timeline<R: Again, W: Sink>(
     if parts == 0 || parts > MOST_PARTS {
         return Err(RunFault::BadSettings);
     }
-    let ended = match follow_log(alloc, reader, writer, LedgerReport::Nothing) {
+    let ended = match follow_log(alloc, seed, reader, writer, LedgerReport::Nothing) {
         Ok(ended) => ended,
         Err(fault) => return Err(fault),
     };
     let (totals, status) = (ended.replay.totals(), ended.status);
     drop(ended);
-    tell_timeline(alloc, reader, writer, totals, parts, status)
+    tell_timeline(alloc, seed, reader, writer, totals, parts, status)
 }

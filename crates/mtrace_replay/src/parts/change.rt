@@ -5,7 +5,7 @@ ghost use Rattle.mtrace_replay.specs.Asked.{class_asked};
 ghost use Rattle.mtrace_replay.specs.Spans.{released_by, address_asked, block_asked};
 
 use super::spans::Block;
-use crate::heap::asked::Asked;
+use crate::held::asked::Asked;
 use mtrace_log::{Addr, Event, LentLocation, LineFault};
 
 /// What a line releases where it is served, and where it isn't. The address that it asks for, and the class size.
@@ -36,7 +36,9 @@ impl Change {
             Ok(Event::Alloc { addr, .. }) => (None, None, *addr),
             Ok(Event::Aligned { addr, .. }) => (None, None, Some(*addr)),
             Ok(Event::New { addr, .. }) => (pending, None, Some(*addr)),
-            _ => (None, None, None),
+            Ok(Event::Start | Event::End | Event::Old { .. } | Event::Failed { .. }) | Err(_) => {
+                (None, None, None)
+            }
         };
         Change {
             moved,

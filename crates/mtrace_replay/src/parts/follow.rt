@@ -9,7 +9,7 @@ ghost use Rattle.mtrace_replay.specs.declared.no_heap.report.LedgerReport.TheVar
 use super::replay::CountedReplay;
 use crate::no_heap::prepared::Prepared;
 use crate::no_heap::run::finish;
-use crate::runs::following::{Stop, follow_lines};
+use crate::runs::following::read_log;
 use crate::runs::status::{RunFault, Status};
 use mtrace_log::{Sink, Source};
 
@@ -24,17 +24,9 @@ pub(crate) fn follow_counted<R: Source, W: Sink>(
     ensures ran { RunsServed Nothing result (R.shown reader.old) (R.shown reader.new) (W.shown writer.old) (W.shown writer.new) }
     ensures last { IfOk result (λ status. EndsCounted status replay.new (R.shown reader.old) (R.shown reader.new) (W.shown writer.old) (W.shown writer.new)) }
 {
-    let has_diagnostics = match follow_lines(reader, writer, replay) {
+    let has_diagnostics = match read_log(reader, writer, replay) {
         Ok(has_diagnostics) => has_diagnostics,
-        Err(Stop::Writer) => return Err(RunFault::Write),
-        Err(Stop::Reader) => {
-            let _ = writer.flush();
-            return Err(RunFault::Read);
-        }
-        Err(Stop::Memory) => {
-            let _ = writer.flush();
-            return Err(RunFault::OutOfMemory);
-        }
+        Err(fault) => return Err(fault),
     };
     match finish(writer, &replay.ledger, has_diagnostics, &Prepared::Nothing) {
         Ok(status) => Ok(status),

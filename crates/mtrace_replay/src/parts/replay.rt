@@ -14,6 +14,7 @@ use crate::no_heap::replay::LedgerReplay;
 use crate::runs::line_replay::LineReplay;
 use mtrace_log::{Event, LentLocation, LineFault};
 use std::alloc::{AllocError, Global};
+use std::hash::RandomState;
 
 /// The replay of a log's lines without a heap, with the blocks held of each span of sizes. There are no spans once a request that
 /// is served has no class.
@@ -50,14 +51,14 @@ impl CountedReplay {
     /// # Errors
     ///
     /// `AllocError` where memory is refused.
-    pub(crate) fn new(alloc: Global) -> Result<CountedReplay, AllocError>
+    pub(crate) fn new(alloc: Global, seed: RandomState) -> Result<CountedReplay, AllocError>
         ensures served { IfOk result (λ replay. IsServed replay.ledger []) }
         ensures counted { IfOk result (λ replay. AreCountedOf [] replay.spans) }
         ensures few { IfOk result (λ replay. AreFew 0 replay.spans) }
     {
-        let spans = Spans::new(alloc)?;
+        let spans = Spans::new(alloc, seed)?;
         Ok(CountedReplay {
-            ledger: LedgerReplay::new(alloc),
+            ledger: LedgerReplay::new(alloc, seed),
             spans: Some(spans),
         })
     }

@@ -21,6 +21,7 @@ use crate::runs::status::{RunFault, Status};
 use arrayvec::ArrayVec;
 use mtrace_log::{Sink, Source};
 use std::alloc::Global;
+use std::hash::RandomState;
 
 /// The part that serves the ranges from one to another.
 fn part_at(spans: &[Span], first: u8, last: u8) -> PartOf
@@ -98,6 +99,7 @@ fn tell_parts<W: Sink>(
 /// a flush: then a beginning of the text is written.
 pub fn run_fit_heaps<R: Source, W: Sink>(
     alloc: Global,
+    seed: RandomState,
     reader: &mut R,
     writer: &mut W,
     heaps: u32,
@@ -107,7 +109,7 @@ pub fn run_fit_heaps<R: Source, W: Sink>(
     if heaps == 0 || heaps > 8 {
         return Err(RunFault::BadSettings);
     }
-    let Ok(mut replay) = CountedReplay::new(alloc) else {
+    let Ok(mut replay) = CountedReplay::new(alloc, seed) else {
         return Err(RunFault::OutOfMemory);
     };
     match follow_counted(reader, writer, &mut replay) {

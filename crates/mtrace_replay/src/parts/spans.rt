@@ -1,6 +1,6 @@
 //! The spans of all neighbouring ranges, and the range of each block that is held.
 
-ghost use Rattle.std.specs.Prelude.{◌≡◌, ℕ, [], ◌+◌, ◌^◌, ◌<◌, ◌≤◌, ◌==◌, map, Some, None, OnOk, IfOk, if◌then◌else◌};
+ghost use Rattle.std.specs.Prelude.{◌≡◌, ℕ, [], ◌+◌, ◌^◌, ◌<◌, ◌≤◌, ◌==◌, map, Some, None, OnOk, OnErr, IfOk, if◌then◌else◌};
 ghost use Rattle.std.specs.Prelude.{nat_eq};
 ghost use Rattle.std.specs.HashMap.{get};
 ghost use Rattle.std.specs.List.{All, Contains};
@@ -13,6 +13,7 @@ use super::span::Span;
 use mtrace_log::Addr;
 use std::alloc::{AllocError, Global};
 use std::collections::HashMap;
+use std::hash::RandomState;
 
 /// A block of this size, in this range, is held.
 fn add_block(spans: &mut [Span], range: u8, size: u32)
@@ -66,7 +67,7 @@ pub(crate) struct Block {
 #[derive(Drop)]
 pub(crate) struct Spans {
     pub(crate) all: Vec<Span>,
-    ranges: HashMap<u64, u8>,
+    ranges: HashMap<u64, u8, RandomState>,
 }
 
 impl Spans {
@@ -75,7 +76,7 @@ impl Spans {
     /// # Errors
     ///
     /// `AllocError` where memory is refused.
-    pub(crate) fn new(alloc: Global) -> Result<Spans, AllocError>
+    pub(crate) fn new(alloc: Global, seed: RandomState) -> Result<Spans, AllocError>
         ensures { IfOk result (λ spans. AreCounted [] spans.all.items (get nat_eq spans.ranges)) }
     {
         let mut all = Vec::new(alloc);
@@ -84,7 +85,7 @@ impl Spans {
         }
         Ok(Spans {
             all,
-            ranges: HashMap::new(alloc),
+            ranges: HashMap::with_hasher(alloc, seed),
         })
     }
 
@@ -110,6 +111,8 @@ impl Spans {
         requires few { All (λ span. span.live + 1 < 2 ^ 64) self.old.all.items }
         ensures spans { OnOk result (self.new.all.items ≡ map (with_block (range_of size) size) self.old.all.items) }
         ensures ranges { OnOk result ((other : ℕ) → get nat_eq self.new.ranges other ≡ (if address == other then Some (range_of size) else get nat_eq self.old.ranges other)) }
+        ensures spans_stay { OnErr result (self.new.all ≡ self.old.all) }
+        ensures ranges_stay { OnErr result ((other : ℕ) → get nat_eq self.new.ranges other ≡ get nat_eq self.old.ranges other) }
     {
         let range = range_of(size);
         self.ranges.insert(address.value(), range)?;

@@ -12,6 +12,7 @@ ghost use Rattle.mtrace_replay.specs.PartsText.{part_in};
 use crate::held::line_text::{
     LineText, push_bytes, push_number, push_number_line, push_wide_pair_line,
 };
+use crate::held::lines::{InLine, put_lines};
 use crate::runs::enough::table_bytes;
 use crate::runs::fit_text::push_size_line;
 use arrayvec::ArrayVec;
@@ -143,14 +144,12 @@ fn no_parts(bytes: u128, line: u64) -> LineText
     text
 }
 
-/// Puts a line for each part.
-fn put_lines<W: Sink>(writer: &mut W, parts: &[PartOf]) -> Result<(), Failed>
-    ensures { Puts result (flat_map (λ part. part_line (part_in part)) parts.now) (W.shown writer.old) (W.shown writer.new) }
-{
-    for part in parts {
-        put_all(writer, part_text(part).as_slice())?;
+impl InLine for PartOf {
+    ghost line = { λ part. part_line (part_in part) };
+
+    fn put_line<W: Sink>(&self, writer: &mut W) -> Result<(), Failed> {
+        put_all(writer, part_text(self).as_slice())
     }
-    Ok(())
 }
 
 /// Puts the lines of the parts, and their sums.

@@ -5,10 +5,11 @@ ghost use Rattle.arrayvec.specs.ArrayVec.{array_vec_len};
 ghost use Rattle.mtrace_replay.specs.Appends.{Appends};
 ghost use Rattle.mtrace_replay.specs.Texts.{size_line, greatest_line, most_line, record_lines, fitted_lines, untried_lines, refused_line};
 
+use crate::heap::text::push_greatest_line;
 use crate::heap::totals::Totals;
 use crate::held::line_text::{
-    LONGEST_TEXT, LineText, push_bytes, push_count_line, push_greatest_line, push_number,
-    push_number_line, push_pair_line, push_refused_line,
+    LONGEST_TEXT, LineText, push_bytes, push_count_line, push_number, push_number_line,
+    push_pair_line, push_refused_line,
 };
 use crate::runs::enough::table_bytes;
 use crate::runs::fitted::Fitted;

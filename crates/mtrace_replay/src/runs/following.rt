@@ -3,24 +3,13 @@
 ghost use Rattle.std.specs.Prelude.{◌≡◌, [], IfOk, OnOk};
 ghost use Rattle.mtrace_log.specs.Output.{Puts};
 ghost use Rattle.mtrace_replay.specs.Texts.{diagnostics_text};
-ghost use Rattle.mtrace_replay.specs.Run.{has_some};
-ghost use Rattle.mtrace_replay.specs.Following.{FollowsLines};
+ghost use Rattle.mtrace_replay.specs.Following.{has_some, ReadsLog};
 
 use crate::held::findings::Findings;
 use crate::runs::line_replay::LineReplay;
 use crate::runs::run::put_findings;
+use crate::runs::status::RunFault;
 use mtrace_log::{Failed, Lines, Sink, Source};
-
-/// Why no more lines are followed.
-#[derive(Clone, Copy)]
-pub(crate) enum Stop {
-    // The reader failed, or a line past the last number would come.
-    Reader,
-    // The writer failed.
-    Writer,
-    // Memory was refused.
-    Memory,
-}
 
 /// Puts what is wrong with a line, and then nothing is. Answers whether anything was.
 #[inline(always)]
@@ -37,15 +26,20 @@ fn put_found<W: Sink>(writer: &mut W, findings: &mut Findings) -> Result<bool, F
 }
 
 /// Reads and follows all lines of the log; what is wrong with a line is put at once. Answers whether anything is. The findings are
-/// empty before each line, so one serves all.
-pub(crate) fn follow_lines<P: LineReplay, R: Source, W: Sink>(
+/// empty before each line, so one serves all. Where that stops before the end, but for the writer, the writer is asked to flush.
+///
+/// # Errors
+///
+/// `Read` where the reader failed, or a line past the last number would come. `Write` where the writer failed. `OutOfMemory` where
+/// memory was refused.
+pub(crate) fn read_log<P: LineReplay, R: Source, W: Sink>(
     reader: &mut R,
     writer: &mut W,
     replay: &mut P,
-) -> Result<bool, Stop>
+) -> Result<bool, RunFault>
     requires start { P.rules.lines replay.old ≡ 0 }
     requires ready { P.rules.IsReady replay.old }
-    ensures { FollowsLines P.rules result replay.old replay.new (R.shown reader.old) (R.shown reader.new) (W.shown writer.old) (W.shown writer.new) }
+    ensures { ReadsLog P.rules result replay.old replay.new (R.shown reader.old) (R.shown reader.new) (W.shown writer.old) (W.shown writer.new) }
 {
     let mut lines = Lines::new();
     let mut has_diagnostics = false;
@@ -54,15 +48,21 @@ pub(crate) fn follow_lines<P: LineReplay, R: Source, W: Sink>(
         let number = match lines.advance(reader) {
             Ok(Some(number)) => number,
             Ok(None) => return Ok(has_diagnostics),
-            Err(_) => return Err(Stop::Reader),
+            Err(_) => {
+                let _ = writer.flush();
+                return Err(RunFault::Read);
+            }
         };
         match replay.take_line(number, lines.event(), &mut findings) {
             Ok(()) => {}
-            Err(_) => return Err(Stop::Memory),
+            Err(_) => {
+                let _ = writer.flush();
+                return Err(RunFault::OutOfMemory);
+            }
         }
         match put_found(writer, &mut findings) {
             Ok(more) => has_diagnostics |= more,
-            Err(_) => return Err(Stop::Writer),
+            Err(_) => return Err(RunFault::Write),
         }
     }
 }

@@ -8,14 +8,14 @@ ghost use Rattle.mtrace_replay.specs.Asked.{greater_class};
 ghost use Rattle.mtrace_replay.specs.Run.{Runs};
 ghost use Rattle.mtrace_replay.specs.Started.{started};
 ghost use Rattle.mtrace_replay.specs.declared.heap.settings.Settings.{Settings};
-ghost use Rattle.mtrace_replay.specs.Needs.{of_one, block_bytes, BehindExchange, AreNeeds, status_with, EndsWithNeeds};
+ghost use Rattle.mtrace_replay.specs.Needs.{of_one, bytes_of_block, BehindExchange, AreNeeds, status_with, EndsWithNeeds};
 
-use crate::heap::asked::{Asked, rounded_bytes};
 use crate::heap::replay::{Replay, ReplayFault};
 use crate::heap::settings::Settings;
 use crate::heap::totals::Totals;
+use crate::held::asked::{Asked, rounded_bytes};
 use crate::held::findings::Findings;
-use crate::runs::following::{Stop, follow_lines};
+use crate::runs::following::read_log;
 use crate::runs::line_replay::LineReplay;
 use crate::runs::report::Report;
 use crate::runs::run::finish;
@@ -28,7 +28,7 @@ use tlsf_heap::Heap;
 /// Of the blocks held before it, `blocks` are left, of `bytes` bytes as asked for: all of them, or all but the one that it frees.
 fn less_freed(more: u64, blocks: u64, bytes: u64, old: Totals) -> u64
     ensures { (freed : Option Given) (exact : ℕ) → blocks + of_one (λ given. 1) freed ≡ old.live_blocks → bytes + of_one (λ given. given.entry.size) freed ≡ old.live_bytes
-        → exact + of_one block_bytes freed ≡ more → result ≡ exact }
+        → exact + of_one bytes_of_block freed ≡ more → result ≡ exact }
 {
     if blocks == old.live_blocks {
         return more;
@@ -153,7 +153,7 @@ pub(crate) fn replay_needs<R: Source, W: Sink>(
         replay,
         needs: Needs::none(),
     };
-    match follow_lines(reader, writer, &mut replay) {
+    match read_log(reader, writer, &mut replay) {
         Ok(has_diagnostics) => match finish(
             writer,
             &mut replay.replay,
@@ -163,11 +163,6 @@ pub(crate) fn replay_needs<R: Source, W: Sink>(
             Ok(status) => Ok(NeedsRun { status, replay }),
             Err(_) => Err(RunFault::Write),
         },
-        Err(Stop::Writer) => Err(RunFault::Write),
-        Err(Stop::Memory) => unreachable!(),
-        Err(Stop::Reader) => {
-            let _ = writer.flush();
-            Err(RunFault::Read)
-        }
+        Err(fault) => Err(fault),
     }
 }

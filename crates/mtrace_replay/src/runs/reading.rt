@@ -6,10 +6,18 @@ ghost use Rattle.mtrace_replay.specs.Course.{course};
 ghost use Rattle.mtrace_replay.specs.Replaying.{no_line, FollowsUpTo};
 
 use crate::held::findings::Findings;
-use crate::runs::following::Stop;
 use crate::runs::line_replay::LineReplay;
 use mtrace_log::{Lines, Source};
 use std::marker::Model;
+
+/// Why no more lines are followed.
+#[derive(Clone, Copy)]
+pub(crate) enum Stop {
+    // The reader failed, or has no line with the next number.
+    Reader,
+    // Memory was refused.
+    Memory,
+}
 
 /// How far a log is read. What is wrong with its lines isn't told.
 #[derive(Drop)]

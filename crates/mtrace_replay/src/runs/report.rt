@@ -8,7 +8,8 @@ ghost use Rattle.mtrace_replay.specs.Texts.{entry_text, leaks_report, report_tex
 
 use crate::heap::index::Entries;
 use crate::heap::replay::Replay;
-use crate::held::line_text::{entry_text, peak_text, total_text};
+use crate::heap::text::peak_text;
+use crate::held::line_text::{entry_text, total_text};
 use mtrace_log::{Failed, Sink, put_all};
 use tlsf_heap::Heaped;
 

@@ -3,31 +3,37 @@
 ghost use Rattle.std.specs.Prelude.{◌≡◌, ◌++◌, false, [], IfOk};
 ghost use Rattle.mtrace_log.specs.Output.{Puts};
 ghost use Rattle.mtrace_replay.specs.Course.{course};
-ghost use Rattle.mtrace_replay.specs.Texts.{diagnostics_text, report_text};
+ghost use Rattle.mtrace_replay.specs.Texts.{diagnostic_text, diagnostics_text, report_text};
 ghost use Rattle.mtrace_replay.specs.Replay.{entries};
 ghost use Rattle.mtrace_replay.specs.Run.{Runs, EndsAt, status_in, PutsReport, Finishes};
 
 use crate::heap::replay::{Replay, ReplayFault};
 use crate::heap::settings::Settings;
-use crate::held::diagnostic::Note;
+use crate::held::diagnostic::{Diagnostic, Note};
 use crate::held::findings::Findings;
 use crate::held::line_text::diagnostic_text;
-use crate::runs::following::{Stop, follow_lines};
+use crate::held::lines::{InLine, put_lines};
+use crate::runs::following::read_log;
 use crate::runs::report::{Report, put_report};
 use crate::runs::status::{RunFault, Status};
 use mtrace_log::{Failed, Sink, Source, put_all};
 use std::alloc::Global;
 use tlsf_heap::{Heap, Heaped};
 
+impl InLine for Diagnostic {
+    ghost line = { diagnostic_text };
+
+    fn put_line<W: Sink>(&self, writer: &mut W) -> Result<(), Failed> {
+        put_all(writer, diagnostic_text(self).as_slice())
+    }
+}
+
 /// Puts a line for each diagnostic.
 #[inline(never)]
 pub(crate) fn put_diagnostics<W: Sink>(writer: &mut W, diagnostics: &Note) -> Result<(), Failed>
     ensures { Puts result (diagnostics_text diagnostics.now.items) (W.shown writer.old) (W.shown writer.new) }
 {
-    for diagnostic in diagnostics.as_slice() {
-        put_all(writer, diagnostic_text(diagnostic).as_slice())?;
-    }
-    Ok(())
+    put_lines(writer, diagnostics.as_slice())
 }
 
 /// Puts what is wrong with a line; then nothing is.
@@ -102,17 +108,12 @@ pub(crate) fn replay_log<R: Source, W: Sink>(
         Err(ReplayFault::BadSettings) => return Err(RunFault::BadSettings),
         Err(ReplayFault::OutOfMemory) => return Err(RunFault::OutOfMemory),
     };
-    match follow_lines(reader, writer, &mut replay) {
+    match read_log(reader, writer, &mut replay) {
         Ok(has_diagnostics) => match finish(writer, &mut replay, has_diagnostics, report) {
             Ok(status) => Ok(FinishedRun { status, replay }),
             Err(_) => Err(RunFault::Write),
         },
-        Err(Stop::Writer) => Err(RunFault::Write),
-        Err(Stop::Memory) => unreachable!(),
-        Err(Stop::Reader) => {
-            let _ = writer.flush();
-            Err(RunFault::Read)
-        }
+        Err(fault) => Err(fault),
     }
 }
 

@@ -11,11 +11,11 @@ ghost use Rattle.mtrace_replay.specs.Texts.{both_sections, refused_line};
 ghost use Rattle.mtrace_replay.specs.RunSites.{Groups, HasMemory, SitesFollow, RunsSites};
 
 use crate::heap::again::replay_again;
+use crate::heap::grouping::Grouping;
 use crate::heap::replay::{Replay, ReplayFault};
 use crate::heap::settings::Settings;
 use crate::heap::totals::Totals;
 use crate::held::amount::Amount;
-use crate::held::grouping::Grouping;
 use crate::held::line_text::refused_text;
 use crate::held::sections::put_both;
 use crate::held::site::Site;

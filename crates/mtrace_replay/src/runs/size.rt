@@ -4,7 +4,7 @@ ghost use Rattle.std.specs.Prelude.{◌≡◌, ◌<◌};
 ghost use Rattle.tlsf_heap.specs.Sizing.{class_size, sure_pool};
 ghost use Rattle.mtrace_replay.specs.Size.{align_of, blocks_bytes, one_size, rounded_pool, bounds_text, RunsSize};
 
-use crate::heap::asked::{asked_size, rounded_bytes};
+use crate::held::asked::{asked_size, rounded_bytes};
 use crate::held::line_text::LineText;
 use crate::parts::text::PartOf;
 use crate::runs::enough::sure_records;

@@ -8,12 +8,14 @@ ghost use Rattle.mtrace_replay.specs.Settings.{are_bad};
 ghost use Rattle.mtrace_replay.specs.Moment.{ReadLine};
 ghost use Rattle.mtrace_replay.specs.Replay.{StandsFor};
 ghost use Rattle.mtrace_replay.specs.Texts.{point_text, timeline_text};
-ghost use Rattle.mtrace_replay.specs.RunTimeline.{HasRoom, ReadsPoints, TimelineFollows, RunsTimeline};
+ghost use Rattle.mtrace_replay.specs.RunTimeline.{HasRoomForPoints, ReadsPoints, TimelineFollows, RunsTimeline};
 
 use crate::heap::point::{Point, point_after};
 use crate::heap::replay::{Replay, ReplayFault};
 use crate::heap::settings::Settings;
-use crate::held::line_text::{point_text, refused_text};
+use crate::heap::text::point_text;
+use crate::held::line_text::refused_text;
+use crate::held::lines::{InLine, put_lines};
 use crate::held::told::tell_lines;
 use crate::runs::flush::flush_behind;
 use crate::runs::reading::Reading;
@@ -27,14 +29,12 @@ use tlsf_heap::Heap;
 /// The greatest number of parts.
 pub(crate) const MOST_PARTS: u32 = 10_000;
 
-/// Puts a line for each point.
-fn put_points<W: Sink>(writer: &mut W, points: &[Point]) -> Result<(), Failed>
-    ensures { Puts result (flat_map point_text points.now) (W.shown writer.old) (W.shown writer.new) }
-{
-    for point in points {
-        put_all(writer, point_text(point).as_slice())?;
+impl InLine for Point {
+    ghost line = { point_text };
+
+    fn put_line<W: Sink>(&self, writer: &mut W) -> Result<(), Failed> {
+        put_all(writer, point_text(self).as_slice())
     }
-    Ok(())
 }
 
 /// Puts the points below their words, and how many lines were refused.
@@ -42,7 +42,7 @@ fn put_timeline<W: Sink>(writer: &mut W, points: &[Point], refused: u64) -> Resu
     ensures { Puts result (timeline_text points.now refused) (W.shown writer.old) (W.shown writer.new) }
 {
     put_all(writer, b"line bytes blocks reach free largest\n")?;
-    put_points(writer, points)?;
+    put_lines(writer, points)?;
     put_all(writer, refused_text(refused).as_slice())
 }
 
@@ -85,7 +85,7 @@ struct Room {
 impl Room {
     /// Room for 0, the peak and this many parts. It takes memory twice.
     fn new(alloc: Global, parts: u32) -> Result<Room, AllocError>
-        ensures { IfOk result (λ room. HasRoom parts room.numbers room.points) }
+        ensures { IfOk result (λ room. HasRoomForPoints parts room.numbers room.points) }
     {
         let most = parts as usize + 2;
         Ok(Room {
@@ -108,7 +108,7 @@ fn tell_timeline<R: Again, W: Sink>(
     requires good { are_bad settings ≡ false }
     requires records { replay.old.content.records ≡ settings.records }
     requires some { 0 < parts }
-    requires room { HasRoom parts room.numbers room.points }
+    requires room { HasRoomForPoints parts room.numbers room.points }
     ensures answer { IfOk result (λ answered. answered ≡ status) }
     ensures told { (lines : List ReadLine) → StandsFor replay.old settings (reverse lines)
         → TimelineFollows settings parts lines result (course R.shown reader.old reader.new) (course W.shown writer.old writer.new) }
@@ -125,7 +125,7 @@ fn tell_timeline<R: Again, W: Sink>(
 
 /// Room for what is told, where the settings aren't bad.
 fn take_room(alloc: Global, settings: Settings, parts: u32) -> Result<Room, ReplayFault>
-    ensures room { IfOk result (λ room. HasRoom parts room.numbers room.points) }
+    ensures room { IfOk result (λ room. HasRoomForPoints parts room.numbers room.points) }
     ensures bad_settings { IsErrOf result ReplayFault.BadSettings ↔ IsTrue (are_bad settings) }
 {
     if settings.are_bad() {

@@ -3,7 +3,7 @@
 use super::rows::PIECES;
 use crate::asked::Rereading;
 use crate::service::{run_again, serve_again};
-use crate::tests::{expect_eq, expect_eq_at};
+use crate::tests::{expect_eq, expect_eq_at, seed};
 use mtrace_log::memory::{Full, MemorySink, MemorySource};
 use mtrace_replay::{RunFault, Status};
 use std::alloc::Global;
@@ -24,7 +24,15 @@ fn expect_row(rt: &impl Abort, alloc: Global, row: &Row, piece: usize) {
     let mut reader = MemorySource::in_pieces(row.log, piece.max(1));
     let mut writer = MemorySink::in_pieces(alloc, 4096);
     let mut errors = MemorySink::in_pieces(alloc, 4096);
-    let status = serve_again(alloc, row.what, &mut reader, &mut writer, &mut errors, &());
+    let status = serve_again(
+        alloc,
+        seed(rt),
+        row.what,
+        &mut reader,
+        &mut writer,
+        &mut errors,
+        &(),
+    );
     expect_eq_at(rt, row.name, status, row.status);
     expect_eq_at(rt, row.name, writer.bytes(), row.text);
     expect_eq_at(rt, row.name, errors.bytes(), b"".as_slice());
@@ -54,7 +62,7 @@ pub(super) struct Case {
 fn expect_read_fault(rt: &impl Abort, alloc: Global, case: &Case, calls: u64, wanted: &[u8]) {
     let mut reader = MemorySource::failing_after(case.log, 4096, calls);
     let mut writer = MemorySink::in_pieces(alloc, 4096);
-    let answer = run_again(alloc, case.what, &mut reader, &mut writer, &());
+    let answer = run_again(alloc, seed(rt), case.what, &mut reader, &mut writer, &());
     expect_eq_at(rt, calls, answer, Err(RunFault::Read));
     expect_eq_at(rt, calls, writer.bytes(), wanted);
 }
@@ -67,7 +75,7 @@ pub(super) fn expect_reader_failures(rt: &impl Abort, alloc: Global, case: &Case
     }
     let mut reader = MemorySource::failing_after(case.log, 4096, case.calls);
     let mut writer = MemorySink::in_pieces(alloc, 4096);
-    let answer = run_again(alloc, case.what, &mut reader, &mut writer, &());
+    let answer = run_again(alloc, seed(rt), case.what, &mut reader, &mut writer, &());
     expect_eq(rt, answer, Ok(Status::Found));
     expect_eq(rt, writer.bytes(), case.text);
 }
@@ -76,7 +84,7 @@ pub(super) fn expect_reader_failures(rt: &impl Abort, alloc: Global, case: &Case
 fn expect_write_fault(rt: &impl Abort, alloc: Global, case: &Case, room: usize) {
     let mut reader = MemorySource::in_pieces(case.log, 4096);
     let mut writer = MemorySink::with_room(alloc, 4096, room, Full::Fails);
-    let answer = run_again(alloc, case.what, &mut reader, &mut writer, &());
+    let answer = run_again(alloc, seed(rt), case.what, &mut reader, &mut writer, &());
     expect_eq_at(rt, room, answer, Err(RunFault::Write));
     if let Some(wanted) = case.text.get(..room) {
         expect_eq_at(rt, room, writer.bytes(), wanted);
@@ -100,7 +108,15 @@ pub(super) fn expect_bad_settings(
     let mut reader = MemorySource::in_pieces(log, 4096);
     let mut writer = MemorySink::in_pieces(alloc, 4096);
     let mut errors = MemorySink::in_pieces(alloc, 4096);
-    let status = serve_again(alloc, what, &mut reader, &mut writer, &mut errors, &());
+    let status = serve_again(
+        alloc,
+        seed(rt),
+        what,
+        &mut reader,
+        &mut writer,
+        &mut errors,
+        &(),
+    );
     expect_eq(rt, status, 2);
     expect_eq(rt, writer.bytes(), b"".as_slice());
     expect_eq(rt, errors.bytes(), b"tlsf: bad settings\n".as_slice());
@@ -110,7 +126,7 @@ pub(super) fn expect_bad_settings(
 pub(super) fn expect_text_or_refusal(rt: &impl Abort, alloc: Global, case: &Case) {
     let mut reader = MemorySource::in_pieces(case.log, 1);
     let mut writer = MemorySink::in_pieces(alloc, 4096);
-    match run_again(alloc, case.what, &mut reader, &mut writer, &()) {
+    match run_again(alloc, seed(rt), case.what, &mut reader, &mut writer, &()) {
         Ok(status) => {
             expect_eq(rt, status, Status::Found);
             expect_eq(rt, writer.bytes(), case.text);

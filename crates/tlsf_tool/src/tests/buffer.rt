@@ -1,7 +1,7 @@
 //! Logs that end at the end of the buffer of `Lines`, or a line of which goes across it.
 
 use super::rows::{PIECES, SMALL, expect_report};
-use crate::asked::Name;
+use crate::asked::HeapReport;
 use crate::service::serve;
 use crate::tests::expect_eq;
 use mtrace_log::memory::{MemorySink, MemorySource};
@@ -45,7 +45,7 @@ fn expect_peak(rt: &impl Abort, alloc: Global, log: &[u8], piece: usize) {
     let mut errors = MemorySink::in_pieces(alloc, 4096);
     let status = serve(
         alloc,
-        Name::Peak,
+        HeapReport::Peak,
         SMALL,
         &mut reader,
         &mut writer,

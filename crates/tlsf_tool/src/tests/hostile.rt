@@ -1,7 +1,7 @@
 //! Readers and writers that fail at each byte in turn, over all three reports.
 
 use super::rows::{SMALL, WHOLE};
-use crate::asked::Name;
+use crate::asked::HeapReport;
 use crate::tests::expect_eq_at;
 use mtrace_log::memory::{Full, MemorySink, MemorySource};
 use mtrace_replay::{RunFault, Status, run_leaks, run_peak, run_walk};
@@ -12,22 +12,22 @@ use std::process::Abort;
 const HALF: &[u8] = b"+ 0x01000 0x10\n+ 0x1000 0\n- 0x2000\n< 0x1000";
 
 /// What each report of it says: what is wrong with its lines, and then what stands at its end.
-const TEXTS: [(Name, &[u8]); 3] = [
+const TEXTS: [(HeapReport, &[u8]); 3] = [
     (
-        Name::Leaks,
+        HeapReport::Leaks,
         b"line 1: not a line\nline 3: 0x2000 is not held\nline 4: half of a reallocation\nMemory not freed:\n0x1000 0 line 2\nTotal: 1 blocks, 0 bytes.\n",
     ),
     (
-        Name::Peak,
+        HeapReport::Peak,
         b"line 1: not a line\nline 3: 0x2000 is not held\nline 4: half of a reallocation\nlines: 4\nserved: 1\nrefused: 0\nlive: 0 bytes in 1 blocks\npeak: 0 bytes at line 0\nhigh place: 16\nfree: 1008 bytes in 1 blocks\nlargest free: 1008\nspread: -\n",
     ),
     (
-        Name::Walk,
+        HeapReport::Walk,
         b"line 1: not a line\nline 3: 0x2000 is not held\nline 4: half of a reallocation\npool 0: 1024 bytes\n0 16 used\n16 1008 free\n",
     ),
 ];
 
-const REPORTS: [Name; 3] = [Name::Leaks, Name::Peak, Name::Walk];
+const REPORTS: [HeapReport; 3] = [HeapReport::Leaks, HeapReport::Peak, HeapReport::Walk];
 
 /// The texts where the reader fails behind the first bytes of the log: the least number of bytes that gives a text,
 /// and the text.
@@ -42,16 +42,16 @@ const READ: [(u64, &[u8]); 3] = [
 fn expect_one(
     rt: &impl Abort,
     alloc: Global,
-    (report, at): (Name, usize),
+    (report, at): (HeapReport, usize),
     mut reader: MemorySource<'_>,
     mut writer: MemorySink,
     wanted: Result<Status, RunFault>,
     text: &[u8],
 ) {
     let answer = match report {
-        Name::Leaks => run_leaks(alloc, &mut reader, &mut writer, SMALL),
-        Name::Peak => run_peak(alloc, &mut reader, &mut writer, SMALL),
-        Name::Walk => run_walk(alloc, &mut reader, &mut writer, SMALL),
+        HeapReport::Leaks => run_leaks(alloc, &mut reader, &mut writer, SMALL),
+        HeapReport::Peak => run_peak(alloc, &mut reader, &mut writer, SMALL),
+        HeapReport::Walk => run_walk(alloc, &mut reader, &mut writer, SMALL),
     };
     expect_eq_at(rt, (report, at), answer, wanted);
     expect_eq_at(rt, (report, at), writer.bytes(), text);
@@ -164,14 +164,14 @@ fn pending_half_at_read_fault(rt: HostRuntime) {
 /// A byte 0x0D in front of the newline belongs to the line.
 #[test]
 fn carriage_return(rt: HostRuntime) {
-    let texts: [(Name, &[u8]); 3] = [
-        (Name::Leaks, b"line 1: not a line\nNo memory leaks.\n"),
+    let texts: [(HeapReport, &[u8]); 3] = [
+        (HeapReport::Leaks, b"line 1: not a line\nNo memory leaks.\n"),
         (
-            Name::Peak,
+            HeapReport::Peak,
             b"line 1: not a line\nlines: 1\nserved: 0\nrefused: 0\nlive: 0 bytes in 0 blocks\npeak: 0 bytes at line 0\nhigh place: 0\nfree: 1024 bytes in 1 blocks\nlargest free: 1024\nspread: -\n",
         ),
         (
-            Name::Walk,
+            HeapReport::Walk,
             b"line 1: not a line\npool 0: 1024 bytes\n0 1024 free\n",
         ),
     ];

@@ -5,7 +5,7 @@ use super::plan::expect_usage;
 use super::program::strings;
 use crate::asked::Command;
 use crate::service::serve_ledger;
-use crate::tests::{expect_eq, expect_eq_at};
+use crate::tests::{expect_eq, expect_eq_at, seed};
 use crate::words::command;
 use mtrace_log::memory::{Full, MemorySink, MemorySource};
 use mtrace_replay::LedgerReport;
@@ -78,7 +78,14 @@ fn rows_without_a_heap(rt: HostRuntime) {
                 let mut reader = MemorySource::in_pieces(row.log, piece);
                 let mut writer = MemorySink::in_pieces(alloc, piece);
                 let mut errors = MemorySink::in_pieces(alloc, piece);
-                let status = serve_ledger(alloc, report, &mut reader, &mut writer, &mut errors);
+                let status = serve_ledger(
+                    alloc,
+                    seed(&rt),
+                    report,
+                    &mut reader,
+                    &mut writer,
+                    &mut errors,
+                );
                 expect_eq_at(&rt, row.name, status, row.status);
                 expect_eq_at(&rt, row.name, writer.bytes(), text);
                 expect_eq_at(&rt, row.name, errors.bytes(), b"".as_slice());
@@ -155,7 +162,14 @@ fn calls_by_location(rt: HostRuntime) {
             let mut writer = MemorySink::in_pieces(alloc, piece);
             let mut errors = MemorySink::in_pieces(alloc, piece);
             let report = LedgerReport::Callers;
-            let status = serve_ledger(alloc, report, &mut reader, &mut writer, &mut errors);
+            let status = serve_ledger(
+                alloc,
+                seed(&rt),
+                report,
+                &mut reader,
+                &mut writer,
+                &mut errors,
+            );
             expect_eq_at(&rt, row.name, writer.bytes(), row.text);
             expect_eq_at(&rt, row.name, errors.bytes(), b"".as_slice());
             expect_eq_at(&rt, row.name, status, row.status);
@@ -172,7 +186,14 @@ fn writer_that_fails_amid_calls(rt: HostRuntime) {
         let mut writer = MemorySink::with_room(alloc, 4096, room, Full::Fails);
         let mut errors = MemorySink::in_pieces(alloc, 4096);
         let report = LedgerReport::Callers;
-        let status = serve_ledger(alloc, report, &mut reader, &mut writer, &mut errors);
+        let status = serve_ledger(
+            alloc,
+            seed(&rt),
+            report,
+            &mut reader,
+            &mut writer,
+            &mut errors,
+        );
         expect_eq(&rt, status, 3);
         expect_eq(&rt, Some(writer.bytes()), row.text.get(..room));
         expect_eq(&rt, errors.bytes(), b"tlsf: write failed\n".as_slice());
@@ -187,7 +208,14 @@ fn writer_that_fails_without_a_heap(rt: HostRuntime) {
         let mut writer = MemorySink::with_room(alloc, 4096, room, Full::Fails);
         let mut errors = MemorySink::in_pieces(alloc, 4096);
         let report = LedgerReport::Held;
-        let status = serve_ledger(alloc, report, &mut reader, &mut writer, &mut errors);
+        let status = serve_ledger(
+            alloc,
+            seed(&rt),
+            report,
+            &mut reader,
+            &mut writer,
+            &mut errors,
+        );
         let text: &[u8] = b"line 2: not a line\nMemory not freed:\n0x10 100 line 1\n";
         expect_eq(&rt, status, 3);
         expect_eq(&rt, Some(writer.bytes()), text.get(..room));
@@ -199,7 +227,7 @@ fn writer_that_fails_without_a_heap(rt: HostRuntime) {
 fn asked(alloc: Global, words: &[&str]) -> Result<Option<(LedgerReport, String)>, AllocError> {
     let words = strings(alloc, words)?;
     match command(alloc, words.as_slice()) {
-        Ok(Command::Follow { report, log }) => Ok(Some((report, log))),
+        Ok(Command::Ledger { report, log }) => Ok(Some((report, log))),
         _ => Ok(None),
     }
 }

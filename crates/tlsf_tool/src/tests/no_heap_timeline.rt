@@ -5,7 +5,7 @@ use super::again::{
 };
 use crate::asked::Rereading;
 use crate::service::run_again;
-use crate::tests::expect_eq;
+use crate::tests::{expect_eq, seed};
 use mtrace_log::memory::{MemorySink, MemorySource};
 use mtrace_replay::{RunFault, Status};
 
@@ -123,7 +123,14 @@ fn bad_parts_without_a_heap(rt: HostRuntime) {
 fn timeline_without_a_heap_with_refused_memory(rt: HostRuntime) {
     let mut reader = MemorySource::in_pieces(CASE.log, 1);
     let mut writer = MemorySink::in_pieces(rt.alloc(), 4096);
-    match run_again(rt.alloc(), CASE.what, &mut reader, &mut writer, &()) {
+    match run_again(
+        rt.alloc(),
+        seed(&rt),
+        CASE.what,
+        &mut reader,
+        &mut writer,
+        &(),
+    ) {
         Ok(status) => {
             expect_eq(&rt, status, Status::Found);
             expect_eq(&rt, writer.bytes(), CASE.text);

@@ -1,7 +1,7 @@
 //! What is done for words, through `planned`, and which log is standard input.
 
 use super::program::strings;
-use crate::asked::{Command, Name, Rereading, ToolFault};
+use crate::asked::{Command, HeapReport, Rereading, ToolFault};
 use crate::plan::{Plan, Streams, is_standard, planned};
 use crate::tests::expect_eq_at;
 use mtrace_replay::Settings;
@@ -73,7 +73,7 @@ fn reports_and_images(rt: HostRuntime) -> Result<(), Fail> {
             }
             save.push(String::from_str(alloc, "-")?)?;
             let command = Command::Report {
-                name: Name::Peak,
+                name: HeapReport::Peak,
                 settings: Settings::DEFAULT,
                 log: String::from_str(alloc, log)?,
             };

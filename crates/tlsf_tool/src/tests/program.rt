@@ -1,7 +1,7 @@
 //! Statuses and texts, through `command` and `serve`.
 
 use super::rows::SMALL;
-use crate::asked::{Command, Name, ToolFault};
+use crate::asked::{Command, HeapReport, ToolFault};
 use crate::service::serve;
 use crate::tests::expect_eq;
 use crate::words::command;
@@ -49,7 +49,7 @@ fn full_standard_error_changes_nothing_else(rt: HostRuntime) {
     let mut errors = MemorySink::with_room(alloc, 4096, 5, Full::Fails);
     let status = serve(
         alloc,
-        Name::Leaks,
+        HeapReport::Leaks,
         bad,
         &mut reader,
         &mut writer,

@@ -1,7 +1,7 @@
 //! Logs, each with its text, its status and its line on standard error. They come in one piece, and in
 //! pieces of one byte, of seven, and of about as many as the buffer of `Lines` has.
 
-use crate::asked::Name;
+use crate::asked::HeapReport;
 use crate::service::serve;
 use crate::tests::{expect_eq, expect_eq_at};
 use mtrace_log::memory::{MemorySink, MemorySource};
@@ -226,7 +226,14 @@ pub fn expect_status<R: Source, W: Sink>(
     error: &[u8],
 ) {
     let mut errors = MemorySink::in_pieces(alloc, WHOLE);
-    let answer = serve(alloc, Name::Leaks, settings, reader, writer, &mut errors);
+    let answer = serve(
+        alloc,
+        HeapReport::Leaks,
+        settings,
+        reader,
+        writer,
+        &mut errors,
+    );
     expect_eq_at(rt, name, answer, status);
     expect_eq_at(rt, name, errors.bytes(), error);
 }

@@ -1,7 +1,7 @@
 //! Rows of words through `command`.
 
 use super::program::strings;
-use crate::asked::{Command, Name, ToolFault};
+use crate::asked::{Command, HeapReport, ToolFault};
 use crate::tests::{expect_eq, expect_eq_at};
 use crate::words::command;
 use mtrace_replay::Settings;
@@ -17,7 +17,7 @@ const DEFAULT: Settings = Settings {
 /// Words, with what they ask for.
 struct Row {
     words: &'static [&'static str],
-    name: Name,
+    name: HeapReport,
     settings: Settings,
     log: &'static str,
 }
@@ -25,25 +25,25 @@ struct Row {
 const TAKEN: [Row; 18] = [
     Row {
         words: &["tlsf", "leaks", "a.log"],
-        name: Name::Leaks,
+        name: HeapReport::Leaks,
         settings: DEFAULT,
         log: "a.log",
     },
     Row {
         words: &["tlsf", "peak", "-"],
-        name: Name::Peak,
+        name: HeapReport::Peak,
         settings: DEFAULT,
         log: "-",
     },
     Row {
         words: &["tlsf", "walk", "-"],
-        name: Name::Walk,
+        name: HeapReport::Walk,
         settings: DEFAULT,
         log: "-",
     },
     Row {
         words: &["tlsf", "walk", "--pool", "4096", "a.log"],
-        name: Name::Walk,
+        name: HeapReport::Walk,
         settings: Settings {
             pool: 4_096,
             ..DEFAULT
@@ -52,7 +52,7 @@ const TAKEN: [Row; 18] = [
     },
     Row {
         words: &["tlsf", "leaks", "--pools", "3", "a.log"],
-        name: Name::Leaks,
+        name: HeapReport::Leaks,
         settings: Settings {
             pools: 3,
             ..DEFAULT
@@ -61,7 +61,7 @@ const TAKEN: [Row; 18] = [
     },
     Row {
         words: &["tlsf", "peak", "--records", "48", "a.log"],
-        name: Name::Peak,
+        name: HeapReport::Peak,
         settings: Settings {
             records: 48,
             ..DEFAULT
@@ -70,7 +70,7 @@ const TAKEN: [Row; 18] = [
     },
     Row {
         words: &["tlsf", "peak", "--pool", "24", "-"],
-        name: Name::Peak,
+        name: HeapReport::Peak,
         settings: Settings {
             pool: 24,
             ..DEFAULT
@@ -79,7 +79,7 @@ const TAKEN: [Row; 18] = [
     },
     Row {
         words: &["tlsf", "peak", "--records", "1", "--pools", "2", "-"],
-        name: Name::Peak,
+        name: HeapReport::Peak,
         settings: Settings {
             pools: 2,
             records: 1,
@@ -89,7 +89,7 @@ const TAKEN: [Row; 18] = [
     },
     Row {
         words: &["tlsf", "peak", "--pool=64", "a.log"],
-        name: Name::Peak,
+        name: HeapReport::Peak,
         settings: Settings {
             pool: 64,
             ..DEFAULT
@@ -98,7 +98,7 @@ const TAKEN: [Row; 18] = [
     },
     Row {
         words: &["tlsf", "peak", "a.log", "--pool", "64"],
-        name: Name::Peak,
+        name: HeapReport::Peak,
         settings: Settings {
             pool: 64,
             ..DEFAULT
@@ -107,7 +107,7 @@ const TAKEN: [Row; 18] = [
     },
     Row {
         words: &["tlsf", "leaks", "--pool", "16", "a.log"],
-        name: Name::Leaks,
+        name: HeapReport::Leaks,
         settings: Settings {
             pool: 16,
             ..DEFAULT
@@ -116,7 +116,7 @@ const TAKEN: [Row; 18] = [
     },
     Row {
         words: &["tlsf", "leaks", "--pool", "1073741808", "a.log"],
-        name: Name::Leaks,
+        name: HeapReport::Leaks,
         settings: Settings {
             pool: 1_073_741_808,
             ..DEFAULT
@@ -125,7 +125,7 @@ const TAKEN: [Row; 18] = [
     },
     Row {
         words: &["tlsf", "leaks", "--pools", "1", "a.log"],
-        name: Name::Leaks,
+        name: HeapReport::Leaks,
         settings: Settings {
             pools: 1,
             ..DEFAULT
@@ -134,7 +134,7 @@ const TAKEN: [Row; 18] = [
     },
     Row {
         words: &["tlsf", "leaks", "--pools", "8", "a.log"],
-        name: Name::Leaks,
+        name: HeapReport::Leaks,
         settings: Settings {
             pools: 8,
             ..DEFAULT
@@ -143,7 +143,7 @@ const TAKEN: [Row; 18] = [
     },
     Row {
         words: &["tlsf", "leaks", "--records", "1", "a.log"],
-        name: Name::Leaks,
+        name: HeapReport::Leaks,
         settings: Settings {
             records: 1,
             ..DEFAULT
@@ -152,7 +152,7 @@ const TAKEN: [Row; 18] = [
     },
     Row {
         words: &["tlsf", "leaks", "--records", "65535", "a.log"],
-        name: Name::Leaks,
+        name: HeapReport::Leaks,
         settings: Settings {
             records: 65_535,
             ..DEFAULT
@@ -161,13 +161,13 @@ const TAKEN: [Row; 18] = [
     },
     Row {
         words: &["tlsf", "leaks", "--", "--pool"],
-        name: Name::Leaks,
+        name: HeapReport::Leaks,
         settings: DEFAULT,
         log: "--pool",
     },
     Row {
         words: &["", "leaks", "leaks"],
-        name: Name::Leaks,
+        name: HeapReport::Leaks,
         settings: DEFAULT,
         log: "leaks",
     },

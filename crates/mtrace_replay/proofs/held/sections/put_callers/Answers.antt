@@ -18,5 +18,5 @@ pub returns : goal.returns
 returns g c =
     let writes = g.W.Sink.shown in
     let P : List ℕ → Type 0 = λ text. PutsAll text (writes c.args.writer.now) (writes c.put_all.new.writer) in
-    puts_then c.put_caller_lines.result (writes c.args.writer.now) (writes c.put_all.new.writer) (writes c.put_caller_lines.new.writer) (calls_line c.args.total) (flat_map caller_text c.args.callers.now)
-    (subst P (c.as_slice.ensures.value ∙ c.calls_text.ensures) c.in_ok-put_all.ensures) c.put_caller_lines.ensures
+    puts_then c.put_lines.result (writes c.args.writer.now) (writes c.put_all.new.writer) (writes c.put_lines.new.writer) (calls_line c.args.total) (flat_map caller_text c.args.callers.now)
+    (subst P (c.as_slice.ensures.value ∙ c.calls_text.ensures) c.in_ok-put_all.ensures) c.put_lines.ensures

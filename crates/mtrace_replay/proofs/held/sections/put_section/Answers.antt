@@ -30,7 +30,7 @@ returns g c =
     let writes = g.W.Sink.shown in
     let line = pair_line (codes ": ") c.args.sum.blocks (codes " blocks, ") c.args.sum.bytes (codes " bytes.") in
     let P : List ℕ → Type 0 = λ text. PutsAll text (writes c.put_all.new.writer) (writes c.put_all-2.new.writer) in
-    puts_then c.put_sites.result (writes c.args.writer.now) (writes c.put_all-2.new.writer) (writes c.put_sites.new.writer) (c.args.words.now ++ line) (flat_map site_text c.args.sites.now)
+    puts_then c.put_lines.result (writes c.args.writer.now) (writes c.put_all-2.new.writer) (writes c.put_lines.new.writer) (c.args.words.now ++ line) (flat_map site_text c.args.sites.now)
     (puts_on (writes c.args.writer.now) (writes c.put_all.new.writer) (writes c.put_all-2.new.writer) c.args.words.now line c.in_ok-put_all.ensures
     (subst P (c.as_slice.ensures.value ∙ c.section_text.ensures) c.in_ok-put_all-2.ensures))
-    c.put_sites.ensures
+    c.put_lines.ensures

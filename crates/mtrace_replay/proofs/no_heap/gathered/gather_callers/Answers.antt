@@ -1,7 +1,7 @@
 -- The caller of one location more.
 use Rattle.std.proofs.Common.{◌-◌, reverse, ap, ◌∙◌, arith}
 use Rattle.std.specs.Option.{option_copied}
-use Rattle.mtrace_replay.specs.declared.no_heap.count.Count.{Count}
+use Rattle.mtrace_replay.specs.declared.held.count.Count.{Count}
 use Rattle.mtrace_replay.specs.Calls.{has_no_call, caller_of}
 use Rattle.mtrace_replay.specs.Shares.{count_at, with_row}
 use Rattle.mtrace_replay.proofs.Served.RowsBySlot.{one_before}

@@ -5,7 +5,7 @@ use Rattle.std.proofs.lemmas.List.Elements.{Contains-get_or}
 use Rattle.std.proofs.lemmas.Map.Keys.{sorted_from_strictly_increasing}
 use Rattle.mtrace_replay.specs.Entry.{Entry}
 use Rattle.mtrace_replay.specs.Texts.{entry_text}
-use Rattle.mtrace_replay.specs.Ledger.{held_at}
+use Rattle.mtrace_replay.specs.Ledger.{entry_under}
 use Rattle.mtrace_replay.proofs.History.SortedLemmas.{is_found}
 use Rattle.mtrace_replay.proofs.Told.TextLemmas.{text_more, text_fails}
 use Rattle.mtrace_replay.proofs.no_heap.report.put_entries.Goals as goal
@@ -22,17 +22,17 @@ module _ (all : List Entry) (addresses : List ℕ) (index : ℕ) (same : address
   within = omega (arith, below, ap (length {A = ℕ}) same, length-map all (λ (entry : Entry). entry.addr))
 
   -- what is held under the address of a number is the entry of that number
-  entry_at : IsStrictlyIncreasing (map (λ (entry : Entry). entry.addr) all) → held_at all (get_or addresses index 0) ≡ Some (numbered all index)
+  entry_at : IsStrictlyIncreasing (map (λ (entry : Entry). entry.addr) all) → entry_under all (get_or addresses index 0) ≡ Some (numbered all index)
   entry_at rises =
       let at : get_or addresses index 0 ≡ (numbered all index).addr = ap (λ list. get_or list index 0) same ∙ get_or-map (λ (entry : Entry). entry.addr) all index (record { addr = 0; size = 0; line = 0; at = None }) 0 within in
-      ap (held_at all) at
+      ap (entry_under all) at
       ∙ is_found (λ entry. entry.addr) all (numbered all index) (sorted_from_strictly_increasing (map (λ entry. entry.addr) all) rises)
       (Contains-get_or all index (record { addr = 0; size = 0; line = 0; at = None }) within)
 
 pub unreachable-requires : goal.unreachable-requires
 unreachable-requires g c =
     let there = entry_at c.args.ledger.now.all c.args.addresses.now c.loop-address.address-index c.requires c.loop-address-test.true c.keeps_order.ensures in
-    let none : None ≡ held_at c.args.ledger.now.all (get_or c.args.addresses.now c.loop-address.address-index 0) = c.in_default.ensures in
+    let none : None ≡ entry_under c.args.ledger.now.all (get_or c.args.addresses.now c.loop-address.address-index 0) = c.in_default.ensures in
     cc (none, there)
 
 pub loop-address-preserved : goal.loop-address-preserved

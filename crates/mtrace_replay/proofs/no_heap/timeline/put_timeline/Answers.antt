@@ -13,5 +13,5 @@ returns-in_err-put_all g c =
 pub returns : goal.returns
 returns g c =
     let writes = g.W.Sink.shown in
-    puts_then c.put_points.result (writes c.args.writer.now) (writes c.put_all.new.writer) (writes c.put_points.new.writer) ledger_timeline_words (flat_map ledger_point_text c.args.points.now)
-    c.in_ok-put_all.ensures c.put_points.ensures
+    puts_then c.put_lines.result (writes c.args.writer.now) (writes c.put_all.new.writer) (writes c.put_lines.new.writer) ledger_timeline_words (flat_map ledger_point_text c.args.points.now)
+    c.in_ok-put_all.ensures c.put_lines.ensures

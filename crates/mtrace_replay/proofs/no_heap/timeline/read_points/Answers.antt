@@ -9,19 +9,16 @@ use Rattle.mtrace_log.specs.declared.call.Call.TheVariants.{Gave}
 use Rattle.mtrace_log.proofs.TraceLemmas.{moved_none}
 use Rattle.mtrace_log.specs.Shown.{Bytes}
 use Rattle.mtrace_replay.specs.declared.no_heap.point.LedgerPoint.{LedgerPoint}
-use Rattle.mtrace_replay.specs.declared.runs.following.Stop.TheVariants.{Reader, Writer, Memory}
-use Rattle.mtrace_replay.specs.Again.{HasReadFirst, StopsEarly}
+use Rattle.mtrace_replay.specs.declared.runs.reading.Stop.TheVariants.{Reader, Memory}
+use Rattle.mtrace_replay.specs.Again.{HasReadFirst}
 use Rattle.mtrace_replay.specs.Replaying.{HasGivenSo}
-use Rattle.mtrace_replay.specs.declared.runs.status.RunFault.TheVariants.{Read}
 use Rattle.mtrace_replay.specs.Served.{IsServed}
-use Rattle.mtrace_replay.specs.ServedTimeline.{IsPointOfLines, ReadsLedgerPoints}
+use Rattle.mtrace_replay.specs.ServedTimeline.{IsPointOfLines}
 use Rattle.mtrace_replay.specs.Texts.{greatest}
 use Rattle.mtrace_replay.proofs.Running.ReplayingLemmas.{followed_start}
 use Rattle.mtrace_replay.proofs.Running.AgainLemmas.{read_first}
 use Rattle.mtrace_replay.proofs.Running.Points.{HasGathered, greatest_taken, up_to_next, gathered_more, lines_more, within_more}
 use Rattle.mtrace_replay.proofs.Running.TriedLemmas.{fails_again}
-use Rattle.mtrace_replay.proofs.no_heap.timeline.read_points.Given.{Over}
-use Rattle.mtrace_replay.proofs.no_heap.timeline.read_points.Goals.{After-follow_up_to}
 use Rattle.mtrace_replay.proofs.no_heap.timeline.read_points.Goals as goal
 
 pub loop-number-init : goal.loop-number-init
@@ -64,27 +61,19 @@ returns-in-Err-Memory g c =
     }
 
 -- the reader stopped
-reader_stopped : (g : Over) (c : After-follow_up_to g) → ((many : ℕ) → get_or c.args.numbers.now c.loop-number.number-index 0 ≤ many → many ≤ greatest_number → StopsEarly many (g.R.Source.shown c.begin.new.self) (g.R.Source.shown c.follow_up_to.new.reader))
-    → ReadsLedgerPoints {P = Vec LedgerPoint Global} (λ points. points.items) c.args.numbers.now (Err Read) (g.R.Source.shown c.args.reader.now) (g.R.Source.shown c.follow_up_to.new.reader)
-reader_stopped g c stops =
+pub returns-in-Err-Reader : goal.returns-in-Err-Reader
+returns-in-Err-Reader g c =
     let began = c.in-Ok-begin.ensures in
+    let kept = c.loop-number.invariant in
     record {
       done = tt;
       not_failed = tt;
       faults = inl refl;
-      fails = λ is many all within. fails_again many _ _ _ began.left began.whole began.told (stops many (all c.loop-number.number-index 0 c.loop-number-test.true) within);
+      fails = λ is many all within. fails_again many _ _ _ began.left began.whole began.told
+          (c.in-Err-Reader.ensures.stops (λ is. let clash : Reader ≡ Memory = sym c.in-Err-Reader.field-0-is ∙ is in cc) tt _ many kept.so_far.now kept.gave
+          (all c.loop-number.number-index 0 c.loop-number-test.true) within);
       memory = λ is. absurd (cc);
     }
-
-pub returns-in-Err-Reader : goal.returns-in-Err-Reader
-returns-in-Err-Reader g c =
-    reader_stopped g (goal.at.returns-in-Err-Reader g c).After-follow_up_to
-    (λ many. c.in-Err-Reader.ensures.stops (λ is. let clash : Reader ≡ Memory = sym c.in-Err-Reader.field-0-is ∙ is in cc) tt _ many c.loop-number.invariant.so_far.now c.loop-number.invariant.gave)
-
-pub returns-in-Err-Writer : goal.returns-in-Err-Writer
-returns-in-Err-Writer g c =
-    reader_stopped g (goal.at.returns-in-Err-Writer g c).After-follow_up_to
-    (λ many. c.in-Err-Writer.ensures.stops (λ is. let clash : Writer ≡ Memory = sym c.in-Err-Writer.field-0-is ∙ is in cc) tt _ many c.loop-number.invariant.so_far.now c.loop-number.invariant.gave)
 
 pub loop-number-preserved : goal.loop-number-preserved
 loop-number-preserved g c =

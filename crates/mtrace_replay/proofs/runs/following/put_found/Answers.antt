@@ -6,7 +6,7 @@ use Rattle.mtrace_log.proofs.TraceLemmas.{moved_none}
 use Rattle.mtrace_log.proofs.Writing.{Wrote-nothing}
 use Rattle.mtrace_replay.specs.declared.held.diagnostic.Diagnostic.{Diagnostic}
 use Rattle.mtrace_replay.specs.Texts.{diagnostics_text}
-use Rattle.mtrace_replay.specs.Run.{has_some}
+use Rattle.mtrace_replay.specs.Following.{has_some}
 use Rattle.mtrace_replay.proofs.Running.FollowingLemmas.{no_findings, some_findings}
 use Rattle.mtrace_replay.proofs.runs.following.put_found.Goals as goal
 

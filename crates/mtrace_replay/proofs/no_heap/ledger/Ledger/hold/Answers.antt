@@ -3,10 +3,10 @@ use Rattle.std.proofs.Common.{◌≡◌, ℕ, length, ◌+◌, ◌∙◌, refl, 
 use Rattle.std.specs.Prelude.{◌==◌}
 use Rattle.std.specs.Map.{values_of}
 use Rattle.mtrace_replay.specs.declared.no_heap.ledger.Kept.{Kept}
-use Rattle.mtrace_replay.specs.declared.no_heap.count.Count.{Count}
+use Rattle.mtrace_replay.specs.declared.held.count.Count.{Count}
 use Rattle.mtrace_replay.specs.Calls.{count_more}
 use Rattle.mtrace_replay.specs.Shares.{ByLocation, amount_more, now_at, count_at, Changes, Counts}
-use Rattle.mtrace_replay.specs.Ledger.{LedgerState, IsLedger, AreShared, AreCalled, Forgets, held_at, slot_of}
+use Rattle.mtrace_replay.specs.Ledger.{LedgerState, IsLedger, AreShared, AreCalled, Forgets, entry_under, slot_of}
 use Rattle.mtrace_replay.proofs.Served.LedgerLemmas.{changes_at, still_keeps, same_view, on_err}
 use Rattle.mtrace_replay.proofs.Served.LedgerPeak.{IsRest, ledger_state, same_state, keeps_now, shared_now, called_now, few_more, peak_stays, rest_of, counted_there, counted, few_blocks, few_bytes}
 use Rattle.mtrace_replay.proofs.Served.SharesLemmas.{shared-longer, called-longer}
@@ -129,7 +129,7 @@ returns-clause-held c = λ other.
     let view = same_view c.self.inside.locations c.number_at.new.self c.number_at.ensures.others c.self.inside.held.entries c.self.inside.bytes c.self.invariant.0 ∙ ap (λ (state : LedgerState). state.all) c.self.view_is in
     changes_at c.number_at.new.self c.self.inside.held.entries c.insert.new.self.entries c.args.self.now.all view c.value.result c.args.address c.value.ensures.value (Some kept)
     c.in_ok-before.ensures.updates.0 other
-    ∙ ap (λ at. cond (c.args.address == other) (Some (record { addr = c.args.address; size = c.args.size; line = c.args.line; at = at })) (held_at c.args.self.now.all other)) c.in_ok-location.ensures.found
+    ∙ ap (λ at. cond (c.args.address == other) (Some (record { addr = c.args.address; size = c.args.size; line = c.args.line; at = at })) (entry_under c.args.self.now.all other)) c.in_ok-location.ensures.found
 
 pub returns-clause-peak : goal.returns-clause-peak
 returns-clause-peak c =

@@ -24,5 +24,5 @@ loop-first-preserved c =
 pub returns : goal.returns
 returns c =
     let kept = c.loop-first.invariant in
-    counted_none c.loop-first.all.items (get nat_eq c.new.result) kept.none_yet
-    (λ first last from within. kept.rows first last (omega (arith, from, within, c.loop-first-test.false)) from within) (λ address. ap (lookup (nat_eq address)) c.new.ensures.empty)
+    counted_none c.loop-first.all.items (get nat_eq c.with_hasher.result) kept.none_yet
+    (λ first last from within. kept.rows first last (omega (arith, from, within, c.loop-first-test.false)) from within) (λ address. ap (lookup (nat_eq address)) c.with_hasher.ensures.empty)

@@ -2,7 +2,7 @@
 use Rattle.std.proofs.Common.{arith, refl, sym, subst, ◌∙◌, reverse, inl}
 use Rattle.std.specs.Prelude.{◌+◌, Ok, Err}
 use Rattle.mtrace_log.specs.Progress.{Progress}
-use Rattle.mtrace_replay.specs.declared.runs.following.Stop.TheVariants.{Reader, Memory}
+use Rattle.mtrace_replay.specs.declared.runs.reading.Stop.TheVariants.{Reader, Memory}
 use Rattle.mtrace_replay.specs.Course.{course}
 use Rattle.mtrace_replay.specs.Replaying.{FollowsUpTo}
 use Rattle.mtrace_log.proofs.CallLemmas.{calls_more, calls_of_line, calls_to_end, calls_to_fault}
