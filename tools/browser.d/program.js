@@ -134,6 +134,12 @@ class System {
     return 0;
   }
 
+  // The environment: whatever the program asks for is 1. It asks for TLSF_CAUSES alone, since the page shows the cause of a fault.
+  variable(place) {
+    this.bytes(place, 1)[0] = "1".charCodeAt(0);
+    return 1n;
+  }
+
   time(place) {
     const now = performance.now(), view = new DataView(this.memory.buffer, Number(place) >>> 0, 16);
     view.setBigInt64(0, BigInt(Math.floor(now / 1000)), true);
@@ -147,6 +153,7 @@ class System {
       memory: this.memory,
       rattle_arg: (index, place, room) => this.word(index, place, room),
       rattle_arg_count: () => BigInt(this.words.length),
+      rattle_env: (name, place) => this.variable(place),
       rattle_errno: () => this.fault,
       rattle_set_errno: (fault) => { this.fault = fault; },
       open: (place, flags) => this.open(place, flags),

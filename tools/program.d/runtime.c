@@ -1,5 +1,5 @@
 /* What a proved program takes from C, for a processor for which the kit has no C library: its words,
- * errno, and memory. tools/program links it. Not proved. */
+ * its environment, errno, and memory. tools/program links it. Not proved. */
 #include <errno.h>
 #include <stdbool.h>
 #include <stdint.h>
@@ -12,6 +12,7 @@ struct tried {
 };
 
 int64_t rattle_arg(uint64_t number, char *to, uint64_t room);
+int64_t rattle_env(const char *name, char *to, uint64_t room);
 int rattle_errno(void);
 void rattle_set_errno(int number);
 struct tried rattle_alloc(size_t bytes, size_t align);
@@ -29,23 +30,30 @@ __attribute__((constructor)) static void keep_words(int number, char **first)
     words = first;
 }
 
-
-/* Copies a word without its last zero. Answers its bytes, or -1 where there is no such word, or -2 where
- * it has more bytes than there is room for. */
-int64_t rattle_arg(uint64_t number, char *to, uint64_t room)
+/* Copies a text without its last zero. Answers its bytes, or -1 where there is none, or -2 where it has
+ * more bytes than there is room for. */
+static int64_t copied(const char *text, char *to, uint64_t room)
 {
     uint64_t length = 0;
-    if (number >= (uint64_t)count || words[number] == NULL) {
+    if (text == NULL) {
         return -1;
     }
-    for (; words[number][length] != 0; length++) {
+    for (; text[length] != 0; length++) {
         if (length == room) {
             return -2;
         }
-        to[length] = words[number][length];
+        to[length] = text[length];
     }
     return (int64_t)length;
 }
+
+/* Copies the word of this number, and the value of a variable of the environment. */
+int64_t rattle_arg(uint64_t number, char *to, uint64_t room)
+{
+    return copied(number < (uint64_t)count ? words[number] : NULL, to, room);
+}
+
+int64_t rattle_env(const char *name, char *to, uint64_t room) { return copied(getenv(name), to, room); }
 
 int rattle_errno(void) { return errno; }
 
