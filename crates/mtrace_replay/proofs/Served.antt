@@ -2,6 +2,7 @@
 pub mod CallerRows
 pub mod CallersBySlot
 pub mod CallsLemmas
+pub mod OneText
 pub mod RowsBySlot
 pub mod SharesLemmas
 pub mod SitesBySlot

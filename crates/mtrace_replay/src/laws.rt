@@ -28,7 +28,8 @@ ghost use Rattle.mtrace_replay.specs.Served.{served_history, served_diagnostics,
 ghost use Rattle.mtrace_replay.specs.declared.runs.report.Report.TheVariants as Report;
 ghost use Rattle.mtrace_replay.specs.Run.{whole_text};
 ghost use Rattle.mtrace_replay.specs.RunSites.{TellsSites};
-ghost use Rattle.mtrace_replay.specs.RunServed.{AreServedTotals, TellsHeld, TellsServedSites, whole_served};
+ghost use Rattle.mtrace_replay.specs.RunServed.{AreServedTotals, TellsHeld, TellsServedSites, TellsServedCallers, whole_served};
+ghost use Rattle.mtrace_replay.specs.RunServedTimeline.{TellsServedTimeline};
 ghost use Rattle.mtrace_replay.specs.declared.no_heap.point.LedgerPoint.{LedgerPoint};
 ghost use Rattle.mtrace_replay.specs.ServedTimeline.{IsLedgerPoint, IsPointOfLines};
 ghost use Rattle.mtrace_replay.specs.declared.heap.point.Point.{Point};
@@ -131,6 +132,14 @@ pub fn one_text_where_unrefused()
         → AreHeld all (history settings lines) → TellsHeld lines text → whole_served lines text ≡ whole_text Report.Leaks settings lines all totals }
     ensures sites { (settings : Settings) (lines : List ReadLine) (whole : List ℕ) (end left : Bytes) (text other : List ℕ) → refusals settings lines ≡ 0
         → HasReadAll (Some whole) end lines → TellsSites settings lines (Some whole) left text → TellsServedSites lines other → other ≡ text }
+{}
+
+/// Without a heap a log has one text of its sites, one of its callers, and one of what is held over its lines.
+pub fn one_text_without_a_heap()
+    ensures sites { (lines : List ReadLine) (text other : List ℕ) → TellsServedSites lines text → TellsServedSites lines other → text ≡ other }
+    ensures callers { (lines : List ReadLine) (text other : List ℕ) → TellsServedCallers lines text → TellsServedCallers lines other → text ≡ other }
+    ensures timeline { (parts : ℕ) (lines : List ReadLine) (whole : List ℕ) (end left rest : Bytes) (text other : List ℕ) → HasReadAll (Some whole) end lines
+        → TellsServedTimeline parts lines (Some whole) left text → TellsServedTimeline parts lines (Some whole) rest other → text ≡ other }
 {}
 
 /// A log that one heap refuses nothing is refused nothing on its sure pool, where four things hold there. After any number of its

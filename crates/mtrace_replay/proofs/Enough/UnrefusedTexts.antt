@@ -88,7 +88,7 @@ by_entries line peak end =
     ∙ ap (λ n. both_sections line (length (entries_of peak.all)) (total_size (entries_of peak.all)) peak.sites n (total_size (entries_of end.all)) end.sites) (sym (length-map end.all (λ (given : Given). given.entry)))
 
 -- of equal entries the sites are the same, and so are the sections
-sections_alike : {at_peak at_end other_peak other_end : List Moment} (line other : ℕ) (peak : HeldSites at_peak) (end : HeldSites at_end) (its_peak : HeldSites other_peak) (its_end : HeldSites other_end)
+pub sections_alike : {at_peak at_end other_peak other_end : List Moment} (line other : ℕ) (peak : HeldSites at_peak) (end : HeldSites at_end) (its_peak : HeldSites other_peak) (its_end : HeldSites other_end)
     → other ≡ line → entries_of its_peak.all ≡ entries_of peak.all → entries_of its_end.all ≡ entries_of end.all → sections_of other its_peak its_end ≡ sections_of line peak end
 sections_alike line other peak end its_peak its_end same peaks ends =
     let at_peak = one_list_of_sites (entries_of peak.all) its_peak.sites peak.sites (subst (λ (entries : List Entry). AreSites entries its_peak.sites) peaks its_peak.are) peak.are in
