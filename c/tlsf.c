@@ -35,8 +35,11 @@
 #define LEAST_POOL (FRONT + UNIT)
 /* What memory that is handed in begins at a multiple of. */
 #define HANDED_IN 8u
-/* tlsf_create_with_pool has a record for each. */
-#define BYTES_A_RECORD 112u
+/* tlsf_create_with_pool has a record for each, if a build tells nothing else. Where pointers are short,
+ * blocks are, too. */
+#ifndef TLSF_BYTES_A_RECORD
+#define TLSF_BYTES_A_RECORD (sizeof(void *) == 4u ? 80u : 112u)
+#endif
 typedef char records_fit[TLSF_RECORDS > 0 && TLSF_RECORDS <= TLSF_HEAP_RECORDS_MOST ? 1 : -1];
 
 size_t tlsf_size_records(uint32_t records)
@@ -139,7 +142,7 @@ tlsf_t tlsf_create(void *mem) { return tlsf_create_records(mem, tlsf_size(), TLS
 /* Too few bytes for a heap without records ask for the most of them, and so are refused. */
 tlsf_t tlsf_create_with_pool(void *mem, size_t bytes)
 {
-    size_t records = (bytes - tlsf_size_records(0)) / BYTES_A_RECORD + 1u;
+    size_t records = (bytes - tlsf_size_records(0)) / TLSF_BYTES_A_RECORD + 1u;
     records = records > TLSF_HEAP_RECORDS_MOST ? TLSF_HEAP_RECORDS_MOST : records;
     return tlsf_get_pool(tlsf_create_records(mem, bytes, (uint32_t)records)) == NULL ? NULL : mem;
 }

@@ -34,8 +34,9 @@ tlsf_t tlsf_create(void *mem);
 
 /* Makes a heap and its first pool in `bytes` bytes. Answers a null pointer where tlsf_add_pool
  * would refuse the pool. The heap has one record, and one more for each 112 bytes above
- * tlsf_size_records(0), at most 65,535. A record is a row of the heap's table. Each block, live or
- * free, takes one. */
+ * tlsf_size_records(0), at most 65,535. For 32 bits it is each 80 bytes, and for a build the
+ * TLSF_BYTES_A_RECORD that it tells. A record is a row of the heap's table. Each block, live or free,
+ * takes one. */
 tlsf_t tlsf_create_with_pool(void *mem, size_t bytes);
 
 /* Makes a heap with `records` records, from 1 to 65,535. What is left of the bytes is a pool, if it

@@ -183,8 +183,8 @@ impl GlobalIn {
         }
     }
 
-    /// Makes the heap over this memory, with a record for each 112 bytes. Answers false where the
-    /// slice is too short, or where there is a heap already. The slice isn't used then.
+    /// Makes the heap over this memory, with a record for each 112 bytes, for 32 bits each 80. Answers
+    /// false where the slice is too short, or where there is a heap already. The slice isn't used then.
     pub fn hand_in(&self, memory: &'static mut [u8]) -> bool {
         let (at, bytes) = from_multiple_of_8(memory);
         let mut made = false;

@@ -42,7 +42,7 @@ pub struct Heap<'m> {
 unsafe impl Send for Heap<'_> {}
 
 impl<'m> Heap<'m> {
-    /// A heap with a record for each 112 bytes, or `None` where the slice is too short.
+    /// A heap with a record for each 112 bytes, for 32 bits each 80, or `None` where the slice is too short.
     pub fn new(memory: &'m mut [u8]) -> Option<Self> {
         let (at, bytes) = from_multiple_of_8(memory);
         // The bytes are the heap's alone while 'm lasts.

@@ -136,15 +136,15 @@ static bool has_records(void *mem, size_t bytes, size_t records)
 
 static void records(void)
 {
-    size_t bytes = (size_t)17 << 20;
+    size_t bytes = (size_t)17 << 20, each_bytes = sizeof(void *) == 4 ? 80 : 112;
     void *large = aligned_alloc(16, bytes);
     bool each = true;
     for (size_t k = 1; k < 60; k++) {
-        each = each && has_records(memory, tlsf_size_records(0) + 112 * k, k + 1)
-               && has_records(memory, tlsf_size_records(0) + 112 * k - 16, k);
+        each = each && has_records(memory, tlsf_size_records(0) + each_bytes * k, k + 1)
+               && has_records(memory, tlsf_size_records(0) + each_bytes * k - 16, k);
     }
-    expect(each, "one record, and one more for each 112 bytes that a heap without records leaves");
-    expect(has_records(large, tlsf_size_records(0) + 112 * 65534, 65535), "65,535 records");
+    expect(each, "one record, and one more for each 112 bytes, or 80, that a heap without records leaves");
+    expect(has_records(large, tlsf_size_records(0) + each_bytes * 65534, 65535), "65,535 records");
     expect(has_records(large, bytes, 65535), "and no more");
     free(large);
 }
@@ -166,14 +166,14 @@ static size_t filled(size_t bytes, size_t size, uint32_t records)
     return blocks;
 }
 
-/* Of 1,000 bytes a block takes 1,008, and a record 16. So 9,344 records leave 1 MiB room for 889,
- * and 1,022 for 1,021, as do 1,023 at 32 bits. */
+/* Of 1,000 bytes a block takes 1,008, and a record 16. So 9,344 records leave 1 MiB room for 889, and
+ * at 32 bits 13,082 for 830. 1,022 leave it for 1,021, as do 1,023 at 32 bits. */
 static void capacities(void)
 {
     uint32_t few = (uint32_t)(((1 << 20) - tlsf_size_records(0)) / 1024 + 1);
     expect(filled(65536, 64, 0) >= 560, "64 KiB: at least 560 blocks of 64 bytes");
     expect(filled(1 << 20, 64, 0) >= 9300, "1 MiB: at least 9,300 blocks of 64 bytes");
-    expect(filled(1 << 20, 1000, 0) == 889, "1 MiB: 889 blocks of 1,000 bytes");
+    expect(filled(1 << 20, 1000, 0) == (sizeof(void *) == 8 ? 889 : 830), "1 MiB: 889 or 830 blocks of 1,000 bytes");
     expect(filled(64 << 20, 16, 0) == 65534, "64 MiB: a block of 16 bytes for each record but one");
     expect(few == (sizeof(void *) == 8 ? 1022 : 1023) && filled(1 << 20, 1000, few) == 1021,
            "1 MiB, a record for each 1,024 bytes: 1,021 blocks of 1,000 bytes");
