@@ -7,14 +7,16 @@ use Rattle.mtrace_log.specs.Progress.{most_asked}
 use Rattle.mtrace_log.specs.Trace.{HasNotFailed, HasGivenAll}
 use Rattle.mtrace_replay.specs.declared.heap.settings.Settings.{Settings}
 use Rattle.mtrace_replay.specs.Course.{Course, shown_before, shown_after, until, since}
-use Rattle.mtrace_replay.specs.Moment.{ReadLine}
+use Rattle.mtrace_replay.specs.Started.{started}
+use Rattle.mtrace_replay.specs.Moment.{ReadLine, Moment}
+use Rattle.mtrace_replay.specs.History.{moments}
 use Rattle.mtrace_replay.specs.Replay.{Replayed, StandsFor}
 use Rattle.mtrace_replay.specs.declared.runs.report.Report.TheVariants.{Nothing}
 use Rattle.mtrace_replay.specs.declared.runs.status.Status.{Status}
 use Rattle.mtrace_replay.specs.declared.runs.status.RunFault.{RunFault}
 use Rattle.mtrace_replay.specs.declared.runs.status.RunFault.TheVariants.{Read, Write}
-use Rattle.mtrace_replay.specs.Saving.{PutsAndFlushes}
-use Rattle.mtrace_replay.specs.Run.{Reports, Runs, NothingDone}
+use Rattle.mtrace_replay.specs.Reporting.{PutsAndFlushes, Reports}
+use Rattle.mtrace_replay.specs.Run.{TellsReport, Runs, NothingDone}
 use Rattle.mtrace_replay.specs.Following.{FailedInPiece}
 use Rattle.mtrace_log.specs.declared.call.Call.TheVariants.{Began, Failed}
 
@@ -72,25 +74,33 @@ pub record Follows {R W : Type 0} (Tells : (left_new : Bytes) (text : List ℕ) 
   pub nothing_put : IsErrOf result Read → writer.new ≡ writer.old
 
 -- the log was read to its end and its diagnostics written, up to the middle, and then what follows for its lines
-pub record EndsAgain {R W : Type 0} (settings : Settings) (Follows : List ReadLine → Result Status RunFault → Course R ReaderState → Course W WriterState → Type 0)
+pub record EndsFirst {R W : Type 0} (moments : List ReadLine → List Moment) (Tells : List ReadLine → List ℕ → Type 0)
+    (After : List ReadLine → Result Status RunFault → Course R ReaderState → Course W WriterState → Type 0)
     (status : Status) (result : Result Status RunFault) (reader : Course R ReaderState) (writer : Course W WriterState) (reader_middle : R) (writer_middle : W) : Type 0 where
-  pub reports : Reports Nothing settings status (shown_before reader) (reader.shown reader_middle) (shown_before writer) (writer.shown writer_middle)
+  pub reports : Reports moments Tells status (shown_before reader) (reader.shown reader_middle) (shown_before writer) (writer.shown writer_middle)
   pub answer : IfOk result (λ answered. answered ≡ status)
-  pub follow : Follows reports.lines result (since reader reader_middle) (since writer writer_middle)
+  pub follow : After reports.lines result (since reader reader_middle) (since writer writer_middle)
 
 -- what follows a run: where that failed nothing more was done, and its fault is the answer
-abbrev pub GoesOnFrom : {R W : Type 0} → (settings : Settings) (Follows : List ReadLine → Result Status RunFault → Course R ReaderState → Course W WriterState → Type 0)
+abbrev pub GoesOnFrom : {R W : Type 0} → (moments : List ReadLine → List Moment) (Tells : List ReadLine → List ℕ → Type 0)
+    (After : List ReadLine → Result Status RunFault → Course R ReaderState → Course W WriterState → Type 0)
     → (run result : Result Status RunFault) (reader : Course R ReaderState) (writer : Course W WriterState) (reader_middle : R) (writer_middle : W) → Type 0
-GoesOnFrom settings Follows (Ok status) result reader writer reader_middle writer_middle =
-    EndsAgain settings Follows status result reader writer reader_middle writer_middle
-GoesOnFrom settings Follows (Err fault) result reader writer reader_middle writer_middle =
+GoesOnFrom moments Tells After (Ok status) result reader writer reader_middle writer_middle =
+    EndsFirst moments Tells After status result reader writer reader_middle writer_middle
+GoesOnFrom moments Tells After (Err fault) result reader writer reader_middle writer_middle =
     (result ≡ Err fault) × NothingDone (since reader reader_middle) (since writer writer_middle)
 
--- What a run leaves that reads its log again: first a run without a report, up to the middle.
-pub record RunsAgain {R W : Type 0} (settings : Settings) (Follows : List ReadLine → Result Status RunFault → Course R ReaderState → Course W WriterState → Type 0)
+-- What a run leaves that does more behind a first run, which goes up to the middle.
+pub record RunsFirst {R W : Type 0} (First : Result Status RunFault → Course R ReaderState → Course W WriterState → Type 0)
+    (moments : List ReadLine → List Moment) (Tells : List ReadLine → List ℕ → Type 0) (After : List ReadLine → Result Status RunFault → Course R ReaderState → Course W WriterState → Type 0)
     (result : Result Status RunFault) (reader : Course R ReaderState) (writer : Course W WriterState) : Type 0 where
   pub run : Result Status RunFault
   pub reader_middle : R
   pub writer_middle : W
-  pub runs : Runs Nothing settings run (until reader reader_middle) (until writer writer_middle)
-  pub goes_on : GoesOnFrom settings Follows run result reader writer reader_middle writer_middle
+  pub runs : First run (until reader reader_middle) (until writer writer_middle)
+  pub goes_on : GoesOnFrom moments Tells After run result reader writer reader_middle writer_middle
+
+-- what a run leaves that reads its log again: first a run on a heap without a report
+abbrev pub RunsAgain : {R W : Type 0} → (settings : Settings) (After : List ReadLine → Result Status RunFault → Course R ReaderState → Course W WriterState → Type 0)
+    → Result Status RunFault → Course R ReaderState → Course W WriterState → Type 0
+RunsAgain settings After = RunsFirst (Runs Nothing settings) (moments (started settings)) (TellsReport Nothing settings) After

@@ -7,7 +7,7 @@ use Rattle.mtrace_replay.specs.Moment.{ReadLine}
 use Rattle.mtrace_replay.specs.History.{held, pending}
 use Rattle.mtrace_replay.specs.Totals.{is_served}
 use Rattle.mtrace_replay.specs.Asked.{class_asked}
-use Rattle.mtrace_replay.specs.Served.{served_moment, served_moments, IsServed, served_noted}
+use Rattle.mtrace_replay.specs.Served.{served_moment, served_moments, StandsWithoutHeap, served_noted}
 use Rattle.mtrace_replay.specs.Spans.{released_by, address_asked, AreCountedOf, AreFew}
 use Rattle.mtrace_replay.specs.LineReplay.{LineRules}
 
@@ -21,9 +21,9 @@ pub record IsChangeOf (change : Change) (served : Bool) (line : ReadLine) (past 
 
 -- The line of this number was fed, and its blocks were counted.
 pub record FeedsCounted {E : Type 0} (number : ℕ) (line : ReadLine) (diagnostics : List Diagnostic) (result : Result (Unit {0}) E) (old new : CountedReplay) : Type 0 where
-  pub stands : OnOk result ((past : List ReadLine) → IsServed old.ledger past → IsServed new.ledger (line ∷ past))
-  pub spans : OnOk result ((past : List ReadLine) → IsServed old.ledger past → AreCountedOf past old.spans → AreCountedOf (line ∷ past) new.spans)
-  pub told : OnOk result ((past : List ReadLine) → IsServed old.ledger past → served_noted (line ∷ past) ≡ served_noted past ++ diagnostics)
+  pub stands : OnOk result ((past : List ReadLine) → StandsWithoutHeap old.ledger past → StandsWithoutHeap new.ledger (line ∷ past))
+  pub spans : OnOk result ((past : List ReadLine) → StandsWithoutHeap old.ledger past → AreCountedOf past old.spans → AreCountedOf (line ∷ past) new.spans)
+  pub told : OnOk result ((past : List ReadLine) → StandsWithoutHeap old.ledger past → served_noted (line ∷ past) ≡ served_noted past ++ diagnostics)
   pub counted : OnOk result (new.ledger.lines ≡ number)
   pub few : OnOk result (AreFew number new.spans)
 
@@ -31,7 +31,7 @@ pub record FeedsCounted {E : Type 0} (number : ℕ) (line : ReadLine) (diagnosti
 abbrev pub counted_rules : LineRules CountedReplay
 counted_rules = record {
   Start = Unit {0};
-  Stands = λ start replay past. IsServed replay.ledger past × AreCountedOf past replay.spans;
+  Stands = λ start replay past. StandsWithoutHeap replay.ledger past × AreCountedOf past replay.spans;
   noted = λ start past. served_noted past;
   lines = λ replay. replay.ledger.lines;
   IsReady = λ replay. AreFew replay.ledger.lines replay.spans;

@@ -6,7 +6,7 @@ use Rattle.std.specs.Cmp.Lexicographic.{slice_cmp}
 use Rattle.std.specs.declared.cmp.Ordering.{Ordering}
 use Rattle.mtrace_replay.specs.declared.parts.span.Span.{Span}
 use Rattle.mtrace_replay.specs.declared.parts.cut.Cut.{Cut}
-use Rattle.mtrace_replay.specs.Parts.{size_ranges, Part, part_bytes, IsCut, cut_bytes, IsLeastCut}
+use Rattle.mtrace_replay.specs.Parts.{size_ranges, Part, part_bytes, unbuilt, IsCut, cut_bytes, cut_unbuilt, IsLeastCut}
 use Rattle.mtrace_replay.specs.Spans.{AreAll, IsPlaced}
 
 -- the part of a span, and its bytes
@@ -19,7 +19,9 @@ span_bytes span = part_bytes (part_of span)
 -- the order of cuts
 abbrev pub cut_order : Cut → Cut → Ordering
 cut_order one other =
-    ordering_then (nat_cmp one.bytes other.bytes) (ordering_then (nat_cmp (length one.ends.items) (length other.ends.items)) (slice_cmp nat_cmp one.ends.items other.ends.items))
+    ordering_then (nat_cmp one.unbuilt other.unbuilt)
+    (ordering_then (nat_cmp one.bytes other.bytes)
+    (ordering_then (nat_cmp (length one.ends.items) (length other.ends.items)) (slice_cmp nat_cmp one.ends.items other.ends.items)))
 
 -- a cut isn't greater than another; where there is none, there isn't another
 abbrev pub NotGreater : Option Cut → Option Cut → Type 0
@@ -37,12 +39,13 @@ pub record IsLesser (one other cut : Option Cut) : Type 0 where
 abbrev pub IsJoined : Span → Option Cut → Option Cut → Type 0
 IsJoined span None cut = cut ≡ None
 IsJoined span (Some rest) None = ⊥
-IsJoined span (Some rest) (Some cut) = (cut.ends.items ≡ span.last ∷ rest.ends.items) × (cut.bytes ≡ span_bytes span + rest.bytes)
+IsJoined span (Some rest) (Some cut) =
+    (cut.ends.items ≡ span.last ∷ rest.ends.items) × (cut.bytes ≡ span_bytes span + rest.bytes) × (cut.unbuilt ≡ unbuilt (part_of span) + rest.unbuilt)
 
 -- a cut of few parts, and of as many bytes as these can have
 abbrev pub IsSmall : ℕ → Option Cut → Type 0
 IsSmall most None = ⊤
-IsSmall most (Some cut) = (length cut.ends.items ≤ most) × (cut.bytes ≤ most * 2 ^ 96)
+IsSmall most (Some cut) = (length cut.ends.items ≤ most) × (cut.bytes ≤ most * 2 ^ 96) × (cut.unbuilt ≤ most)
 
 -- the spans, each with its part
 pub record ArePartsIn (part : ℕ → ℕ → Part) (spans : List Span) : Type 0 where
@@ -53,7 +56,8 @@ pub record ArePartsIn (part : ℕ → ℕ → Part) (spans : List Span) : Type 0
 -- of the cuts from a range on that make at most `most` parts it is a least one; or there is none
 abbrev pub IsBest : (ℕ → ℕ → Part) → (most first : ℕ) → Option Cut → Type 0
 IsBest part most first None = (ends : List ℕ) → IsCut part first ends → length ends ≤ most → ⊥
-IsBest part most first (Some cut) = IsLeastCut part most first cut.ends.items × (cut.bytes ≡ cut_bytes part first cut.ends.items)
+IsBest part most first (Some cut) =
+    IsLeastCut part most first cut.ends.items × (cut.bytes ≡ cut_bytes part first cut.ends.items) × (cut.unbuilt ≡ cut_unbuilt part first cut.ends.items)
 
 -- the best cuts from each range on, and from behind the last
 pub record AreBest (part : ℕ → ℕ → Part) (most : ℕ) (cuts : List (Option Cut)) : Type 0 where

@@ -28,6 +28,10 @@ pub record IsPastLastNumber (reader_old reader_new : ReaderState) (lines : List 
 abbrev pub FailedInPiece : (reader_old reader_new : ReaderState) → List ReadLine → Type 0
 FailedInPiece reader_old reader_new lines = HasReadBefore reader_old.left reader_new.left lines × HasGivenAndFailed reader_old.calls reader_new.calls
 
+-- the lines were read, and the log's end was not
+abbrev pub HasReadUpTo : (reader_old reader_new : ReaderState) → List ReadLine → Type 0
+HasReadUpTo reader_old reader_new lines = HasRead reader_old.left reader_new.left lines
+
 -- the lines were read, and perhaps to the end of the log
 abbrev pub HasReadThese : (reader_old reader_new : ReaderState) → List ReadLine → Type 0
 HasReadThese reader_old reader_new lines = HasRead reader_old.left reader_new.left lines ⊎ HasReadAll reader_old.left reader_new.left lines

@@ -23,6 +23,7 @@ pub mod Needs
 pub mod Prepared
 pub mod Replay
 pub mod Replaying
+pub mod Reporting
 pub mod Rows
 pub mod Run
 pub mod RunFit

@@ -86,10 +86,24 @@ part_bytes part = part.blocks * part.size
 abbrev pub cut_bytes : (ℕ → ℕ → Part) → ℕ → List ℕ → ℕ
 cut_bytes part first ends = sum_by part_bytes (parts_of part first ends)
 
--- cuts are compared by their bytes, then by how many parts they make, and then by where these end
+-- whether a part can be built: its pool isn't above the greatest, and there can be as many records
+abbrev pub can_be_built : Part → Bool
+can_be_built part = nat_le (part_bytes part) greatest_size && nat_le part.blocks most_records
+
+-- how many of the parts that a cut makes can't be built
+abbrev pub unbuilt : Part → ℕ
+unbuilt part = if can_be_built part then 0 else 1
+
+abbrev pub cut_unbuilt : (ℕ → ℕ → Part) → ℕ → List ℕ → ℕ
+cut_unbuilt part first ends = sum_by unbuilt (parts_of part first ends)
+
+-- cuts are compared by how many of their parts can't be built, then by their bytes, then by how many parts they make, and then by
+-- where these end
 abbrev pub cut_cmp : (ℕ → ℕ → Part) → ℕ → List ℕ → List ℕ → Ordering
 cut_cmp part first one other =
-    ordering_then (nat_cmp (cut_bytes part first one) (cut_bytes part first other)) (ordering_then (nat_cmp (length one) (length other)) (slice_cmp nat_cmp one other))
+    ordering_then (nat_cmp (cut_unbuilt part first one) (cut_unbuilt part first other))
+    (ordering_then (nat_cmp (cut_bytes part first one) (cut_bytes part first other))
+    (ordering_then (nat_cmp (length one) (length other)) (slice_cmp nat_cmp one other)))
 
 -- of all cuts that make at most `most` parts none is less
 pub record IsLeastCut (part : ℕ → ℕ → Part) (most first : ℕ) (ends : List ℕ) : Type 0 where
@@ -97,9 +111,9 @@ pub record IsLeastCut (part : ℕ → ℕ → Part) (most first : ℕ) (ends : L
   pub few : length ends ≤ most
   pub least : (other : List ℕ) → IsCut part first other → length other ≤ most → is_gt (cut_cmp part first ends other) ≡ false
 
--- the bytes of a part's pool; none above the greatest pool, or where there can't be as many records
+-- the bytes of a part's pool; none where the part can't be built
 abbrev pub pool_bytes : Part → Option ℕ
-pool_bytes part = if nat_le (part_bytes part) greatest_size && nat_le part.blocks most_records then Some (part_bytes part) else None
+pool_bytes part = if can_be_built part then Some (part_bytes part) else None
 
 -- the bytes of the table for a part's records; none where there can be no pool for the part
 abbrev pub records_bytes : Part → Option ℕ

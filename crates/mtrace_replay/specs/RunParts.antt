@@ -11,8 +11,8 @@ use Rattle.mtrace_replay.specs.declared.parts.replay.CountedReplay.{CountedRepla
 use Rattle.mtrace_replay.specs.Course.{Course, shown_before, shown_after}
 use Rattle.mtrace_replay.specs.Moment.{ReadLine}
 use Rattle.mtrace_replay.specs.Run.{NothingDone}
-use Rattle.mtrace_replay.specs.Served.{IsServed}
-use Rattle.mtrace_replay.specs.RunServed.{RunsServed, ReportsServed}
+use Rattle.mtrace_replay.specs.Served.{StandsWithoutHeap}
+use Rattle.mtrace_replay.specs.RunServed.{ReportsServed, RunsServedFirst}
 use Rattle.mtrace_replay.specs.Spans.{AreCountedOf}
 use Rattle.mtrace_replay.specs.Parts.{TellsParts}
 
@@ -22,49 +22,36 @@ is_bad_heaps heaps = (heaps == 0) || nat_lt 8 heaps
 
 -- what follows the lines: the text is put and flushed, or a beginning of it is put and the writer failed, or memory was refused and
 -- nothing more was written
-abbrev pub PartsFollow : (heaps : ℕ) (lines : List ReadLine) (status : Status) (result : Result Status RunFault) (writer_old writer_new : WriterState) → Type 0
-PartsFollow heaps lines status (Ok answered) writer_old writer_new =
-    (answered ≡ status) × (text : List ℕ) × TellsParts heaps lines text × Wrote writer_old writer_new text × HasTakenAndFlushed writer_old.calls writer_new.calls
-PartsFollow heaps lines status (Err Write) writer_old writer_new =
+abbrev pub PartsFollow : (heaps : ℕ) (lines : List ReadLine) (result : Result Status RunFault) (writer_old writer_new : WriterState) → Type 0
+PartsFollow heaps lines (Ok answered) writer_old writer_new =
+    (text : List ℕ) × TellsParts heaps lines text × Wrote writer_old writer_new text × HasTakenAndFlushed writer_old.calls writer_new.calls
+PartsFollow heaps lines (Err Write) writer_old writer_new =
     (text : List ℕ) × TellsParts heaps lines text × Begins writer_old writer_new text × HasFailedToWrite writer_old.calls writer_new.calls
-PartsFollow heaps lines status (Err OutOfMemory) writer_old writer_new = writer_new ≡ writer_old
-PartsFollow heaps lines status (Err _) writer_old writer_new = ⊥
+PartsFollow heaps lines (Err OutOfMemory) writer_old writer_new = writer_new ≡ writer_old
+PartsFollow heaps lines (Err _) writer_old writer_new = ⊥
 
--- the log was read to its end and its diagnostics were written, and then what follows for its lines
-pub record EndsParts (heaps : ℕ) (status : Status) (result : Result Status RunFault) (reader_old reader_new : ReaderState) (writer_old writer_middle writer_new : WriterState) : Type 0 where
-  pub reports : ReportsServed Nothing status reader_old reader_new writer_old writer_middle
-  pub follow : PartsFollow heaps reports.lines status result writer_middle writer_new
-
--- what follows a run: where that failed nothing more was done, and its fault is the answer
-abbrev pub PartsGoOn : (heaps : ℕ) (run result : Result Status RunFault) (reader_old reader_new : ReaderState) (writer_old writer_middle writer_new : WriterState) → Type 0
-PartsGoOn heaps (Ok status) result reader_old reader_new writer_old writer_middle writer_new = EndsParts heaps status result reader_old reader_new writer_old writer_middle writer_new
-PartsGoOn heaps (Err fault) result reader_old reader_new writer_old writer_middle writer_new = (result ≡ Err fault) × (writer_new ≡ writer_middle)
-
--- first there is a run without a report
-pub record RunsThenParts (heaps : ℕ) (result : Result Status RunFault) (reader_old reader_new : ReaderState) (writer_old writer_new : WriterState) : Type 0 where
-  pub run : Result Status RunFault
-  pub writer_middle : WriterState
-  pub runs : RunsServed Nothing run reader_old reader_new writer_old writer_middle
-  pub goes_on : PartsGoOn heaps run result reader_old reader_new writer_old writer_middle writer_new
+-- that follows, and nothing more is read
+abbrev pub PartsFollowAlone : {R W : Type 0} → (heaps : ℕ) (lines : List ReadLine) (result : Result Status RunFault) (reader : Course R ReaderState) (writer : Course W WriterState) → Type 0
+PartsFollowAlone heaps lines result reader writer = (reader.new ≡ reader.old) × PartsFollow heaps lines result (shown_before writer) (shown_after writer)
 
 -- What a run leaves that tells at most `heaps` heaps by size that serve a log. Where there are no heaps, or more than eight,
 -- nothing is done; nor where memory is refused before the first line.
 pub record RunsParts {R W : Type 0} (heaps : ℕ) (result : Result Status RunFault) (reader : Course R ReaderState) (writer : Course W WriterState) : Type 0 where
   pub bad_heaps : is_bad_heaps heaps ≡ true → (result ≡ Err BadSettings) × NothingDone reader writer
   pub runs : is_bad_heaps heaps ≡ false → (IsErrOf result OutOfMemory × NothingDone reader writer)
-      ⊎ RunsThenParts heaps result (shown_before reader) (shown_after reader) (shown_before writer) (shown_after writer)
+      ⊎ RunsServedFirst (PartsFollowAlone heaps) result reader writer
 
 -- nothing was followed yet
 pub record IsStart (replay : CountedReplay) : Type 0 where
-  pub stands : IsServed replay.ledger []
+  pub stands : StandsWithoutHeap replay.ledger []
   pub counted : AreCountedOf [] replay.spans
 
 -- some lines were followed, and their blocks were counted
 abbrev pub HasLines : CountedReplay → Type 0
-HasLines replay = (lines : List ReadLine) × IsServed replay.ledger (reverse lines) × AreCountedOf (reverse lines) replay.spans
+HasLines replay = (lines : List ReadLine) × StandsWithoutHeap replay.ledger (reverse lines) × AreCountedOf (reverse lines) replay.spans
 
 -- a run without a report, and the replay in the end
 pub record EndsCounted (status : Status) (replay : CountedReplay) (reader_old reader_new : ReaderState) (writer_old writer_new : WriterState) : Type 0 where
   pub reports : ReportsServed Nothing status reader_old reader_new writer_old writer_new
-  pub stands : IsServed replay.ledger (reverse reports.lines)
+  pub stands : StandsWithoutHeap replay.ledger (reverse reports.lines)
   pub counted : AreCountedOf (reverse reports.lines) replay.spans

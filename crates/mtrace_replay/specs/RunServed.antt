@@ -1,31 +1,26 @@
 -- What a run without a heap read and wrote, by its answer.
-use Rattle.std.specs.Prelude.{◌≡◌, ◌⊎◌, ℕ, Bool, List, [], ◌++◌, length, reverse, count_by, Result, Ok, Err, IfOk, OnOk, OnErr, ◌||◌, if◌then◌else◌}
-use Rattle.mtrace_log.specs.HasRead.{HasReadAll}
+use Rattle.std.specs.Prelude.{◌≡◌, ℕ, List, [], ◌++◌, length, reverse, count_by, Result, Ok, Err}
 use Rattle.mtrace_log.specs.Shown.{ReaderState, WriterState}
-use Rattle.mtrace_log.specs.Output.{Wrote, Begins}
-use Rattle.mtrace_log.specs.Trace.{HasTakenAndFlushed, HasFailedToWrite}
 use Rattle.mtrace_replay.specs.declared.runs.status.Status.{Status}
-use Rattle.mtrace_replay.specs.declared.runs.status.Status.TheVariants.{Clean, Found}
 use Rattle.mtrace_replay.specs.declared.runs.status.RunFault.{RunFault}
 use Rattle.mtrace_replay.specs.declared.runs.status.RunFault.TheVariants.{Read, Write, OutOfMemory}
 use Rattle.mtrace_replay.specs.declared.no_heap.replay.LedgerTotals.{LedgerTotals}
 use Rattle.mtrace_replay.specs.declared.no_heap.report.LedgerReport.{LedgerReport}
 use Rattle.mtrace_replay.specs.declared.no_heap.report.LedgerReport.TheVariants.{Held, Sums, Sites, Callers, Nothing}
 use Rattle.mtrace_replay.specs.declared.no_heap.run.EndedLedger.{EndedLedger}
-use Rattle.mtrace_replay.specs.Moment.{ReadLine, Given, Moment, half}
-use Rattle.mtrace_replay.specs.History.{notes, AreHeld, entries_of}
+use Rattle.mtrace_replay.specs.Moment.{ReadLine, Given, Moment}
+use Rattle.mtrace_replay.specs.History.{AreHeld, entries_of}
 use Rattle.mtrace_replay.specs.Totals.{is_served, first_moments, Measures, IsPeak, asked_bytes_in, blocks_in}
 use Rattle.mtrace_replay.specs.RunSites.{HeldSites, sections_of}
-use Rattle.mtrace_replay.specs.Texts.{diagnostics_text, leaks_report, ledger_peak_report, callers_text, clean_or_found}
+use Rattle.mtrace_replay.specs.Texts.{diagnostics_text, leaks_report, ledger_peak_report, callers_text}
 use Rattle.mtrace_replay.specs.declared.held.count.Count.{Count}
 use Rattle.mtrace_replay.specs.Calls.{Caller}
 use Rattle.mtrace_replay.specs.Callers.{calls_in, temporary_in, AreCallers, all_of}
-use Rattle.mtrace_replay.specs.Served.{served_history, served_diagnostics, served_noted, Standing, IsServed}
-use Rattle.mtrace_replay.specs.Following.{with_unused, HasReadThese, has_some, RunsToEnd, RunsToRead, RunsToWrite, RunsToMemory}
-
--- the text of the diagnostics of lines, the first line first
-abbrev pub served_notes : List ReadLine → List ℕ
-served_notes lines = diagnostics_text (notes (served_history lines))
+use Rattle.mtrace_replay.specs.Served.{served_moments, served_history, served_diagnostics, served_noted, Standing, StandsWithoutHeap}
+use Rattle.mtrace_replay.specs.Following.{HasReadThese, RunsToEnd, RunsToRead, RunsToWrite, RunsToMemory}
+use Rattle.mtrace_replay.specs.Reporting.{Reports, StopsAtWrite}
+use Rattle.mtrace_replay.specs.Again.{RunsFirst}
+use Rattle.mtrace_replay.specs.Course.{Course, shown_before, shown_after}
 
 -- the sums over lines without a heap
 pub record AreServedTotals (past : List Moment) (totals : LedgerTotals) : Type 0 where
@@ -81,37 +76,15 @@ TellsServed Nothing lines text = text ≡ []
 abbrev pub whole_served : List ReadLine → List ℕ → List ℕ
 whole_served lines text = diagnostics_text (served_diagnostics lines) ++ text
 
--- all of the log was read, and the whole text of its history was written; the status is that text's
-pub record ReportsServed (report : LedgerReport) (status : Status) (reader_old reader_new : ReaderState) (writer_old writer_new : WriterState) : Type 0 where
-  pub lines : List ReadLine
-  pub read : HasReadAll reader_old.left reader_new.left lines
-  pub text : List ℕ
-  pub tells : TellsServed report lines text
-  pub wrote : Wrote writer_old writer_new (whole_served lines text)
-  pub all : List Given
-  pub held : AreHeld all (served_history lines)
-  pub status_is : status ≡ clean_or_found (served_diagnostics lines) (entries_of all)
-
--- all of the log was read, and a beginning of the whole text was written
-pub record BeginsServed (report : LedgerReport) (reader_old reader_new : ReaderState) (writer_old writer_new : WriterState) (lines : List ReadLine) : Type 0 where
-  pub read : HasReadAll reader_old.left reader_new.left lines
-  pub text : List ℕ
-  pub tells : TellsServed report lines text
-  pub begun : Begins writer_old writer_new (whole_served lines text)
-
--- The writer failed, after a beginning of what was to be written. Unused are the bytes that were asked of the reader and belong to
--- no line that was read.
-pub record StopsServedAtWrite (report : LedgerReport) (reader_old reader_new : ReaderState) (writer_old writer_new : WriterState) : Type 0 where
-  pub lines : List ReadLine
-  pub unused : List ℕ
-  pub begun : (HasReadThese reader_old (with_unused unused reader_new) lines × Begins writer_old writer_new (served_notes lines))
-      ⊎ BeginsServed report reader_old (with_unused unused reader_new) writer_old writer_new lines
+-- all of the log was read, and its diagnostics and the report were written
+abbrev pub ReportsServed : LedgerReport → Status → (reader_old reader_new : ReaderState) (writer_old writer_new : WriterState) → Type 0
+ReportsServed report = Reports served_moments (TellsServed report)
 
 -- how a run ended, by what it answers, which is never `BadSettings` or `Image`
 abbrev pub ServedEnds : LedgerReport → Result Status RunFault → (reader_old reader_new : ReaderState) (writer_old writer_new : WriterState) → Type 0
 ServedEnds report (Ok status) reader_old reader_new writer_old writer_new = RunsToEnd (ReportsServed report status reader_old reader_new writer_old writer_new) reader_old reader_new writer_old writer_new
 ServedEnds report (Err Read) reader_old reader_new writer_old writer_new = RunsToRead served_noted reader_old reader_new writer_old writer_new
-ServedEnds report (Err Write) reader_old reader_new writer_old writer_new = RunsToWrite (StopsServedAtWrite report reader_old reader_new writer_old writer_new) reader_old reader_new writer_old writer_new
+ServedEnds report (Err Write) reader_old reader_new writer_old writer_new = RunsToWrite (StopsAtWrite HasReadThese served_moments (TellsServed report) reader_old reader_new writer_old writer_new) reader_old reader_new writer_old writer_new
 ServedEnds report (Err OutOfMemory) reader_old reader_new writer_old writer_new = RunsToMemory served_noted reader_old reader_new writer_old writer_new
 ServedEnds report (Err _) reader_old reader_new writer_old writer_new = ⊥
 
@@ -119,6 +92,12 @@ ServedEnds report (Err _) reader_old reader_new writer_old writer_new = ⊥
 pub record RunsServed (report : LedgerReport) (result : Result Status RunFault) (reader_old reader_new : ReaderState) (writer_old writer_new : WriterState) : Type 0 where
   pub ends : ServedEnds report result reader_old reader_new writer_old writer_new
   pub whole : reader_new.whole ≡ reader_old.whole
+
+-- what a run leaves that does more behind a run without a heap and without a report
+abbrev pub RunsServedFirst : {R W : Type 0} → (After : List ReadLine → Result Status RunFault → Course R ReaderState → Course W WriterState → Type 0)
+    → Result Status RunFault → Course R ReaderState → Course W WriterState → Type 0
+RunsServedFirst After =
+    RunsFirst (λ run reader writer. RunsServed Nothing run (shown_before reader) (shown_after reader) (shown_before writer) (shown_after writer)) served_moments (TellsServed Nothing) After
 
 -- the answer of a run, without its replay
 abbrev pub served_status : Result EndedLedger RunFault → Result Status RunFault
@@ -128,16 +107,4 @@ served_status (Err fault) = Err fault
 -- a run without a report, and the replay in the end
 pub record EndsServed (status : Status) (replay : Standing) (reader_old reader_new : ReaderState) (writer_old writer_new : WriterState) : Type 0 where
   pub reports : ReportsServed Nothing status reader_old reader_new writer_old writer_new
-  pub stands : IsServed replay (reverse reports.lines)
-
--- what is written at the end: the diagnostic of the last line, and then the text of the report
-abbrev pub served_end : Standing → List ℕ → List ℕ
-served_end replay text = diagnostics_text (half replay.lines replay.pending) ++ text
-
--- What a call leaves that puts all that is written at the end, and flushes. It answers the status, by whether a line had a diagnostic.
-pub record FinishesServed {E : Type 0} (text : List ℕ) (has_diagnostics : Bool) (result : Result Status E) (replay : Standing) (writer_old writer_new : WriterState) : Type 0 where
-  pub all : OnOk result (Wrote writer_old writer_new (served_end replay text))
-  pub status : IfOk result (λ status. status ≡ (if has_diagnostics || (has_some (half replay.lines replay.pending) || has_some replay.all) then Found else Clean))
-  pub flushed : OnOk result (HasTakenAndFlushed writer_old.calls writer_new.calls)
-  pub beginning : OnErr result (Begins writer_old writer_new (served_end replay text))
-  pub failed : OnErr result (HasFailedToWrite writer_old.calls writer_new.calls)
+  pub stands : StandsWithoutHeap replay (reverse reports.lines)

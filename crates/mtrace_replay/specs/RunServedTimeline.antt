@@ -4,11 +4,10 @@ use Rattle.std.specs.List.{All}
 use Rattle.mtrace_log.specs.Shown.{Bytes, ReaderState, WriterState}
 use Rattle.mtrace_log.specs.Trace.{HasNotFailed}
 use Rattle.mtrace_replay.specs.declared.no_heap.point.LedgerPoint.{LedgerPoint}
-use Rattle.mtrace_replay.specs.declared.no_heap.report.LedgerReport.TheVariants.{Nothing}
 use Rattle.mtrace_replay.specs.declared.runs.status.Status.{Status}
 use Rattle.mtrace_replay.specs.declared.runs.status.RunFault.{RunFault}
 use Rattle.mtrace_replay.specs.declared.runs.status.RunFault.TheVariants.{BadSettings, OutOfMemory}
-use Rattle.mtrace_replay.specs.Course.{Course, shown_before, shown_after, since}
+use Rattle.mtrace_replay.specs.Course.{Course, shown_before, shown_after}
 use Rattle.mtrace_replay.specs.Moment.{ReadLine}
 use Rattle.mtrace_replay.specs.Totals.{IsPeak}
 use Rattle.mtrace_replay.specs.Texts.{ledger_timeline_text}
@@ -16,7 +15,7 @@ use Rattle.mtrace_replay.specs.Timeline.{is_bad_parts, AreTold}
 use Rattle.mtrace_replay.specs.Run.{NothingDone}
 use Rattle.mtrace_replay.specs.Again.{HasReadFirst, begun_again, FailsAgain, Follows}
 use Rattle.mtrace_replay.specs.Served.{served_history}
-use Rattle.mtrace_replay.specs.RunServed.{RunsServed, ReportsServed}
+use Rattle.mtrace_replay.specs.RunServed.{RunsServedFirst}
 use Rattle.mtrace_replay.specs.ServedTimeline.{IsPointOfLines, ledger_lines_of, IsUntouchedOrBegan}
 
 -- The text of what is held over the lines of a log. As many lines as it has are read again, from the first byte on. Each point
@@ -41,29 +40,7 @@ pub record ServedTimelineFollows {R W : Type 0} (parts : ℕ) (lines : List Read
   pub nothing_put : IsErrOf result OutOfMemory → writer.new ≡ writer.old
   pub not_failed : IsErrOf result OutOfMemory → IsUntouchedOrBegan (shown_before reader) (shown_after reader)
 
--- the log was read to its end and its diagnostics were written, up to the middle, and then what follows for its lines
-pub record EndsServedTimeline {R W : Type 0} (parts : ℕ) (status : Status) (result : Result Status RunFault)
-    (reader : Course R ReaderState) (writer : Course W WriterState) (reader_middle : R) (writer_middle : W) : Type 0 where
-  pub reports : ReportsServed Nothing status (shown_before reader) (reader.shown reader_middle) (shown_before writer) (writer.shown writer_middle)
-  pub answer : IfOk result (λ answered. answered ≡ status)
-  pub follow : ServedTimelineFollows parts reports.lines result (since reader reader_middle) (since writer writer_middle)
-
--- what follows a run: where that failed nothing more was done, and its fault is the answer
-abbrev pub ServedTimelineGoesOn : {R W : Type 0} → (parts : ℕ) (run result : Result Status RunFault)
-    (reader : Course R ReaderState) (writer : Course W WriterState) (reader_middle : R) (writer_middle : W) → Type 0
-ServedTimelineGoesOn parts (Ok status) result reader writer reader_middle writer_middle = EndsServedTimeline parts status result reader writer reader_middle writer_middle
-ServedTimelineGoesOn parts (Err fault) result reader writer reader_middle writer_middle =
-    (result ≡ Err fault) × NothingDone (since reader reader_middle) (since writer writer_middle)
-
--- first there is a run without a report, up to the middle, and then the log is read again
-pub record RunsServedTwice {R W : Type 0} (parts : ℕ) (result : Result Status RunFault) (reader : Course R ReaderState) (writer : Course W WriterState) : Type 0 where
-  pub run : Result Status RunFault
-  pub reader_middle : R
-  pub writer_middle : W
-  pub runs : RunsServed Nothing run (shown_before reader) (reader.shown reader_middle) (shown_before writer) (writer.shown writer_middle)
-  pub goes_on : ServedTimelineGoesOn parts run result reader writer reader_middle writer_middle
-
 -- What a run leaves that tells what is held over the lines of a log, without a heap. Where the number of parts is bad, nothing is done.
 pub record RunsServedTimeline {R W : Type 0} (parts : ℕ) (result : Result Status RunFault) (reader : Course R ReaderState) (writer : Course W WriterState) : Type 0 where
   pub bad_parts : is_bad_parts parts ≡ true → (result ≡ Err BadSettings) × NothingDone reader writer
-  pub runs : is_bad_parts parts ≡ false → RunsServedTwice parts result reader writer
+  pub runs : is_bad_parts parts ≡ false → RunsServedFirst (ServedTimelineFollows parts) result reader writer

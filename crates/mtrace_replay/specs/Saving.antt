@@ -13,6 +13,7 @@ use Rattle.mtrace_replay.specs.declared.runs.status.RunFault.{RunFault}
 use Rattle.mtrace_replay.specs.declared.runs.status.RunFault.TheVariants.{Image}
 use Rattle.mtrace_replay.specs.Course.{Course, shown_before, shown_after}
 use Rattle.mtrace_replay.specs.Started.{Bare}
+use Rattle.mtrace_replay.specs.Reporting.{PutsAndFlushes}
 use Rattle.mtrace_replay.specs.Run.{Runs, HoldsAtEnd}
 
 -- what a call leaves that saves a heap of which this is the content, slots left out
@@ -20,11 +21,6 @@ pub record PutsImage {T E : Type 0} (result : Result T E) (content : Bare) (old 
   pub whole : Content ℕ
   pub content_is : bare whole ≡ content
   pub saves : Saves result whole old new
-
--- what a call leaves that puts a text and flushes: both are done, or, where it fails, a beginning is put
-abbrev pub PutsAndFlushes : {T E : Type 0} → Result T E → (text : List ℕ) (old new : WriterState) → Type 0
-PutsAndFlushes (Ok done) text old new = Wrote old new text × HasTakenAndFlushed old.calls new.calls
-PutsAndFlushes (Err failure) text old new = Begins old new text × HasFailedToWrite old.calls new.calls
 
 -- what a call leaves that puts an image of this content, slots left out, and flushes
 pub record SavesLast {T E : Type 0} (result : Result T E) (content : Bare) (old new : WriterState) : Type 0 where

@@ -93,7 +93,7 @@ pub record IsAtPeak (replay : Standing) (past : List Moment) : Type 0 where
   pub sites : (all : List Given) → AreHeld all past → AreTallied (entries_of all) replay.at_peak
 
 -- the replay stands for the lines, of which the latest comes first
-pub record IsServed (replay : Standing) (past : List ReadLine) : Type 0 where
+pub record StandsWithoutHeap (replay : Standing) (past : List ReadLine) : Type 0 where
   pub lines_are : replay.lines ≡ length past
   pub served_are : replay.served ≡ count_by is_served (served_moments past)
   pub pending_is : replay.pending ≡ pending past
@@ -108,8 +108,8 @@ served_noted past = notes (served_moments past)
 
 -- The line of this number was fed. Where memory is refused the replay is as before the line.
 pub record FeedsLedger {E : Type 0} (number : ℕ) (line : ReadLine) (diagnostics : List Diagnostic) (result : Result (Unit {0}) E) (old new : Standing) : Type 0 where
-  pub stands : OnOk result ((past : List ReadLine) → IsServed old past → IsServed new (line ∷ past))
-  pub told : OnOk result ((past : List ReadLine) → IsServed old past → served_noted (line ∷ past) ≡ served_noted past ++ diagnostics)
+  pub stands : OnOk result ((past : List ReadLine) → StandsWithoutHeap old past → StandsWithoutHeap new (line ∷ past))
+  pub told : OnOk result ((past : List ReadLine) → StandsWithoutHeap old past → served_noted (line ∷ past) ≡ served_noted past ++ diagnostics)
   pub counted : OnOk result (new.lines ≡ number)
   pub unchanged : OnErr result (new ≡ old)
 
@@ -152,7 +152,7 @@ pub record RaisesPeak (old new : Standing) : Type 0 where
 abbrev pub ledger_rules : LineRules Standing
 ledger_rules = record {
   Start = Unit {0};
-  Stands = λ start replay past. IsServed replay past;
+  Stands = λ start replay past. StandsWithoutHeap replay past;
   noted = λ start past. served_noted past;
   lines = λ replay. replay.lines;
   IsReady = λ replay. Unit {0};

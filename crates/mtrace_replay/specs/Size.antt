@@ -11,7 +11,7 @@ use Rattle.mtrace_replay.specs.declared.runs.status.Status.TheVariants.{Clean}
 use Rattle.mtrace_replay.specs.declared.runs.status.RunFault.{RunFault}
 use Rattle.mtrace_replay.specs.declared.runs.status.RunFault.TheVariants.{Write, BadSettings}
 use Rattle.mtrace_replay.specs.Moment.{asked_size, rounded_bytes}
-use Rattle.mtrace_replay.specs.Saving.{PutsAndFlushes}
+use Rattle.mtrace_replay.specs.Reporting.{PutsAndFlushes}
 use Rattle.mtrace_replay.specs.Texts.{record_lines, size_line}
 use Rattle.mtrace_replay.specs.Parts.{pool_bytes}
 

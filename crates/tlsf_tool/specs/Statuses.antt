@@ -6,7 +6,7 @@ use Rattle.mtrace_replay.specs.RunSites.{RunsSites}
 use Rattle.mtrace_replay.specs.RunTimeline.{RunsTimeline}
 use Rattle.mtrace_replay.specs.RunServedTimeline.{RunsServedTimeline}
 use Rattle.mtrace_replay.specs.RunFit.{RunsFit}
-use Rattle.mtrace_replay.specs.Saving.{PutsAndFlushes}
+use Rattle.mtrace_replay.specs.Reporting.{PutsAndFlushes}
 use Rattle.tlsf_tool.specs.declared.asked.Rereading.{Rereading}
 use Rattle.tlsf_tool.specs.declared.asked.Rereading.TheVariants.{Sites, Timeline, Fit}
 use Rattle.tlsf_tool.specs.declared.asked.HeapReport.{HeapReport}

@@ -7,7 +7,8 @@ ghost use Rattle.mtrace_replay.specs.RunServed.{RunsServed};
 ghost use Rattle.mtrace_replay.specs.RunParts.{RunsParts};
 ghost use Rattle.mtrace_replay.specs.Size.{RunsSize};
 ghost use Rattle.mtrace_replay.specs.SizeParts.{RunsSizeParts};
-ghost use Rattle.mtrace_replay.specs.Saving.{RunsAndSaves, PutsAndFlushes};
+ghost use Rattle.mtrace_replay.specs.Reporting.{PutsAndFlushes};
+ghost use Rattle.mtrace_replay.specs.Saving.{RunsAndSaves};
 ghost use Rattle.tlsf_tool.specs.Statuses.{report_of, EndsAs, Rereads, PutsHelp};
 
 use crate::asked::{HeapReport, Rereading, ToolFault};

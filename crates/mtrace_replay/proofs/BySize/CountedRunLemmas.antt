@@ -11,19 +11,18 @@ use Rattle.mtrace_replay.specs.declared.parts.replay.CountedReplay.{CountedRepla
 use Rattle.mtrace_replay.specs.Prepared.{IsOf, HasNamed, prepared_text}
 use Rattle.mtrace_replay.specs.Moment.{half}
 use Rattle.mtrace_replay.specs.Following.{has_some, HasFollowed}
-use Rattle.mtrace_replay.specs.RunServed.{served_end}
 use Rattle.mtrace_replay.specs.RunParts.{EndsCounted}
-use Rattle.mtrace_replay.specs.Served.{served_noted, IsServed}
+use Rattle.mtrace_replay.specs.Served.{served_noted, StandsWithoutHeap}
 use Rattle.mtrace_replay.specs.CountedReplay.{counted_rules}
-use Rattle.mtrace_replay.proofs.Served.ServedRunLemmas.{served_all}
+use Rattle.mtrace_replay.proofs.Served.ServedRunLemmas.{served_end, served_all}
 use Rattle.mtrace_replay.proofs.Running.RunLemmas.{followed_also}
 
 -- the counts aside, the ledger alone followed the lines
 abbrev pub alone : (replay : CountedReplay) (has_diagnostics : Bool) (reader_old reader_new : ReaderState) (writer_old writer_new : WriterState)
     → HasFollowed (counted_rules.Stands tt replay) served_noted has_diagnostics reader_old reader_new writer_old writer_new
-    → HasFollowed (λ past. IsServed replay.ledger past) served_noted has_diagnostics reader_old reader_new writer_old writer_new
+    → HasFollowed (λ past. StandsWithoutHeap replay.ledger past) served_noted has_diagnostics reader_old reader_new writer_old writer_new
 alone replay has_diagnostics reader_old reader_new writer_old writer_new done =
-    followed_also (counted_rules.Stands tt replay) (λ past. IsServed replay.ledger past) served_noted has_diagnostics reader_old reader_new writer_old writer_new (λ past both. both.0) done
+    followed_also (counted_rules.Stands tt replay) (λ past. StandsWithoutHeap replay.ledger past) served_noted has_diagnostics reader_old reader_new writer_old writer_new (λ past both. both.0) done
 
 -- all was written
 pub counted_all : (replay : CountedReplay) (has_diagnostics : Bool) (reader_old reader_new : ReaderState) (writer_old writer_middle writer_new : WriterState)

@@ -11,13 +11,15 @@ use Rattle.std.proofs.lemmas.List.Sums.{sum_by-cons}
 use Rattle.std.proofs.lemmas.Bool.{false≢true, eqb-true, eq-eqb, ne_eqb, lt-ltb, le-ltb, ltb-true, ltb-false, cases_lt}
 use Rattle.mtrace_replay.specs.declared.parts.span.Span.{Span}
 use Rattle.mtrace_replay.specs.declared.parts.cut.Cut.{Cut}
-use Rattle.mtrace_replay.specs.Parts.{Part, part_bytes, parts_of, IsCut, cut_bytes, cut_cmp}
+use Rattle.mtrace_replay.specs.Parts.{Part, part_bytes, unbuilt, can_be_built, parts_of, IsCut, cut_bytes, cut_unbuilt, cut_cmp}
 use Rattle.mtrace_replay.specs.Spans.{IsPlaced}
 use Rattle.mtrace_replay.proofs.Index.MappedLemmas.{no_span}
 use Rattle.mtrace_replay.specs.Cuts.{part_of, span_bytes, cut_order, NotGreater, IsLesser, IsJoined, IsSmall, ArePartsIn, IsBest, AreBest}
 
 order_total : IsTotalOrder cut_order
-order_total = then_total (on_total (λ (cut : Cut). cut.bytes) nat_cmp_total) (then_total (on_total (λ (cut : Cut). length cut.ends.items) nat_cmp_total) (on_total (λ (cut : Cut). cut.ends.items) (lists_total nat_cmp_total)))
+order_total =
+    then_total (on_total (λ (cut : Cut). cut.unbuilt) nat_cmp_total) (then_total (on_total (λ (cut : Cut). cut.bytes) nat_cmp_total)
+    (then_total (on_total (λ (cut : Cut). length cut.ends.items) nat_cmp_total) (on_total (λ (cut : Cut). cut.ends.items) (lists_total nat_cmp_total))))
 
 itself : (cut : Option Cut) → NotGreater cut cut
 itself None = tt
@@ -48,7 +50,9 @@ lesser_second one other is = record { either = inr refl; first = back (cut_order
 
 module _ (part : ℕ → ℕ → Part) where
   cmp_total : (first : ℕ) → IsTotalOrder (cut_cmp part first)
-  cmp_total first = then_total (on_total (cut_bytes part first) nat_cmp_total) (then_total (on_total (λ (ends : List ℕ). length ends) nat_cmp_total) (lists_total nat_cmp_total))
+  cmp_total first =
+      then_total (on_total (cut_unbuilt part first) nat_cmp_total) (then_total (on_total (cut_bytes part first) nat_cmp_total)
+      (then_total (on_total (λ (ends : List ℕ). length ends) nat_cmp_total) (lists_total nat_cmp_total)))
 
   -- numbers that have as much more are compared as before
   same_cmp : (c x y : ℕ) → nat_cmp (c + x) (c + y) ≡ nat_cmp x y
@@ -64,23 +68,39 @@ module _ (part : ℕ → ℕ → Part) where
       by_lt true is = ap (λ b. cond b Less (cond (c + x == c + y) Equal Greater)) (lt-ltb (c + x) (c + y) (let less = ltb-true x y is in omega (arith, less)))
       by_lt false is = by_eq (ltb-false x y is) (x == y) refl
 
-  bytes-cons : (first last : ℕ) (ends : List ℕ) → cut_bytes part first (last ∷ ends) ≡ part_bytes (part first last) + cut_bytes part (suc last) ends
-  bytes-cons first last ends = sum_by-cons part_bytes (part first last) (parts_of part (suc last) ends)
+  -- two cuts compared by these figures
+  abbrev compared : (unbuilt_one unbuilt_other bytes_one bytes_other : ℕ) → List ℕ → List ℕ → Ordering
+  compared unbuilt_one unbuilt_other bytes_one bytes_other one other =
+      ordering_then (nat_cmp unbuilt_one unbuilt_other) (ordering_then (nat_cmp bytes_one bytes_other) (ordering_then (nat_cmp (length one) (length other)) (slice_cmp nat_cmp one other)))
 
-  -- with the same part in front they are compared as the rest
-  cmp-cons : (first last : ℕ) (one other : List ℕ) → cut_cmp part first (last ∷ one) (last ∷ other) ≡ cut_cmp part (suc last) one other
-  cmp-cons first last one other =
-      ap (λ n. ordering_then (nat_cmp n (cut_bytes part first (last ∷ other))) (ordering_then (nat_cmp (suc (length one)) (suc (length other))) (slice_cmp nat_cmp (last ∷ one) (last ∷ other)))) (bytes-cons first last one)
-      ∙ ap (λ n. ordering_then (nat_cmp (part_bytes (part first last) + cut_bytes part (suc last) one) n) (ordering_then (nat_cmp (suc (length one)) (suc (length other))) (slice_cmp nat_cmp (last ∷ one) (last ∷ other)))) (bytes-cons first last other)
-      ∙ ap (λ o. ordering_then o (ordering_then (nat_cmp (suc (length one)) (suc (length other))) (slice_cmp nat_cmp (last ∷ one) (last ∷ other)))) (same_cmp (part_bytes (part first last)) (cut_bytes part (suc last) one) (cut_bytes part (suc last) other))
-      ∙ ap (λ o. ordering_then (nat_cmp (cut_bytes part (suc last) one) (cut_bytes part (suc last) other)) (ordering_then o (slice_cmp nat_cmp (last ∷ one) (last ∷ other)))) (counts (length one) (length other))
-      ∙ ap (λ o. ordering_then (nat_cmp (cut_bytes part (suc last) one) (cut_bytes part (suc last) other)) (ordering_then (nat_cmp (length one) (length other)) (ordering_then o (slice_cmp nat_cmp one other)))) (tied_itself nat_cmp_total last)
+  -- as much more in front of each figure, and the same first end, change nothing
+  same_compared : (m n u v b c last : ℕ) (one other : List ℕ) → compared (m + u) (m + v) (n + b) (n + c) (last ∷ one) (last ∷ other) ≡ compared u v b c one other
+  same_compared m n u v b c last one other =
+      ap (λ o. ordering_then o (ordering_then (nat_cmp (n + b) (n + c)) (ordering_then (nat_cmp (suc (length one)) (suc (length other))) (slice_cmp nat_cmp (last ∷ one) (last ∷ other))))) (same_cmp m u v)
+      ∙ ap (λ o. ordering_then (nat_cmp u v) (ordering_then o (ordering_then (nat_cmp (suc (length one)) (suc (length other))) (slice_cmp nat_cmp (last ∷ one) (last ∷ other))))) (same_cmp n b c)
+      ∙ ap (λ o. ordering_then (nat_cmp u v) (ordering_then (nat_cmp b c) (ordering_then o (slice_cmp nat_cmp (last ∷ one) (last ∷ other))))) (counts (length one) (length other))
+      ∙ ap (λ o. ordering_then (nat_cmp u v) (ordering_then (nat_cmp b c) (ordering_then (nat_cmp (length one) (length other)) (ordering_then o (slice_cmp nat_cmp one other))))) (tied_itself nat_cmp_total last)
     where
       counts : (m n : ℕ) → nat_cmp (suc m) (suc n) ≡ nat_cmp m n
       counts m n =
           let left : suc m ≡ 1 + m = omega arith in
           let right : suc n ≡ 1 + n = omega arith in
           ap (λ k. nat_cmp k (suc n)) left ∙ ap (λ k. nat_cmp (1 + m) k) right ∙ same_cmp 1 m n
+
+  unbuilt-cons : (first last : ℕ) (ends : List ℕ) → cut_unbuilt part first (last ∷ ends) ≡ unbuilt (part first last) + cut_unbuilt part (suc last) ends
+  unbuilt-cons first last ends = sum_by-cons unbuilt (part first last) (parts_of part (suc last) ends)
+
+  bytes-cons : (first last : ℕ) (ends : List ℕ) → cut_bytes part first (last ∷ ends) ≡ part_bytes (part first last) + cut_bytes part (suc last) ends
+  bytes-cons first last ends = sum_by-cons part_bytes (part first last) (parts_of part (suc last) ends)
+
+  -- with the same part in front they are compared as the rest
+  cmp-cons : (first last : ℕ) (one other : List ℕ) → cut_cmp part first (last ∷ one) (last ∷ other) ≡ cut_cmp part (suc last) one other
+  cmp-cons first last one other =
+      ap (λ n. compared n (cut_unbuilt part first (last ∷ other)) (cut_bytes part first (last ∷ one)) (cut_bytes part first (last ∷ other)) (last ∷ one) (last ∷ other)) (unbuilt-cons first last one)
+      ∙ ap (λ n. compared (unbuilt (part first last) + cut_unbuilt part (suc last) one) n (cut_bytes part first (last ∷ one)) (cut_bytes part first (last ∷ other)) (last ∷ one) (last ∷ other)) (unbuilt-cons first last other)
+      ∙ ap (λ n. compared (unbuilt (part first last) + cut_unbuilt part (suc last) one) (unbuilt (part first last) + cut_unbuilt part (suc last) other) n (cut_bytes part first (last ∷ other)) (last ∷ one) (last ∷ other)) (bytes-cons first last one)
+      ∙ ap (λ n. compared (unbuilt (part first last) + cut_unbuilt part (suc last) one) (unbuilt (part first last) + cut_unbuilt part (suc last) other) (part_bytes (part first last) + cut_bytes part (suc last) one) n (last ∷ one) (last ∷ other)) (bytes-cons first last other)
+      ∙ same_compared (unbuilt (part first last)) (part_bytes (part first last)) (cut_unbuilt part (suc last) one) (cut_unbuilt part (suc last) other) (cut_bytes part (suc last) one) (cut_bytes part (suc last) other) last one other
 
   -- a cut isn't greater than these ends
   abbrev pub Covers : (first : ℕ) → Option Cut → List ℕ → Type 0
@@ -90,12 +110,14 @@ module _ (part : ℕ → ℕ → Part) where
   -- it is a cut of so few parts, and its bytes are told
   abbrev pub IsValid : (most first : ℕ) → Option Cut → Type 0
   IsValid most first None = Unit {0}
-  IsValid most first (Some cut) = IsCut part first cut.ends.items × (length cut.ends.items ≤ most) × (cut.bytes ≡ cut_bytes part first cut.ends.items)
+  IsValid most first (Some cut) = IsCut part first cut.ends.items × (length cut.ends.items ≤ most) × (cut.bytes ≡ cut_bytes part first cut.ends.items) × (cut.unbuilt ≡ cut_unbuilt part first cut.ends.items)
 
   order_is : (most first : ℕ) (one other : Cut) → IsValid most first (Some one) → IsValid most first (Some other) → cut_order one other ≡ cut_cmp part first one.ends.items other.ends.items
   order_is most first one other is as_well =
-      ap (λ n. ordering_then (nat_cmp n other.bytes) (ordering_then (nat_cmp (length one.ends.items) (length other.ends.items)) (slice_cmp nat_cmp one.ends.items other.ends.items))) is.2
-      ∙ ap (λ n. ordering_then (nat_cmp (cut_bytes part first one.ends.items) n) (ordering_then (nat_cmp (length one.ends.items) (length other.ends.items)) (slice_cmp nat_cmp one.ends.items other.ends.items))) as_well.2
+      ap (λ n. compared n other.unbuilt one.bytes other.bytes one.ends.items other.ends.items) is.3
+      ∙ ap (λ n. compared (cut_unbuilt part first one.ends.items) n one.bytes other.bytes one.ends.items other.ends.items) as_well.3
+      ∙ ap (λ n. compared (cut_unbuilt part first one.ends.items) (cut_unbuilt part first other.ends.items) n other.bytes one.ends.items other.ends.items) is.2
+      ∙ ap (λ n. compared (cut_unbuilt part first one.ends.items) (cut_unbuilt part first other.ends.items) (cut_bytes part first one.ends.items) n one.ends.items other.ends.items) as_well.2
 
   -- what isn't greater covers as much
   covers_through : (most first : ℕ) (one other : Option Cut) (ends : List ℕ) → IsValid most first one → IsValid most first other → NotGreater one other → Covers first other ends → Covers first one ends
@@ -124,8 +146,8 @@ module _ (part : ℕ → ℕ → Part) where
     part_at span has = of_one (λ span. part span.first span.last ≡ part_of span) spans in_spans.each span has
 
     -- no request falls under the ranges: then the cut of no part is one
-    pub is_empty : (cut : Cut) → cut.ends.items ≡ [] → cut.bytes ≡ 0 → All (λ (span : Span). span.first ≡ first → span.size ≡ 0) spans → IsValid 0 first (Some cut)
-    is_empty cut no_ends no_bytes unused = (
+    pub is_empty : (cut : Cut) → cut.ends.items ≡ [] → cut.bytes ≡ 0 → cut.unbuilt ≡ 0 → All (λ (span : Span). span.first ≡ first → span.size ≡ 0) spans → IsValid 0 first (Some cut)
+    is_empty cut no_ends no_bytes no_unbuilt unused = (
       subst (IsCut part first) (sym no_ends) (λ last from within.
           let has = in_spans.all first last from within in
           let span : Span = has.0 in
@@ -133,6 +155,7 @@ module _ (part : ℕ → ℕ → Part) where
           ∙ of_one (λ (span : Span). span.first ≡ first → span.size ≡ 0) spans unused span has.1 has.2),
       subst (λ ends. length ends ≤ 0) (sym no_ends) (omega arith),
       no_bytes ∙ sym (ap (cut_bytes part first) no_ends),
+      no_unbuilt ∙ sym (ap (cut_unbuilt part first) no_ends),
     )
 
     -- some request falls under them: then it isn't one
@@ -148,11 +171,11 @@ module _ (part : ℕ → ℕ → Part) where
 
   module _ (most : ℕ) (rests : List (Option Cut)) (spans : List Span) (first : ℕ) (in_spans : ArePartsIn part spans) (best_rests : AreBest part most rests) where
     -- no request falls under the ranges
-    pub none_so_far : (cut : Cut) → cut.ends.items ≡ [] → cut.bytes ≡ 0 → All (λ (span : Span). span.first ≡ first → span.size ≡ 0) spans → IsBestSoFar most rests spans first 0 (Some cut)
-    none_so_far cut no_ends no_bytes unused =
-        let empty = is_empty spans first in_spans cut no_ends no_bytes unused in
+    pub none_so_far : (cut : Cut) → cut.ends.items ≡ [] → cut.bytes ≡ 0 → cut.unbuilt ≡ 0 → All (λ (span : Span). span.first ≡ first → span.size ≡ 0) spans → IsBestSoFar most rests spans first 0 (Some cut)
+    none_so_far cut no_ends no_bytes no_unbuilt unused =
+        let empty = is_empty spans first in_spans cut no_ends no_bytes no_unbuilt unused in
         record {
-          valid = (empty.0, subst (λ ends. length ends ≤ suc most) (sym no_ends) (omega arith), empty.2);
+          valid = (empty.0, subst (λ ends. length ends ≤ suc most) (sym no_ends) (omega arith), empty.2, empty.3);
           empty = λ is. subst (λ ends. is_gt (cut_cmp part first ends []) ≡ false) (sym no_ends) refl;
           each = λ k d below. absurd (omega (arith, below));
         }
@@ -184,10 +207,13 @@ module _ (part : ℕ → ℕ → Part) where
         let placed = of_one IsPlaced spans in_spans.placed span has in
         let part_is : part_bytes (part first span.last) ≡ span_bytes span = ap (λ f. part_bytes (part f span.last)) (sym from) ∙ ap part_bytes (part_at spans first in_spans span has) in
         let whole = bytes-cons first span.last rest.ends.items in
+        let part_unbuilt : unbuilt (part first span.last) ≡ unbuilt (part_of span) = ap (λ f. unbuilt (part f span.last)) (sym from) ∙ ap unbuilt (part_at spans first in_spans span has) in
+        let all_unbuilt = unbuilt-cons first span.last rest.ends.items in
         let count : length cut.ends.items ≡ suc (length rest.ends.items) = ap length is.0 in (
           subst (IsCut part first) (sym is.0) (subst (λ f. f ≤ span.last) from placed.ordered, placed.within, best.0.cut),
           omega (arith, count, best.0.few),
           is.1 ∙ omega (arith, part_is, whole, best.1) ∙ sym (ap (cut_bytes part first) is.0),
+          is.2 ∙ omega (arith, part_unbuilt, all_unbuilt, best.2) ∙ sym (ap (cut_unbuilt part first) is.0),
         )
 
     -- a span is tried
@@ -252,7 +278,7 @@ module _ (part : ℕ → ℕ → Part) where
         where
           by_best : (best : Option Cut) → IsValid (suc most) first best → ((ends : List ℕ) → IsCut part first ends → length ends ≤ suc most → Covers first best ends) → IsBest part (suc most) first best
           by_best None valid covers = covers
-          by_best (Some cut) valid covers = (record { cut = valid.0; few = valid.1; least = covers }, valid.2)
+          by_best (Some cut) valid covers = (record { cut = valid.0; few = valid.1; least = covers }, valid.2, valid.3)
 
 -- a cut with a part more in front is small
 pub small_joined : (most : ℕ) (span : Span) → span_bytes span ≤ 2 ^ 96 → (rest cut : Option Cut) → IsSmall most rest → IsJoined span rest cut → IsSmall (suc most) cut
@@ -260,7 +286,11 @@ small_joined most span few None cut small is = subst (IsSmall (suc most)) (sym i
 small_joined most span few (Some rest) None small is = tt
 small_joined most span few (Some rest) (Some cut) small is =
     let count : length cut.ends.items ≡ suc (length rest.ends.items) = ap length is.0 in
-    (omega (arith, count, small.0), omega (arith, is.1, few, small.1))
+    (omega (arith, count, small.0), omega (arith, is.1, few, small.1), unbuilt_small (can_be_built (part_of span)) refl)
+  where
+    unbuilt_small : (b : Bool) → can_be_built (part_of span) ≡ b → cut.unbuilt ≤ suc most
+    unbuilt_small true built = (let none : unbuilt (part_of span) ≡ 0 = ap (λ b. cond b 0 1) built in omega (arith, is.2, none, small.2))
+    unbuilt_small false not = (let one : unbuilt (part_of span) ≡ 1 = ap (λ b. cond b 0 1) not in omega (arith, is.2, one, small.2))
 
 -- the lesser of two small ones is small
 pub small_lesser : (most : ℕ) (one other cut : Option Cut) → IsLesser one other cut → IsSmall most one → IsSmall most other → IsSmall most cut
@@ -270,16 +300,17 @@ small_lesser most one other cut lesser first second = elim lesser.either [
 ]
 
 -- with no part, only the cut of none is there
-pub empty_best : (part : ℕ → ℕ → Part) (spans : List Span) (first : ℕ) → ArePartsIn part spans → (cut : Cut) → cut.ends.items ≡ [] → cut.bytes ≡ 0 → All (λ (span : Span). span.first ≡ first → span.size ≡ 0) spans
+pub empty_best : (part : ℕ → ℕ → Part) (spans : List Span) (first : ℕ) → ArePartsIn part spans → (cut : Cut) → cut.ends.items ≡ [] → cut.bytes ≡ 0 → cut.unbuilt ≡ 0 → All (λ (span : Span). span.first ≡ first → span.size ≡ 0) spans
     → IsBest part 0 first (Some cut)
-empty_best part spans first in_spans cut no_ends no_bytes unused =
-    let valid = is_empty part spans first in_spans cut no_ends no_bytes unused in (
+empty_best part spans first in_spans cut no_ends no_bytes no_unbuilt unused =
+    let valid = is_empty part spans first in_spans cut no_ends no_bytes no_unbuilt unused in (
       record {
         cut = valid.0;
         few = subst (λ ends. length ends ≤ 0) (sym no_ends) (omega arith);
         least = by_ends;
       },
       valid.2,
+      valid.3,
     )
   where
     by_ends : (ends : List ℕ) → IsCut part first ends → length ends ≤ 0 → is_gt (cut_cmp part first cut.ends.items ends) ≡ false
@@ -306,4 +337,4 @@ some_cut part most some none = none (26 ∷ []) (omega arith, omega arith, λ la
 -- what is small is small where more is allowed
 pub smaller : (few many : ℕ) → few ≤ many → (cut : Option Cut) → IsSmall few cut → IsSmall many cut
 smaller few many less None small = tt
-smaller few many less (Some cut) small = (omega (arith, less, small.0), omega (arith, less, small.1))
+smaller few many less (Some cut) small = (omega (arith, less, small.0), omega (arith, less, small.1), omega (arith, less, small.2))

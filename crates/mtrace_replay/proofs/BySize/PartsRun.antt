@@ -12,8 +12,8 @@ use Rattle.mtrace_replay.specs.declared.runs.status.RunFault.TheVariants.{Write}
 use Rattle.mtrace_replay.specs.Moment.{ReadLine, Moment}
 use Rattle.mtrace_replay.specs.Totals.{IsMost}
 use Rattle.mtrace_replay.specs.Asked.{class_asked}
-use Rattle.mtrace_replay.specs.Saving.{PutsAndFlushes}
-use Rattle.mtrace_replay.specs.Served.{served_moments, IsServed, Standing, totals_of}
+use Rattle.mtrace_replay.specs.Reporting.{PutsAndFlushes}
+use Rattle.mtrace_replay.specs.Served.{served_moments, StandsWithoutHeap, Standing, totals_of}
 use Rattle.mtrace_replay.specs.Parts.{class_at, blocks_of, served_classes, largest, Part, IsPart, AreParts, IsLeastCut, parts_of, parts_text, peak_line_text, TellsHeaps, TellsParts}
 use Rattle.mtrace_replay.specs.Spans.{Agrees, IsSpan, AreCounted}
 use Rattle.mtrace_replay.specs.Cuts.{part_of, ArePartsIn}
@@ -135,16 +135,16 @@ module _ (past : List ReadLine) (spans : List Span) (ranges : ℕ → Option ℕ
       (record { part = its_part; are_parts = are_parts; ends = ends; chosen = chosen; text_is = refl })
 
 -- the text of the heaps of the lines
-pub tells_parts : (heaps : ℕ) (lines : List ReadLine) (replay : Standing) → IsServed replay (reverse lines) → (rest : List ℕ) → TellsHeaps (list_all is_some (served_classes (reverse lines))) heaps (reverse lines) rest
+pub tells_parts : (heaps : ℕ) (lines : List ReadLine) (replay : Standing) → StandsWithoutHeap replay (reverse lines) → (rest : List ℕ) → TellsHeaps (list_all is_some (served_classes (reverse lines))) heaps (reverse lines) rest
     → TellsParts heaps lines (peak_line_text replay.peak_bytes replay.peak_line ++ rest)
 tells_parts heaps lines replay stands rest tells = record { totals = totals_of replay; summed = summed replay lines stands; rest = rest; tells = tells; text_is = refl }
 
 -- the text was put and flushed, or the writer failed
-pub follows : (heaps : ℕ) (lines : List ReadLine) (status : Status) (result : Result Status RunFault) (writer_old writer_new : WriterState) (text : List ℕ) → TellsParts heaps lines text
-    → PutsAndFlushes result text writer_old writer_new → IfOk result (λ answered. answered ≡ status) → IfErr result (λ fault. fault ≡ Write) → PartsFollow heaps lines status result writer_old writer_new
-follows heaps lines status (Ok answered) writer_old writer_new text tells puts answer fault = (answer, text, tells, puts.0, puts.1)
-follows heaps lines status (Err failed) writer_old writer_new text tells puts answer fault =
-    subst (λ (failed : RunFault). PartsFollow heaps lines status (Err failed) writer_old writer_new) (sym fault) (text, tells, puts.0, puts.1)
+pub follows : (heaps : ℕ) (lines : List ReadLine) (result : Result Status RunFault) (writer_old writer_new : WriterState) (text : List ℕ) → TellsParts heaps lines text
+    → PutsAndFlushes result text writer_old writer_new → IfErr result (λ fault. fault ≡ Write) → PartsFollow heaps lines result writer_old writer_new
+follows heaps lines (Ok answered) writer_old writer_new text tells puts fault = (text, tells, puts.0, puts.1)
+follows heaps lines (Err failed) writer_old writer_new text tells puts fault =
+    subst (λ (failed : RunFault). PartsFollow heaps lines (Err failed) writer_old writer_new) (sym fault) (text, tells, puts.0, puts.1)
 
 -- there are some heaps, and few
 pub not_bad_heaps : (heaps : ℕ) → (heaps ≡ 0 → ⊥) → heaps ≤ 8 → is_bad_heaps heaps ≡ true → ⊥

@@ -18,14 +18,13 @@ use Rattle.mtrace_replay.specs.Totals.{blocks_in, asked_bytes_in, rounded_bytes_
 use Rattle.mtrace_replay.specs.Asked.{bytes_asked, class_asked, greater_class}
 use Rattle.mtrace_replay.specs.Replay.{Replayed, StandsFor, entries, heap_notes}
 use Rattle.mtrace_replay.specs.Following.{has_some, HasFollowed}
-use Rattle.mtrace_replay.specs.Run.{end_text}
 use Rattle.mtrace_replay.specs.Needs.{of_one, bytes_of_block, Exchanges, BehindExchange, AreNeeds, needs_rules, EndsWithNeeds}
 use Rattle.mtrace_replay.proofs.History.TotalsLemmas.{measure_is_one, none_measured, most_none, most_goes_on}
 use Rattle.mtrace_replay.proofs.OnHeap.HeldFew.{rounded_few}
 use Rattle.mtrace_replay.proofs.History.GivenSize.{given_size, given_vacant}
 use Rattle.mtrace_replay.proofs.History.HeldSums.{freed_of, sum-freed, sum-changes, blocks_summed, bytes_summed, rounded_summed}
 use Rattle.mtrace_replay.proofs.History.TotalsStep.{served_more}
-use Rattle.mtrace_replay.proofs.Running.RunLemmas.{followed_also, ends_at}
+use Rattle.mtrace_replay.proofs.Running.RunLemmas.{end_text, followed_also, ends_at}
 
 -- what no line needs
 pub needs_none : (settings : Settings) → AreNeeds (started settings) [] (record { most = 0; rounded = 0; most_rounded = 0; class_size = Some unit })

@@ -1,10 +1,11 @@
 -- A run under way, and how it goes on and ends.
-use Rattle.std.proofs.Common.{◌≡◌, ℕ, Bool, ◌||◌, List, [], ◌∷◌, ◌++◌, length, refl, sym, ap, ◌∙◌, subst, reverse, inl, inr, append_assoc, if◌then◌else◌}
-use Rattle.std.specs.Prelude.{Result, Ok, Err, IsErrOf, IsTrue, ◌↔◌}
+use Rattle.std.proofs.Common.{◌≡◌, ℕ, Bool, ◌||◌, List, [], ◌∷◌, ◌++◌, length, refl, sym, ap, ◌∙◌, subst, reverse, inl, inr, append_assoc, arith, if◌then◌else◌}
+use Rattle.std.specs.Prelude.{nat_lt, Result, Ok, Err, IsErrOf, IsTrue, ◌↔◌}
 use Rattle.mtrace_log.specs.Trace.{HasTaken, FlushWasAsked, flushed}
 use Rattle.mtrace_log.specs.declared.failed.Failed.{Failed as Failure}
 use Rattle.mtrace_log.specs.declared.call.Call.{Call}
 use Rattle.std.proofs.lemmas.List.{length-reverse}
+use Rattle.std.proofs.lemmas.Bool.{lt-ltb, le-ltb}
 use Rattle.mtrace_log.specs.Shown.{Bytes, ReaderState, WriterState}
 use Rattle.mtrace_log.specs.HasRead.{HasReadAll}
 use Rattle.mtrace_log.specs.Event.{Event}
@@ -16,15 +17,16 @@ use Rattle.mtrace_replay.specs.declared.runs.status.Status.{Status}
 use Rattle.mtrace_replay.specs.declared.runs.status.Status.TheVariants.{Clean, Found}
 use Rattle.mtrace_replay.specs.Started.{started}
 use Rattle.mtrace_replay.specs.Moment.{ReadLine, Moment, Given, moment, half}
-use Rattle.mtrace_replay.specs.History.{moments, content_after, held, history, notes, diagnostics, pending, entries_of}
+use Rattle.mtrace_replay.specs.History.{moments, content_after, held, history, notes, pending, AreHeld, entries_of}
 use Rattle.mtrace_replay.specs.Texts.{diagnostics_text, report_text, clean_or_found}
 use Rattle.mtrace_log.specs.Output.{Wrote, Begins}
 use Rattle.mtrace_replay.specs.Replay.{Replayed, StandsFor, entries, added_diagnostics, heap_notes}
 use Rattle.mtrace_replay.specs.declared.runs.report.Report.{Report}
 use Rattle.mtrace_replay.specs.declared.runs.report.Report.TheVariants.{Nothing}
 use Rattle.mtrace_replay.specs.declared.heap.totals.Totals.{Totals}
-use Rattle.mtrace_replay.specs.Following.{has_some, noted_text, HasFollowed, StopsWriting, ReadEnds}
-use Rattle.mtrace_replay.specs.Run.{text_of_notes, whole_text, end_text, StopsAtWrite, Reports, Runs, HoldsAtEnd, EndsAt}
+use Rattle.mtrace_replay.specs.Following.{HasReadUpTo, has_some, noted_text, HasFollowed, StopsWriting, ReadEnds}
+use Rattle.mtrace_replay.specs.Reporting.{all_diagnostics, Reports, StopsAtWrite}
+use Rattle.mtrace_replay.specs.Run.{TellsReport, ReportsOnHeap, Runs, HoldsAtEnd, EndsAt}
 use Rattle.mtrace_replay.specs.Course.{Course, shown_before, shown_after}
 use Rattle.mtrace_replay.specs.Settings.{are_bad}
 use Rattle.mtrace_replay.specs.declared.runs.status.RunFault.{RunFault}
@@ -54,6 +56,11 @@ status-is [] (diagnostic ∷ last) all = refl
 status-is [] [] (one ∷ all) = refl
 status-is [] [] [] = refl
 
+-- whether something is held, by how much is
+pub some_held : {A : Type 0} (held : List A) (n : ℕ) → n ≡ length held → nat_lt 0 n ≡ has_some held
+some_held [] n is = le-ltb 0 n (omega (arith, is))
+some_held (one ∷ more) n is = lt-ltb 0 n (omega (arith, is))
+
 -- all lines were followed, and then come the diagnostics of the end, and a text
 module _ (Stands : List ReadLine → Type 0) (noted : List ReadLine → List Diagnostic) (has_diagnostics : Bool) (reader_old reader_new : ReaderState) (writer_old writer_middle writer_new : WriterState)
     (done : HasFollowed Stands noted has_diagnostics reader_old reader_new writer_old writer_middle) (last : List Diagnostic) where
@@ -80,19 +87,67 @@ followed_also Stood Stands noted has_diagnostics reader_old reader_new writer_ol
   has_diagnostics_is = done.has_diagnostics_is;
 }
 
+-- all lines were followed, and these are the diagnostics at the end, and the text of the report
+module _ (Stands : List ReadLine → Type 0) (moments : List ReadLine → List Moment) (Tells : List ReadLine → List ℕ → Type 0) (has_diagnostics : Bool)
+    (reader_old reader_new : ReaderState) (writer_old writer_middle writer_new : WriterState) (done : HasFollowed Stands (λ past. notes (moments past)) has_diagnostics reader_old reader_new writer_old writer_middle)
+    (last : List Diagnostic) (last_is : last ≡ half (length done.lines) (pending (reverse done.lines))) (text : List ℕ) (tells : Tells done.lines text) where
+  pub whole_is : diagnostics_text (notes (moments (reverse done.lines)) ++ last) ++ text ≡ diagnostics_text (all_diagnostics moments done.lines) ++ text
+  whole_is = ap (λ (end : List Diagnostic). diagnostics_text (notes (moments (reverse done.lines)) ++ end) ++ text) last_is
+
+  -- the writer failed at the end
+  pub begins_report : (HasReadSome : (reader_old reader_new : ReaderState) → List ReadLine → Type 0) → Begins writer_middle writer_new (diagnostics_text last ++ text)
+      → StopsAtWrite HasReadSome moments Tells reader_old reader_new writer_old writer_new
+  begins_report HasReadSome begins = record {
+    lines = done.lines;
+    unused = [];
+    begun = inr (record {
+      read = subst (λ (after : Bytes). HasReadAll reader_old.left after done.lines) (sym (prepend_nothing reader_new.left)) done.read;
+      text = text;
+      tells = tells;
+      begun = subst (λ (all : List ℕ). Begins writer_old writer_new all) whole_is
+          (begun_whole Stands (λ past. notes (moments past)) has_diagnostics reader_old reader_new writer_old writer_middle writer_new done last text begins);
+    });
+  }
+
+  -- all was written
+  abbrev pub reports_all : (all : List Given) → AreHeld all (moments (reverse done.lines)) → (held : List Entry) → held ≡ entries_of all → (status : Status) → Wrote writer_middle writer_new (diagnostics_text last ++ text)
+      → status ≡ (if has_diagnostics || (has_some last || has_some held) then Found else Clean)
+      → Reports moments Tells status reader_old reader_new writer_old writer_new
+  reports_all all are_held held same status wrote is = record {
+    lines = done.lines;
+    read = done.read;
+    text = text;
+    tells = tells;
+    wrote = subst (λ (all : List ℕ). Wrote writer_old writer_new all) whole_is
+        (wrote_whole Stands (λ past. notes (moments past)) has_diagnostics reader_old reader_new writer_old writer_middle writer_new done last text wrote);
+    all = all;
+    held = are_held;
+    status_is = status_whole Stands (λ past. notes (moments past)) has_diagnostics reader_old reader_new writer_old writer_middle writer_new done last held status is
+        ∙ ap (λ (end : List Diagnostic). clean_or_found (notes (moments (reverse done.lines)) ++ end) held) last_is
+        ∙ ap (clean_or_found (all_diagnostics moments done.lines)) same;
+  }
+
 -- the diagnostic at the end, of a replay that stands for the lines
 pub half-is : (settings : Settings) (replay : Replayed) (lines : List (Result Event LineFault)) → StandsFor replay settings (reverse lines)
     → half replay.totals.lines replay.pending ≡ half (length lines) (pending (reverse lines))
 half-is settings replay lines stands =
     ap (λ n. half n replay.pending) (stands.lines_are ∙ length-reverse lines) ∙ ap (half (length lines)) stands.pending_is
 
--- what a replay that stands for the lines writes at the end
-pub whole_is : (report : Report) (settings : Settings) (replay : Replayed) (lines : List ReadLine) → StandsFor replay settings (reverse lines)
-    → diagnostics_text (heap_notes settings (reverse lines) ++ half replay.totals.lines replay.pending) ++ report_text report (entries replay) replay.totals replay.content
-    ≡ whole_text report settings lines replay.given replay.totals
-whole_is report settings replay lines stands =
-    ap (λ last. diagnostics_text (heap_notes settings (reverse lines) ++ last) ++ report_text report (entries replay) replay.totals replay.content) (half-is settings replay lines stands)
-    ∙ ap (λ content. diagnostics_text (diagnostics settings lines) ++ report_text report (entries replay) replay.totals content) stands.content_is
+-- what a replay writes at the end
+abbrev pub end_text : Report → Replayed → List ℕ
+end_text report replay =
+    diagnostics_text (half replay.totals.lines replay.pending) ++ report_text report (entries replay) replay.totals replay.content
+
+-- the text of the report of a replay that stands for the lines
+abbrev pub report_tells : (report : Report) (settings : Settings) (replay : Replayed) (lines : List ReadLine) → StandsFor replay settings (reverse lines)
+    → TellsReport report settings lines (report_text report (entries replay) replay.totals replay.content)
+report_tells report settings replay lines stands = record {
+  all = replay.given;
+  held = stands.held;
+  totals = replay.totals;
+  summed = stands.totals;
+  text_is = ap (report_text report (entries replay) replay.totals) stands.content_is;
+}
 
 -- no line has diagnostics
 pub no_notes : (settings : Settings) → heap_notes settings [] ≡ []
@@ -105,12 +160,12 @@ notes_more settings line past = ap notes (moments-line (started settings) line p
 -- the writer failed at a line's diagnostics
 pub stops_at_write : (report : Report) (settings : Settings) (Stands : List ReadLine → Type 0) (replay : Replayed) (reader_old reader_new : ReaderState) (writer_old writer_new : WriterState)
     → ((past : List ReadLine) → Stands past → StandsFor replay settings past) → StopsWriting Stands (heap_notes settings) reader_old reader_new writer_old writer_new
-    → StopsAtWrite report settings reader_old reader_new writer_old writer_new
+    → StopsAtWrite HasReadUpTo (moments (started settings)) (TellsReport report settings) reader_old reader_new writer_old writer_new
 stops_at_write report settings Stands replay reader_old reader_new writer_old writer_new also stops =
     let lines = stops.lines in
     let stands = also (reverse lines) stops.stands in
     let notes = heap_notes settings (reverse lines) in
-    let last = half replay.totals.lines replay.pending in
+    let last = half (length lines) (pending (reverse lines)) in
     let told = report_text report (entries replay) replay.totals replay.content in
     record {
       lines = lines;
@@ -119,12 +174,9 @@ stops_at_write report settings Stands replay reader_old reader_new writer_old wr
         | inl reading ↦ inl (reading, stops.begun)
         | inr all ↦ inr (record {
           read = all;
-          all = replay.given;
-          held = stands.held;
-          totals = replay.totals;
-          summed = stands.totals;
-          begun = subst (λ (text : List ℕ). Begins writer_old writer_new text) (sym (text_is notes last told) ∙ whole_is report settings replay lines stands)
-              (Begins-longer writer_old writer_new (diagnostics_text notes) (diagnostics_text last ++ told) stops.begun);
+          text = told;
+          tells = report_tells report settings replay lines stands;
+          begun = subst (λ (text : List ℕ). Begins writer_old writer_new text) (sym (text_is notes last told)) (Begins-longer writer_old writer_new (diagnostics_text notes) (diagnostics_text last ++ told) stops.begun);
         })
       ];
     }
@@ -157,37 +209,20 @@ module _ (report : Report) (settings : Settings) (replay : Replayed) (has_diagno
   its_text = report_text report (entries replay) replay.totals replay.content
 
   -- the writer failed at the end
-  pub report_write : Begins writer_middle writer_new (end_text report replay) → StopsAtWrite report settings reader_old reader_new writer_old writer_new
-  report_write begins = record {
-    lines = done.lines;
-    unused = [];
-    begun = inr (record {
-      read = subst (λ (after : Bytes). HasReadAll reader_old.left after done.lines) (sym (prepend_nothing reader_new.left)) done.read;
-      all = replay.given;
-      held = done.stands.held;
-      totals = replay.totals;
-      summed = done.stands.totals;
-      begun = subst (λ (text : List ℕ). Begins writer_old writer_new text) (whole_is report settings replay done.lines done.stands)
-          (begun_whole _ (heap_notes settings) has_diagnostics reader_old reader_new writer_old writer_middle writer_new done its_last its_text begins);
-    });
-  }
+  pub report_write : Begins writer_middle writer_new (end_text report replay)
+      → StopsAtWrite HasReadUpTo (moments (started settings)) (TellsReport report settings) reader_old reader_new writer_old writer_new
+  report_write begins =
+      begins_report (λ past. StandsFor replay settings past) (moments (started settings)) (TellsReport report settings) has_diagnostics reader_old reader_new writer_old writer_middle writer_new done
+      its_last (half-is settings replay done.lines done.stands) its_text (report_tells report settings replay done.lines done.stands) HasReadUpTo begins
 
   -- all was written
   abbrev pub report_all : (status : Status) → Wrote writer_middle writer_new (end_text report replay)
       → status ≡ (if has_diagnostics || (has_some its_last || has_some (entries replay)) then Found else Clean)
-      → Reports report settings status reader_old reader_new writer_old writer_new
-  report_all status wrote is = record {
-    lines = done.lines;
-    read = done.read;
-    all = replay.given;
-    held = done.stands.held;
-    totals = replay.totals;
-    summed = done.stands.totals;
-    wrote = subst (λ (text : List ℕ). Wrote writer_old writer_new text) (whole_is report settings replay done.lines done.stands)
-        (wrote_whole _ (heap_notes settings) has_diagnostics reader_old reader_new writer_old writer_middle writer_new done its_last its_text wrote);
-    status_is = status_whole _ (heap_notes settings) has_diagnostics reader_old reader_new writer_old writer_middle writer_new done its_last (entries replay) status is
-        ∙ ap (λ last. clean_or_found (heap_notes settings (reverse done.lines) ++ last) (entries replay)) (half-is settings replay done.lines done.stands);
-  }
+      → ReportsOnHeap report settings status reader_old reader_new writer_old writer_new
+  report_all status wrote is =
+      reports_all (λ past. StandsFor replay settings past) (moments (started settings)) (TellsReport report settings) has_diagnostics reader_old reader_new writer_old writer_middle writer_new done
+      its_last (half-is settings replay done.lines done.stands) its_text (report_tells report settings replay done.lines done.stands)
+      replay.given done.stands.held (entries replay) refl status wrote is
 
 -- all was written of a run that makes no report, and the replay in the end
 unfoldable pub ends_at : (settings : Settings) (replay end : Replayed) (has_diagnostics : Bool) (status : Status) (reader_old reader_new : ReaderState) (writer_old writer_middle writer_new : WriterState)

@@ -9,7 +9,7 @@ use Rattle.mtrace_log.specs.Output.{Begins, PutsAll, Puts}
 use Rattle.mtrace_log.specs.Trace.{flushed, HasFailedToWrite}
 use Rattle.mtrace_log.proofs.TraceLemmas.{moved_then_last}
 use Rattle.mtrace_log.proofs.Writing.{Begins-all}
-use Rattle.mtrace_replay.specs.Saving.{PutsAndFlushes}
+use Rattle.mtrace_replay.specs.Reporting.{PutsAndFlushes}
 
 -- a call that failed put a beginning
 pub put_failed : {T E : Type 0} (result : Result T E) (text : List ℕ) (old new : WriterState)

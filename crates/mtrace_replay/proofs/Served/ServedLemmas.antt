@@ -13,7 +13,7 @@ use Rattle.mtrace_replay.specs.Texts.{total_size}
 use Rattle.mtrace_replay.specs.Ledger.{entry_under}
 use Rattle.mtrace_replay.specs.Calls.{no_calls}
 use Rattle.mtrace_replay.specs.Callers.{with_call, with_temporary, calls_in, temporary_in, AreCounted}
-use Rattle.mtrace_replay.specs.Served.{CountsAct, unplaced, all_served, served_moment, served_moments, found_in, Standing, IsServed, IsAtPeak, RaisesPeak, served_noted}
+use Rattle.mtrace_replay.specs.Served.{CountsAct, unplaced, all_served, served_moment, served_moments, found_in, Standing, StandsWithoutHeap, IsAtPeak, RaisesPeak, served_noted}
 use Rattle.tlsf_heap.proofs.Counts.{count-cons}
 use Rattle.mtrace_replay.proofs.Served.CallsLemmas.{adds}
 use Rattle.mtrace_replay.proofs.History.FoundLemmas.{found_is_held, held_as_found, none_held}
@@ -48,7 +48,7 @@ length-served (line ∷ past) = ap suc (length-served past)
 abbrev pub none_yet : Standing
 none_yet = record { all = []; lines = 0; served = 0; peak_bytes = 0; peak_line = 0; peak_blocks = 0; at_peak = []; called = record { callers = []; total = no_calls }; pending = None }
 
-pub none_served : IsServed none_yet []
+pub none_served : StandsWithoutHeap none_yet []
 unfolding served_moments
 none_served = record {
   lines_are = refl;
@@ -65,7 +65,7 @@ none_served = record {
   called = record { calls_are = λ p. refl; bytes_are = λ p. refl; temporary_are = λ p. refl; total = refl };
 }
 
-module _ (old new : Standing) (past : List ReadLine) (line : ReadLine) (stands : IsServed old past)
+module _ (old new : Standing) (past : List ReadLine) (line : ReadLine) (stands : StandsWithoutHeap old past)
     (serves : (address : ℕ) → found_in new.all address ≡ held_after (all_served (plan (old.lines + 1) line old.pending (found_in old.all))) (found_in old.all) address)
     (rises : IsStrictlyIncreasing (map (λ (entry : Entry). entry.addr) new.all)) where
   look_is : found_in old.all ≡ held (served_moments past)
@@ -122,7 +122,7 @@ module _ (old new : Standing) (past : List ReadLine) (line : ReadLine) (stands :
       ∙ ap (λ (planned : Plan). (if is_new line then [] else half (length past) (pending past)) ++ (all_served planned).diagnostics) plan_is))
 
 -- The replay stands for one line more, behind which this is held, and then the peak was raised.
-module _ (old middle new : Standing) (past : List ReadLine) (line : ReadLine) (stands : IsServed old past) (held : AreHeld (map unplaced middle.all) (served_moments (line ∷ past)))
+module _ (old middle new : Standing) (past : List ReadLine) (line : ReadLine) (stands : StandsWithoutHeap old past) (held : AreHeld (map unplaced middle.all) (served_moments (line ∷ past)))
     (lines : middle.lines ≡ suc (length past)) (bytes : middle.peak_bytes ≡ old.peak_bytes) (peak_line : middle.peak_line ≡ old.peak_line)
     (blocks : middle.peak_blocks ≡ old.peak_blocks) (at_peak : middle.at_peak ≡ old.at_peak) (raises : RaisesPeak middle new) where
   abbrev now : List Moment
@@ -176,7 +176,7 @@ module _ (old middle new : Standing) (past : List ReadLine) (line : ReadLine) (s
         sites = λ all held. subst (λ (sites : List Site). AreTallied (entries_of all) sites) (sym sites_are) (stands.at_peak.sites all held);
       })
 
-  pub raised : AreCounted (calls_in now) (temporary_in (line ∷ past) now) middle.called → middle.served ≡ count_by is_served (served_moments (line ∷ past)) → middle.pending ≡ old_address line → IsServed new (line ∷ past)
+  pub raised : AreCounted (calls_in now) (temporary_in (line ∷ past) now) middle.called → middle.served ≡ count_by is_served (served_moments (line ∷ past)) → middle.pending ≡ old_address line → StandsWithoutHeap new (line ∷ past)
   raised called served pending_is = record {
     lines_are = raises.lines ∙ lines;
     served_are = raises.served ∙ served;

@@ -21,11 +21,12 @@ use Rattle.mtrace_replay.proofs.History.TotalsLemmas.{measure_is_one}
 use Rattle.mtrace_replay.specs.Moment.{ReadLine, Given, half}
 use Rattle.mtrace_replay.specs.History.{held, pending, entries_of}
 use Rattle.mtrace_replay.specs.Texts.{diagnostics_text, leaks_report, both_sections, clean_or_found, total_size}
-use Rattle.mtrace_replay.specs.Served.{unplaced, served_moments, served_history, served_noted, served_diagnostics, Standing, IsServed, totals_of}
-use Rattle.mtrace_replay.specs.RunServed.{whole_served, AreServedTotals, TellsServedSites, TellsServed, ReportsServed, ServedEnds, EndsServed, StopsServedAtWrite, served_end}
-use Rattle.mtrace_replay.specs.Following.{has_some, HasFollowed, StopsWanting, ReadEnds}
+use Rattle.mtrace_replay.specs.Served.{unplaced, served_moments, served_history, served_noted, served_diagnostics, Standing, StandsWithoutHeap, totals_of}
+use Rattle.mtrace_replay.specs.RunServed.{AreServedTotals, TellsServedSites, TellsServed, ReportsServed, ServedEnds, EndsServed}
+use Rattle.mtrace_replay.specs.Following.{HasReadThese, has_some, HasFollowed, StopsWanting, ReadEnds}
+use Rattle.mtrace_replay.specs.Reporting.{StopsAtWrite}
 use Rattle.mtrace_replay.proofs.Running.ReplayingLemmas.{prepend_nothing}
-use Rattle.mtrace_replay.proofs.Running.RunLemmas.{wrote_whole, begun_whole, status_whole}
+use Rattle.mtrace_replay.proofs.Running.RunLemmas.{begins_report, reports_all}
 use Rattle.mtrace_replay.proofs.Served.ServedLemmas.{length-served, entries_unplaced}
 
 -- no line has diagnostics
@@ -44,16 +45,12 @@ served_stops report Stands Lacks fault.OutOfMemory reader_old reader_new writer_
 served_stops report Stands Lacks fault.BadSettings reader_old reader_new writer_old writer_new ends = ends
 served_stops report Stands Lacks fault.Image reader_old reader_new writer_old writer_new ends = ends
 
-module _ (replay : Standing) (lines : List ReadLine) (stands : IsServed replay (reverse lines)) where
+module _ (replay : Standing) (lines : List ReadLine) (stands : StandsWithoutHeap replay (reverse lines)) where
   abbrev given_of : List Given
   given_of = map unplaced replay.all
 
   pub half_is : half replay.lines replay.pending ≡ half (length lines) (pending (reverse lines))
   half_is = ap (λ n. half n replay.pending) (stands.lines_are ∙ length-reverse lines) ∙ ap (half (length lines)) stands.pending_is
-
-  -- what a replay that stands for the lines writes at the end
-  pub end_is : (text : List ℕ) → diagnostics_text (served_noted (reverse lines) ++ half replay.lines replay.pending) ++ text ≡ whole_served lines text
-  end_is text = ap (λ last. diagnostics_text (served_noted (reverse lines) ++ last) ++ text) half_is
 
   pub summed : AreServedTotals (served_history lines) (totals_of replay)
   summed = record {
@@ -106,46 +103,33 @@ module _ (replay : Standing) (lines : List ReadLine) (stands : IsServed replay (
   prepared_tells report.Nothing prepared.Nothing is named = refl
   prepared_tells report prepared is named = absurd is
 
+-- what is written at the end: the diagnostic of the last line, and then the text of the report
+abbrev pub served_end : Standing → List ℕ → List ℕ
+served_end replay text = diagnostics_text (half replay.lines replay.pending) ++ text
+
 module _ (report : LedgerReport) (replay : Standing) (has_diagnostics : Bool) (reader_old reader_new : ReaderState) (writer_old writer_middle writer_new : WriterState)
-    (done : HasFollowed (λ past. IsServed replay past) served_noted has_diagnostics reader_old reader_new writer_old writer_middle) (prepared : Prepared) (is_of : IsOf report prepared) (named : HasNamed replay prepared) where
+    (done : HasFollowed (λ past. StandsWithoutHeap replay past) served_noted has_diagnostics reader_old reader_new writer_old writer_middle) (prepared : Prepared) (is_of : IsOf report prepared) (named : HasNamed replay prepared) where
   abbrev its_text : List ℕ
   its_text = prepared_text replay prepared
 
   -- the writer failed at the end
-  pub served_write : Begins writer_middle writer_new (served_end replay its_text) → StopsServedAtWrite report reader_old reader_new writer_old writer_new
-  served_write begins = record {
-    lines = done.lines;
-    unused = [];
-    begun = inr (record {
-      read = subst (λ (after : Bytes). HasReadAll reader_old.left after done.lines) (sym (prepend_nothing reader_new.left)) done.read;
-      text = its_text;
-      tells = prepared_tells replay done.lines done.stands report prepared is_of named;
-      begun = subst (λ (text : List ℕ). Begins writer_old writer_new text) (end_is replay done.lines done.stands its_text)
-          (begun_whole _ served_noted has_diagnostics reader_old reader_new writer_old writer_middle writer_new done (half replay.lines replay.pending) its_text begins);
-    });
-  }
+  pub served_write : Begins writer_middle writer_new (served_end replay its_text) → StopsAtWrite HasReadThese served_moments (TellsServed report) reader_old reader_new writer_old writer_new
+  served_write begins =
+      begins_report (λ past. StandsWithoutHeap replay past) served_moments (TellsServed report) has_diagnostics reader_old reader_new writer_old writer_middle writer_new done
+      (half replay.lines replay.pending) (half_is replay done.lines done.stands) its_text (prepared_tells replay done.lines done.stands report prepared is_of named) HasReadThese begins
 
   -- all was written
   unfoldable pub served_all : (status : Status) → Wrote writer_middle writer_new (served_end replay its_text)
       → status ≡ (if has_diagnostics || (has_some (half replay.lines replay.pending) || has_some replay.all) then Found else Clean)
       → ReportsServed report status reader_old reader_new writer_old writer_new
-  served_all status wrote is = record {
-    lines = done.lines;
-    read = done.read;
-    text = its_text;
-    tells = prepared_tells replay done.lines done.stands report prepared is_of named;
-    wrote = subst (λ (text : List ℕ). Wrote writer_old writer_new text) (end_is replay done.lines done.stands its_text)
-        (wrote_whole _ served_noted has_diagnostics reader_old reader_new writer_old writer_middle writer_new done (half replay.lines replay.pending) its_text wrote);
-    all = given_of replay done.lines done.stands;
-    held = done.stands.held;
-    status_is = status_whole _ served_noted has_diagnostics reader_old reader_new writer_old writer_middle writer_new done (half replay.lines replay.pending) replay.all status is
-        ∙ ap (λ last. clean_or_found (served_noted (reverse done.lines) ++ last) replay.all) (half_is replay done.lines done.stands)
-        ∙ ap (clean_or_found (served_diagnostics done.lines)) (sym (entries_unplaced replay.all));
-  }
+  served_all status wrote is =
+      reports_all (λ past. StandsWithoutHeap replay past) served_moments (TellsServed report) has_diagnostics reader_old reader_new writer_old writer_middle writer_new done
+      (half replay.lines replay.pending) (half_is replay done.lines done.stands) its_text (prepared_tells replay done.lines done.stands report prepared is_of named)
+      (given_of replay done.lines done.stands) done.stands.held replay.all (sym (entries_unplaced replay.all)) status wrote is
 
 -- a run without a report has ended, with this replay
 pub served_nothing : (replay : Standing) (has_diagnostics : Bool) (reader_old reader_new : ReaderState) (writer_old writer_middle writer_new : WriterState)
-    (done : HasFollowed (λ past. IsServed replay past) served_noted has_diagnostics reader_old reader_new writer_old writer_middle) (prepared : Prepared) (is_of : IsOf report.Nothing prepared) (named : HasNamed replay prepared) (status : Status)
+    (done : HasFollowed (λ past. StandsWithoutHeap replay past) served_noted has_diagnostics reader_old reader_new writer_old writer_middle) (prepared : Prepared) (is_of : IsOf report.Nothing prepared) (named : HasNamed replay prepared) (status : Status)
     → Wrote writer_middle writer_new (served_end replay (prepared_text replay prepared))
     → status ≡ (if has_diagnostics || (has_some (half replay.lines replay.pending) || has_some replay.all) then Found else Clean)
     → EndsServed status replay reader_old reader_new writer_old writer_new
@@ -157,5 +141,5 @@ served_nothing replay has_diagnostics reader_old reader_new writer_old writer_mi
 
 -- memory was refused behind the last line
 pub served_memory : (replay : Standing) (has_diagnostics : Bool) (reader_old reader_new : ReaderState) (writer_old writer_middle : WriterState)
-    → HasFollowed (λ past. IsServed replay past) served_noted has_diagnostics reader_old reader_new writer_old writer_middle → StopsWanting served_noted reader_old reader_new writer_old writer_middle
+    → HasFollowed (λ past. StandsWithoutHeap replay past) served_noted has_diagnostics reader_old reader_new writer_old writer_middle → StopsWanting served_noted reader_old reader_new writer_old writer_middle
 served_memory replay has_diagnostics reader_old reader_new writer_old writer_middle done = record { lines = done.lines; unused = []; reason = inr done.read; wrote = done.wrote }

@@ -2,7 +2,7 @@
 
 ghost use Rattle.std.specs.Prelude.{◌≡◌, List};
 ghost use Rattle.mtrace_replay.specs.Moment.{ReadLine};
-ghost use Rattle.mtrace_replay.specs.Served.{IsServed, served_moments};
+ghost use Rattle.mtrace_replay.specs.Served.{StandsWithoutHeap, served_moments};
 ghost use Rattle.mtrace_replay.specs.ServedTimeline.{IsLedgerPoint};
 
 use super::replay::LedgerReplay;
@@ -21,7 +21,7 @@ pub(crate) struct LedgerPoint {
 /// What is held after the lines that were followed.
 pub(crate) fn ledger_point(replay: &LedgerReplay) -> LedgerPoint
     ensures line { result.line ≡ replay.now.lines }
-    ensures point { (past : List ReadLine) → IsServed replay.now past → IsLedgerPoint (served_moments past) result }
+    ensures point { (past : List ReadLine) → StandsWithoutHeap replay.now past → IsLedgerPoint (served_moments past) result }
 {
     let totals = replay.totals();
     LedgerPoint {

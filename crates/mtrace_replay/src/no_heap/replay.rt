@@ -3,7 +3,7 @@
 ghost use Rattle.std.specs.Prelude.{◌≡◌, ◌+◌, ◌<◌, [], length};
 ghost use Rattle.mtrace_replay.specs.Texts.{total_size};
 ghost use Rattle.mtrace_replay.specs.Moment.{half};
-ghost use Rattle.mtrace_replay.specs.Served.{IsServed, FeedsLedger, RaisesPeak, totals_of};
+ghost use Rattle.mtrace_replay.specs.Served.{StandsWithoutHeap, FeedsLedger, RaisesPeak, totals_of};
 
 use super::ledger::Ledger;
 use super::line::outcome;
@@ -70,7 +70,7 @@ impl Model for LedgerReplay {
 impl LedgerReplay {
     /// A replay of no line yet. It takes no memory.
     pub fn new(alloc: Global, seed: RandomState) -> LedgerReplay
-        ensures { IsServed result [] }
+        ensures { StandsWithoutHeap result [] }
     {
         LedgerReplay {
             ledger: Ledger::new(alloc, seed),

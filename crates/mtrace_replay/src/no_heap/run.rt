@@ -4,13 +4,16 @@ ghost use Rattle.std.specs.Prelude.{◌≡◌, ◌++◌, IfOk};
 ghost use Rattle.mtrace_log.specs.Output.{Puts};
 ghost use Rattle.mtrace_replay.specs.Texts.{diagnostics_text};
 ghost use Rattle.mtrace_replay.specs.Prepared.{HasNamed, prepared_text};
-ghost use Rattle.mtrace_replay.specs.RunServed.{RunsServed, FinishesServed, EndsServed, served_status};
+ghost use Rattle.mtrace_replay.specs.Moment.{half};
+ghost use Rattle.mtrace_replay.specs.Reporting.{Finishes};
+ghost use Rattle.mtrace_replay.specs.RunServed.{RunsServed, EndsServed, served_status};
 ghost use Rattle.mtrace_replay.specs.declared.no_heap.report.LedgerReport.TheVariants.{Nothing};
 
 use super::prepared::{Prepared, prepare};
 use super::replay::LedgerReplay;
 use super::report::{LedgerReport, put_ledger_report};
 use crate::held::diagnostic::Note;
+use crate::runs::flush::{flush_behind, status_at_end};
 use crate::runs::following::read_log;
 use crate::runs::run::put_diagnostics;
 use crate::runs::status::{RunFault, Status};
@@ -33,23 +36,23 @@ fn put_end<W: Sink>(
 }
 
 /// Puts what is wrong at the end and the report, and flushes. Answers the status.
+///
+/// # Errors
+///
+/// `Write` where the writer failed.
 pub(crate) fn finish<W: Sink>(
     writer: &mut W,
     replay: &LedgerReplay,
     has_diagnostics: bool,
     prepared: &Prepared<'_>,
-) -> Result<Status, Failed>
+) -> Result<Status, RunFault>
     requires named { HasNamed replay.now prepared.now }
-    ensures { FinishesServed (prepared_text replay.now prepared.now) has_diagnostics result replay.now (W.shown writer.old) (W.shown writer.new) }
+    ensures { Finishes (half replay.now.lines replay.now.pending) replay.now.all (prepared_text replay.now prepared.now) has_diagnostics result (W.shown writer.old) (W.shown writer.new) }
 {
     let diagnostics = replay.finish();
-    let is_found = has_diagnostics || !diagnostics.is_empty() || replay.ledger().len() > 0;
-    put_end(writer, replay, &diagnostics, prepared)?;
-    writer.flush()?;
-    if is_found {
-        return Ok(Status::Found);
-    }
-    Ok(Status::Clean)
+    let status = status_at_end(has_diagnostics, &diagnostics, replay.ledger().len() > 0);
+    let put = put_end(writer, replay, &diagnostics, prepared);
+    flush_behind(writer, put, status)
 }
 
 /// A run that read its log to the end: its status, and the replay then.

@@ -3,33 +3,38 @@
 ghost use Rattle.std.specs.Prelude.{◌≡◌, ℕ, suc, ◌+◌, ◌*◌, ◌^◌, ◌<◌, ◌≤◌, [], length, slice_index_or, true, false, Some, None, IfOk};
 ghost use Rattle.std.specs.List.{All};
 ghost use Rattle.mtrace_replay.specs.declared.parts.span.Span.{Span};
-ghost use Rattle.mtrace_replay.specs.Parts.{size_ranges, Part, IsLeastCut};
-ghost use Rattle.mtrace_replay.specs.Cuts.{cut_order, span_bytes, IsLesser, IsJoined, IsSmall, ArePartsIn, IsBest, AreBest};
+ghost use Rattle.mtrace_replay.specs.Parts.{size_ranges, Part, unbuilt, IsLeastCut};
+ghost use Rattle.mtrace_replay.specs.Cuts.{part_of, cut_order, span_bytes, IsLesser, IsJoined, IsSmall, ArePartsIn, IsBest, AreBest};
 
 use super::range::RANGES;
 use super::span::Span;
 use arrayvec::ArrayVec;
 use std::alloc::{AllocError, Global};
 use std::cmp::Ordering;
+use tlsf_class::GREATEST_SIZE;
+use tlsf_store::MOST_RECORDS;
 
 /// The most parts.
 pub(crate) const MOST_HEAPS: usize = 8;
 
-/// A cut of the ranges from one on: the last range of each part, and the bytes of all.
+/// A cut of the ranges from one on: the last range of each part, the bytes of all, and how many of them can't be built.
 #[derive(Drop)]
 pub(crate) struct Cut {
     pub(crate) ends: ArrayVec<u8, MOST_HEAPS>,
     pub(crate) bytes: u128,
+    pub(crate) unbuilt: u8,
 }
 
-/// Cuts are compared by their bytes, then by how many parts they make, and then by where these end.
+/// Cuts are compared by how many of their parts can't be built, then by their bytes, then by how many parts they make, and then by
+/// where these end.
 fn order(one: &Cut, other: &Cut) -> Ordering
     ensures { result ≡ cut_order one.now other.now }
 {
+    let by_unbuilt = one.unbuilt.cmp(&other.unbuilt);
     let by_bytes = one.bytes.cmp(&other.bytes);
     let by_count = one.ends.len().cmp(&other.ends.len());
     let by_ends = one.ends.as_slice().cmp(other.ends.as_slice());
-    by_bytes.then(by_count.then(by_ends))
+    by_unbuilt.then(by_bytes.then(by_count.then(by_ends)))
 }
 
 /// The lesser of two cuts, where there are two.
@@ -56,6 +61,17 @@ fn bytes_of(span: &Span) -> u128
     u128::from(span.most) * u128::from(span.size)
 }
 
+/// How many heaps can't be built for the part that serves the ranges of a span: 0 or 1.
+fn unbuilt_of(span: &Span) -> u8
+    ensures is { result ≡ unbuilt (part_of span.now) }
+    ensures most { result ≤ 1 }
+{
+    if bytes_of(span) > u128::from(GREATEST_SIZE) || span.most > u64::from(MOST_RECORDS) {
+        return 1;
+    }
+    0
+}
+
 /// The cut whose first part serves the ranges of a span, before a cut of the ranges behind them. `None` where there is none of these.
 fn joined(span: &Span, rest: &Option<Cut>) -> Option<Cut>
     requires small { IsSmall 7 rest.now }
@@ -71,6 +87,7 @@ fn joined(span: &Span, rest: &Option<Cut>) -> Option<Cut>
     Some(Cut {
         ends,
         bytes: bytes_of(span) + rest.bytes,
+        unbuilt: unbuilt_of(span) + rest.unbuilt,
     })
 }
 
@@ -91,10 +108,12 @@ fn is_unused_from(spans: &[Span], first: u8) -> bool
 fn no_parts() -> Cut
     ensures ends { result.ends.items ≡ [] }
     ensures bytes { result.bytes ≡ 0 }
+    ensures unbuilt { result.unbuilt ≡ 0 }
 {
     Cut {
         ends: ArrayVec::new(),
         bytes: 0,
+        unbuilt: 0,
     }
 }
 

@@ -3,7 +3,7 @@
 ghost use Rattle.std.specs.Prelude.{◌≡◌, ℕ, suc, ◌+◌, ◌^◌, ◌<◌, List, [], ◌∷◌, Some, None, OnOk, IfOk, if◌then◌else◌};
 ghost use Rattle.std.specs.List.{All};
 ghost use Rattle.mtrace_replay.specs.Moment.{ReadLine};
-ghost use Rattle.mtrace_replay.specs.Served.{IsServed};
+ghost use Rattle.mtrace_replay.specs.Served.{StandsWithoutHeap};
 ghost use Rattle.mtrace_replay.specs.Spans.{AreCountedOf, AreFew};
 ghost use Rattle.mtrace_replay.specs.CountedReplay.{IsChangeOf, FeedsCounted};
 
@@ -52,7 +52,7 @@ impl CountedReplay {
     ///
     /// `AllocError` where memory is refused.
     pub(crate) fn new(alloc: Global, seed: RandomState) -> Result<CountedReplay, AllocError>
-        ensures served { IfOk result (λ replay. IsServed replay.ledger []) }
+        ensures served { IfOk result (λ replay. StandsWithoutHeap replay.ledger []) }
         ensures counted { IfOk result (λ replay. AreCountedOf [] replay.spans) }
         ensures few { IfOk result (λ replay. AreFew 0 replay.spans) }
     {

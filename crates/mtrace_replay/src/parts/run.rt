@@ -1,9 +1,9 @@
 //! The run that tells which heaps by size serve a log.
 
-ghost use Rattle.std.specs.Prelude.{◌≡◌, ◌≤◌, ◌<◌, ℕ, reverse, length, map, List};
+ghost use Rattle.std.specs.Prelude.{◌≡◌, ◌≤◌, ◌<◌, ℕ, reverse, length, map, List, IfOk};
 ghost use Rattle.mtrace_replay.specs.Course.{course};
 ghost use Rattle.mtrace_replay.specs.declared.parts.span.Span.{Span};
-ghost use Rattle.mtrace_replay.specs.Served.{IsServed};
+ghost use Rattle.mtrace_replay.specs.Served.{StandsWithoutHeap};
 ghost use Rattle.mtrace_replay.specs.Spans.{AreCountedOf};
 ghost use Rattle.mtrace_replay.specs.Moment.{ReadLine};
 ghost use Rattle.mtrace_replay.specs.Parts.{Part, size_ranges, IsCut, parts_of};
@@ -63,8 +63,9 @@ fn tell_parts<W: Sink>(
     requires some { 0 < heaps }
     requires few { heaps ≤ 8 }
     requires lines { HasLines replay.now }
-    ensures { (lines : List ReadLine) → IsServed replay.now.ledger (reverse lines) → AreCountedOf (reverse lines) replay.now.spans
-        → PartsFollow heaps lines status result (W.shown writer.old) (W.shown writer.new) }
+    ensures answer { IfOk result (λ answered. answered ≡ status) }
+    ensures told { (lines : List ReadLine) → StandsWithoutHeap replay.now.ledger (reverse lines) → AreCountedOf (reverse lines) replay.now.spans
+        → PartsFollow heaps lines result (W.shown writer.old) (W.shown writer.new) }
 {
     let totals = replay.ledger.totals();
     let Some(spans) = &replay.spans else {

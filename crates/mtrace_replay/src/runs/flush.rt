@@ -1,12 +1,24 @@
-//! The end of a text.
+//! The end of a run, and of a text.
 
-ghost use Rattle.std.specs.Prelude.{◌≡◌, List, ℕ, IfOk, IfErr};
+ghost use Rattle.std.specs.Prelude.{◌≡◌, ◌||◌, List, ℕ, IfOk, IfErr, if◌then◌else◌};
 ghost use Rattle.mtrace_log.specs.Output.{Puts};
 ghost use Rattle.mtrace_log.specs.Shown.{WriterState};
-ghost use Rattle.mtrace_replay.specs.Saving.{PutsAndFlushes};
+ghost use Rattle.mtrace_replay.specs.Following.{has_some};
+ghost use Rattle.mtrace_replay.specs.Reporting.{PutsAndFlushes};
 
+use crate::held::diagnostic::Note;
 use crate::runs::status::{RunFault, Status};
 use mtrace_log::{Failed, Sink};
+
+/// The status at the end of a log, by whether a line had a diagnostic, by what is wrong at the end, and by whether anything is held.
+pub(crate) fn status_at_end(has_diagnostics: bool, last: &Note, is_held: bool) -> Status
+    ensures { result ≡ (if has_diagnostics || (has_some last.now.items || is_held) then Status.Found else Status.Clean) }
+{
+    if has_diagnostics || !last.is_empty() || is_held {
+        return Status::Found;
+    }
+    Status::Clean
+}
 
 /// Flushes behind a text, unless it wasn't put, and answers this status.
 ///

@@ -5,7 +5,9 @@ ghost use Rattle.mtrace_log.specs.Output.{Puts};
 ghost use Rattle.mtrace_replay.specs.Course.{course};
 ghost use Rattle.mtrace_replay.specs.Texts.{diagnostic_text, diagnostics_text, report_text};
 ghost use Rattle.mtrace_replay.specs.Replay.{entries};
-ghost use Rattle.mtrace_replay.specs.Run.{Runs, EndsAt, status_in, PutsReport, Finishes};
+ghost use Rattle.mtrace_replay.specs.Moment.{half};
+ghost use Rattle.mtrace_replay.specs.Reporting.{Finishes};
+ghost use Rattle.mtrace_replay.specs.Run.{Runs, EndsAt, status_in, PutsReport};
 
 use crate::heap::replay::{Replay, ReplayFault};
 use crate::heap::settings::Settings;
@@ -13,6 +15,7 @@ use crate::held::diagnostic::{Diagnostic, Note};
 use crate::held::findings::Findings;
 use crate::held::line_text::diagnostic_text;
 use crate::held::lines::{InLine, put_lines};
+use crate::runs::flush::{flush_behind, status_at_end};
 use crate::runs::following::read_log;
 use crate::runs::report::{Report, put_report};
 use crate::runs::status::{RunFault, Status};
@@ -63,25 +66,27 @@ fn put_end<H: Heaped, W: Sink>(
 }
 
 /// Puts what is wrong at the end and the report, and flushes. Answers the status.
+///
+/// # Errors
+///
+/// `Write` where the writer failed.
 pub(crate) fn finish<H: Heaped, W: Sink>(
     writer: &mut W,
     replay: &mut Replay<H>,
     has_diagnostics: bool,
     report: Report,
-) -> Result<Status, Failed>
+) -> Result<Status, RunFault>
     requires works { replay.old.out_of_memory ≡ false }
-    ensures { Finishes report has_diagnostics result replay.old replay.new (W.shown writer.old) (W.shown writer.new) }
+    ensures finished { Finishes (half replay.old.totals.lines replay.old.pending) (entries replay.old) (report_text report (entries replay.old) replay.old.totals replay.old.content)
+        has_diagnostics result (W.shown writer.old) (W.shown writer.new) }
+    ensures kept { report ≡ Report.Nothing → replay.new ≡ replay.old }
 {
     let Ok(diagnostics) = replay.finish() else {
         unreachable!();
     };
-    let is_found = has_diagnostics || !diagnostics.is_empty() || replay.blocks() > 0;
-    put_end(writer, replay, &diagnostics, report)?;
-    writer.flush()?;
-    if is_found {
-        return Ok(Status::Found);
-    }
-    Ok(Status::Clean)
+    let status = status_at_end(has_diagnostics, &diagnostics, replay.blocks() > 0);
+    let put = put_end(writer, replay, &diagnostics, report);
+    flush_behind(writer, put, status)
 }
 
 /// A run that read its log to the end: its status, and the replay then.

@@ -3,7 +3,7 @@
 ghost use Rattle.std.specs.Prelude.{◌≡◌, ◌≤◌, length, map, option_map, None, IfSome, IfOk, IfErr, if◌then◌else◌};
 ghost use Rattle.mtrace_replay.specs.PartsText.{part_in};
 ghost use Rattle.mtrace_replay.specs.SizeParts.{part_for, parts_for, are_bad_parts, sized_parts_text, RunsSizeParts};
-ghost use Rattle.mtrace_replay.specs.Saving.{PutsAndFlushes};
+ghost use Rattle.mtrace_replay.specs.Reporting.{PutsAndFlushes};
 
 use crate::parts::text::{PartOf, put_behind};
 use crate::runs::flush::flush_behind;

@@ -13,9 +13,9 @@ returns-in-Ok-finished-clause-ran g c =
     record {
       ends = record {
         finished = served_all c.args.report c.read_log.new.replay _ _ _ _ _ _ done.0 c.in-Ok-prepare.prepared c.in-Ok-prepare.ensures.report c.in-Ok-prepare.ensures.named
-            c.in-Ok-finished.status c.in-Ok-finished.ensures.all c.in-Ok-finished.ensures.status;
+            c.in-Ok-finished.status c.in-Ok-finished.ensures.put.0 c.in-Ok-finished.ensures.status;
         reader_ended = done.1;
-        writer_flushed = moved_then_append Took Flushed _ _ _ done.2 c.in-Ok-finished.ensures.flushed;
+        writer_flushed = moved_then_append Took Flushed _ _ _ done.2 c.in-Ok-finished.ensures.put.1;
       };
       whole = c.read_log.ensures.whole;
     }
@@ -24,7 +24,7 @@ returns-in-Ok-finished-clause-ran g c =
 pub returns-in-Ok-finished-clause-last : goal.returns-in-Ok-finished-clause-last
 returns-in-Ok-finished-clause-last g c = λ is.
     served_nothing c.read_log.new.replay _ _ _ _ _ _ (c.in-Ok.ensures.ends tt c.new-replay.ensures no_notes).0 c.in-Ok-prepare.prepared
-    (subst (λ report. IsOf report c.in-Ok-prepare.prepared) is c.in-Ok-prepare.ensures.report) c.in-Ok-prepare.ensures.named c.in-Ok-finished.status c.in-Ok-finished.ensures.all c.in-Ok-finished.ensures.status
+    (subst (λ report. IsOf report c.in-Ok-prepare.prepared) is c.in-Ok-prepare.ensures.report) c.in-Ok-prepare.ensures.named c.in-Ok-finished.status c.in-Ok-finished.ensures.put.0 c.in-Ok-finished.ensures.status
 
 -- the writer failed at the end
 pub returns-in-Err-finished-clause-ran : goal.returns-in-Err-finished-clause-ran
@@ -32,8 +32,8 @@ returns-in-Err-finished-clause-ran g c =
     let done = c.in-Ok.ensures.ends tt c.new-replay.ensures no_notes in
     record {
       ends = record {
-        write_fault = served_write c.args.report c.read_log.new.replay _ _ _ _ _ _ done.0 c.in-Ok-prepare.prepared c.in-Ok-prepare.ensures.report c.in-Ok-prepare.ensures.named c.in-Err-finished.ensures.beginning;
-        writer_failed = failed_after _ _ _ done.2 c.in-Err-finished.ensures.failed;
+        write_fault = served_write c.args.report c.read_log.new.replay _ _ _ _ _ _ done.0 c.in-Ok-prepare.prepared c.in-Ok-prepare.ensures.report c.in-Ok-prepare.ensures.named c.in-Err-finished.ensures.put.0;
+        writer_failed = failed_after _ _ _ done.2 c.in-Err-finished.ensures.put.1;
         reader_not_failed = inr done.1;
       };
       whole = c.read_log.ensures.whole;

@@ -12,7 +12,7 @@ use Rattle.mtrace_replay.specs.declared.no_heap.point.LedgerPoint.{LedgerPoint}
 use Rattle.mtrace_replay.specs.declared.runs.reading.Stop.TheVariants.{Reader, Memory}
 use Rattle.mtrace_replay.specs.Again.{HasReadFirst}
 use Rattle.mtrace_replay.specs.Replaying.{HasGivenSo}
-use Rattle.mtrace_replay.specs.Served.{IsServed}
+use Rattle.mtrace_replay.specs.Served.{StandsWithoutHeap}
 use Rattle.mtrace_replay.specs.ServedTimeline.{IsPointOfLines}
 use Rattle.mtrace_replay.specs.Texts.{greatest}
 use Rattle.mtrace_replay.proofs.Running.ReplayingLemmas.{followed_start}
@@ -26,11 +26,11 @@ loop-number-init g c =
     let start = g.R.Source.shown c.begin.new.self in
     let items = c.in-Ok.ensures.items in
     let line_of : LedgerPoint → ℕ = λ point. point.line in
-    let G : List LedgerPoint → Progress → Type 0 = λ all lines. HasGathered line_of IsPointOfLines all (IsServed c.new-replay.result) lines start start in
+    let G : List LedgerPoint → Progress → Type 0 = λ all lines. HasGathered line_of IsPointOfLines all (StandsWithoutHeap c.new-replay.result) lines start start in
     let none : All (λ (point : LedgerPoint). point.line ≤ c.new-reading.result.count) [] = λ k other inside. absurd (omega (arith, inside)) in
     record {
       so_far = subst (λ all. G all c.new-reading.result) (sym items) (subst (G []) (sym c.new-reading.ensures)
-          (record { now = followed_start (IsServed c.new-replay.result) start c.new-replay.ensures; exact = λ k other inside. absurd (omega (arith, inside)) }));
+          (record { now = followed_start (StandsWithoutHeap c.new-replay.result) start c.new-replay.ensures; exact = λ k other inside. absurd (omega (arith, inside)) }));
       told = ap (map line_of) items;
       within = subst (All (λ (point : LedgerPoint). point.line ≤ c.new-reading.result.count)) (sym items) none;
       reached = ap (λ (lines : Progress). lines.count) c.new-reading.ensures;
@@ -91,10 +91,10 @@ loop-number-preserved g c =
     let line : point.line ≡ number = c.ledger_point.ensures.line ∙ read.counted ∙ read.reached in
     let up : c.loop-number.reading.count ≤ c.follow_up_to.new.self.count = omega (arith, kept.reached, up_to_next numbers index c.requires.rising c.loop-number-test.true, read.reached) in
     let next = read.following tt start kept.so_far.now in
-    let G : List LedgerPoint → Type 0 = λ all. HasGathered (λ (one : LedgerPoint). one.line) IsPointOfLines all (IsServed replay) c.follow_up_to.new.self start (reads c.follow_up_to.new.reader) in
+    let G : List LedgerPoint → Type 0 = λ all. HasGathered (λ (one : LedgerPoint). one.line) IsPointOfLines all (StandsWithoutHeap replay) c.follow_up_to.new.self start (reads c.follow_up_to.new.reader) in
     let all_are : points ++ point ∷ [] ≡ c.push_reserved.new.self.items = sym items in
     record {
-      so_far = subst G all_are (gathered_more (λ (one : LedgerPoint). one.line) IsPointOfLines points point (IsServed c.loop-number.replay) (IsServed replay) c.loop-number.reading c.follow_up_to.new.self
+      so_far = subst G all_are (gathered_more (λ (one : LedgerPoint). one.line) IsPointOfLines points point (StandsWithoutHeap c.loop-number.replay) (StandsWithoutHeap replay) c.loop-number.reading c.follow_up_to.new.self
           start (reads c.loop-number.reader) (reads c.follow_up_to.new.reader) kept.so_far next kept.within (c.ledger_point.ensures.line ∙ read.counted)
           (c.ledger_point.ensures.point (reverse next.now.lines) next.now.stands));
       told = lines_more (λ (one : LedgerPoint). one.line) numbers index points point c.push_reserved.new.self.items kept.told items line c.loop-number-test.true;
@@ -118,7 +118,7 @@ returns g c =
     record {
       done =
           let P : Bytes → Type 0 = λ start. HasReadFirst (greatest numbers) start (reads c.loop-number.reader).left so_far.now.lines in
-          let first = read_first (IsServed c.loop-number.replay) c.loop-number.reading (reads c.begin.new.self) (reads c.loop-number.reader) so_far.now c.holds_few.ensures in
+          let first = read_first (StandsWithoutHeap c.loop-number.replay) c.loop-number.reading (reads c.begin.new.self) (reads c.loop-number.reader) so_far.now c.holds_few.ensures in
           record {
             again = so_far.now.lines;
             read = subst P began.left (subst (λ n. HasReadFirst n (reads c.begin.new.self).left (reads c.loop-number.reader).left so_far.now.lines) (kept.reached ∙ ap greatest all) first);

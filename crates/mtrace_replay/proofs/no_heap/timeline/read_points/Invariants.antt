@@ -1,7 +1,7 @@
 use Rattle.std.proofs.Common.{◌≡◌, ◌≤◌, length, take, vec_len, vec_capacity}
 use Rattle.std.specs.List.{All}
 use Rattle.mtrace_replay.specs.declared.no_heap.point.LedgerPoint.{LedgerPoint}
-use Rattle.mtrace_replay.specs.Served.{IsServed}
+use Rattle.mtrace_replay.specs.Served.{StandsWithoutHeap}
 use Rattle.mtrace_replay.specs.ServedTimeline.{IsPointOfLines, ledger_lines_of}
 use Rattle.mtrace_replay.specs.Replaying.{HasGivenSo}
 use Rattle.mtrace_replay.specs.Texts.{greatest}
@@ -13,7 +13,7 @@ abbrev pub invariant-loop-number : goal.invariant-loop-number
 invariant-loop-number g l =
     let reads = g.R.Source.shown in
     record {
-      so_far : HasGathered (λ (point : LedgerPoint). point.line) IsPointOfLines l.points.items (IsServed l.replay) l.reading (reads l.initial.reader) (reads l.reader);
+      so_far : HasGathered (λ (point : LedgerPoint). point.line) IsPointOfLines l.points.items (StandsWithoutHeap l.replay) l.reading (reads l.initial.reader) (reads l.reader);
       told : ledger_lines_of l.points.items ≡ take l.number-index l.numbers;
       within : All (λ (point : LedgerPoint). point.line ≤ l.reading.count) l.points.items;
       reached : l.reading.count ≡ greatest (take l.number-index l.numbers);

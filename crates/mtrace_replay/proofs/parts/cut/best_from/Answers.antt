@@ -14,10 +14,10 @@ loop-span-init c = elim c.if-is_unused_from.branch [
   | then-is_unused_from w ↦ record {
     best = λ part most in_spans best_rests.
         subst (λ best. IsBestSoFar part most c.args.rests.now c.args.spans.now c.args.first 0 best) (sym w.best-is)
-        (none_so_far part most c.args.rests.now c.args.spans.now c.args.first in_spans best_rests w.no_parts.result w.no_parts.ensures.ends w.no_parts.ensures.bytes
+        (none_so_far part most c.args.rests.now c.args.spans.now c.args.first in_spans best_rests w.no_parts.result w.no_parts.ensures.ends w.no_parts.ensures.bytes w.no_parts.ensures.unbuilt
         (c.is_unused_from.ensures.unused w.if-is_unused_from.true));
     small = λ most small.
-        subst (IsSmall (suc most)) (sym w.best-is) (subst (λ ends. length ends ≤ suc most) (sym w.no_parts.ensures.ends) (omega arith), omega (arith, w.no_parts.ensures.bytes));
+        subst (IsSmall (suc most)) (sym w.best-is) (subst (λ ends. length ends ≤ suc most) (sym w.no_parts.ensures.ends) (omega arith), omega (arith, w.no_parts.ensures.bytes), omega (arith, w.no_parts.ensures.unbuilt));
   }
   | else-is_unused_from w ↦ record {
     best = λ part most in_spans best_rests.

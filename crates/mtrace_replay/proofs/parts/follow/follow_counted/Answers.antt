@@ -14,9 +14,9 @@ returns-in-Ok-finish-clause-ran g c =
     record {
       ends = record {
         finished = served_all Nothing c.read_log.new.replay.ledger _ _ _ _ _ _ (alone c.read_log.new.replay _ _ _ _ _ done.0) prepared.Nothing tt tt
-            c.in-Ok-finish.status c.in-Ok-finish.ensures.all c.in-Ok-finish.ensures.status;
+            c.in-Ok-finish.status c.in-Ok-finish.ensures.put.0 c.in-Ok-finish.ensures.status;
         reader_ended = done.1;
-        writer_flushed = moved_then_append Took Flushed _ _ _ done.2 c.in-Ok-finish.ensures.flushed;
+        writer_flushed = moved_then_append Took Flushed _ _ _ done.2 c.in-Ok-finish.ensures.put.1;
       };
       whole = c.read_log.ensures.whole;
     }
@@ -25,7 +25,7 @@ returns-in-Ok-finish-clause-ran g c =
 pub returns-in-Ok-finish-clause-last : goal.returns-in-Ok-finish-clause-last
 returns-in-Ok-finish-clause-last g c =
     counted_all c.read_log.new.replay _ _ _ _ _ _ (c.in-Ok.ensures.ends tt (c.requires.start.stands, c.requires.start.counted) no_notes).0 prepared.Nothing tt tt
-    c.in-Ok-finish.status c.in-Ok-finish.ensures.all c.in-Ok-finish.ensures.status
+    c.in-Ok-finish.status c.in-Ok-finish.ensures.put.0 c.in-Ok-finish.ensures.status
 
 -- the writer failed at the end
 pub returns-in-Err-finish-clause-ran : goal.returns-in-Err-finish-clause-ran
@@ -33,8 +33,8 @@ returns-in-Err-finish-clause-ran g c =
     let done = c.in-Ok.ensures.ends tt (c.requires.start.stands, c.requires.start.counted) no_notes in
     record {
       ends = record {
-        write_fault = served_write Nothing c.read_log.new.replay.ledger _ _ _ _ _ _ (alone c.read_log.new.replay _ _ _ _ _ done.0) prepared.Nothing tt tt c.in-Err-finish.ensures.beginning;
-        writer_failed = failed_after _ _ _ done.2 c.in-Err-finish.ensures.failed;
+        write_fault = served_write Nothing c.read_log.new.replay.ledger _ _ _ _ _ _ (alone c.read_log.new.replay _ _ _ _ _ done.0) prepared.Nothing tt tt c.in-Err-finish.ensures.put.0;
+        writer_failed = failed_after _ _ _ done.2 c.in-Err-finish.ensures.put.1;
         reader_not_failed = inr done.1;
       };
       whole = c.read_log.ensures.whole;

@@ -6,20 +6,30 @@ use Rattle.mtrace_replay.proofs.parts.run.run_fit_heaps.Goals as goal
 
 pub returns-in-Ok-follow_counted : goal.returns-in-Ok-follow_counted
 returns-in-Ok-follow_counted g c =
-    let writes = g.W.Sink.shown in
     let last = c.in-Ok-follow_counted.ensures.last in
     record {
       bad_heaps = λ bad. absurd (not_bad_heaps c.args.heaps (omega (arith, c.if-heaps-eq0)) (omega (arith, c.if-heaps-gt8)) bad);
       runs = λ good. inr (record {
         run = Ok c.in-Ok-follow_counted.status;
-        writer_middle = writes c.follow_counted.new.writer;
+        reader_middle = c.follow_counted.new.reader;
+        writer_middle = c.follow_counted.new.writer;
         runs = c.in-Ok-follow_counted.ensures.ran;
-        goes_on = record { reports = last.reports; follow = c.tell_parts.ensures last.reports.lines last.stands last.counted };
+        goes_on = record {
+          reports = last.reports;
+          answer = c.tell_parts.ensures.answer;
+          follow = (refl, c.tell_parts.ensures.told last.reports.lines last.stands last.counted);
+        };
       });
     }
 
 pub returns : goal.returns
 returns g c = record {
   bad_heaps = λ bad. absurd (not_bad_heaps c.args.heaps (omega (arith, c.if-heaps-eq0)) (omega (arith, c.if-heaps-gt8)) bad);
-  runs = λ good. inr (record { run = Err c.in-Err.fault; writer_middle = g.W.Sink.shown c.follow_counted.new.writer; runs = c.in-Err.ensures.ran; goes_on = (refl, refl) });
+  runs = λ good. inr (record {
+    run = Err c.in-Err.fault;
+    reader_middle = c.follow_counted.new.reader;
+    writer_middle = c.follow_counted.new.writer;
+    runs = c.in-Err.ensures.ran;
+    goes_on = (refl, (refl, refl));
+  });
 }

@@ -10,16 +10,16 @@ use Rattle.mtrace_replay.specs.PartsText.{part_in}
 use Rattle.mtrace_replay.proofs.BySize.PartsRun.{its_part, in_spans, told, tells_parts, follows}
 use Rattle.mtrace_replay.proofs.parts.run.tell_parts.Goals as goal
 
-pub returns-in_default : goal.returns-in_default
-returns-in_default g c lines stands counted =
+pub returns-in_default-clause-told : goal.returns-in_default-clause-told
+returns-in_default-clause-told g c lines stands counted =
     let writes = g.W.Sink.shown in
     let replay = c.args.replay.now.ledger in
     let classes = subst (AreCountedOf (reverse lines)) c.in_default.is counted in
     let tells = subst (λ b. TellsHeaps b c.args.heaps (reverse lines) no_parts_text) (sym classes) refl in
     let text = ap (λ (totals : LedgerTotals). peak_line_text totals.peak_bytes totals.peak_line ++ no_parts_text) c.totals-totals.ensures in
     let put = subst (λ text. Puts c.put_no_parts-put.result text (writes c.args.writer.now) (writes c.put_no_parts-put.new.writer)) text c.put_no_parts-put.ensures in
-    follows c.args.heaps lines c.args.status c.flush_behind.result (writes c.args.writer.now) (writes c.flush_behind.new.writer) _ (tells_parts c.args.heaps lines replay stands no_parts_text tells)
-    (c.flush_behind.ensures.flushed (writes c.args.writer.now) _ put) c.flush_behind.ensures.status c.flush_behind.ensures.fault
+    follows c.args.heaps lines c.flush_behind.result (writes c.args.writer.now) (writes c.flush_behind.new.writer) _ (tells_parts c.args.heaps lines replay stands no_parts_text tells)
+    (c.flush_behind.ensures.flushed (writes c.args.writer.now) _ put) c.flush_behind.ensures.fault
 
 pub least_cut-requires-clause-parts : goal.least_cut-requires-clause-parts
 least_cut-requires-clause-parts g c =
@@ -29,8 +29,8 @@ least_cut-requires-clause-parts g c =
     let part = its_part (reverse some.0) spans (get nat_eq c.in-Some.spans.ranges) counted in
     (part, subst (ArePartsIn part) (sym c.as_slice.ensures.value) (in_spans (reverse some.0) spans (get nat_eq c.in-Some.spans.ranges) counted))
 
-pub returns : goal.returns
-returns g c lines stands is_counted =
+pub returns-clause-told : goal.returns-clause-told
+returns-clause-told g c lines stands is_counted =
     let writes = g.W.Sink.shown in
     let replay = c.args.replay.now.ledger in
     let spans = c.in-Some.spans.all.items in
@@ -47,6 +47,6 @@ returns g c lines stands is_counted =
     let text = ap (λ (totals : LedgerTotals). peak_line_text totals.peak_bytes totals.peak_line ++ parts_text (map part_in c.as_slice-4.result.now)) c.totals-totals.ensures
     ∙ ap (λ parts. peak_line_text replay.peak_bytes replay.peak_line ++ parts_text parts) parts_are in
     let put = subst (λ text. Puts c.put_parts-put.result text (writes c.args.writer.now) (writes c.put_parts-put.new.writer)) text c.put_parts-put.ensures in
-    follows c.args.heaps lines c.args.status c.flush_behind-2.result (writes c.args.writer.now) (writes c.flush_behind-2.new.writer) _
+    follows c.args.heaps lines c.flush_behind-2.result (writes c.args.writer.now) (writes c.flush_behind-2.new.writer) _
     (tells_parts c.args.heaps lines replay stands (parts_text (parts_of part 0 ends)) (told (reverse lines) spans ranges counted c.args.heaps ends chosen))
-    (c.flush_behind-2.ensures.flushed (writes c.args.writer.now) _ put) c.flush_behind-2.ensures.status c.flush_behind-2.ensures.fault
+    (c.flush_behind-2.ensures.flushed (writes c.args.writer.now) _ put) c.flush_behind-2.ensures.fault

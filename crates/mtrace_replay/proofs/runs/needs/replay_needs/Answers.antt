@@ -17,9 +17,9 @@ returns-in-Ok-finish-clause-ran g c =
     record {
       ends = record {
         finished = report_all Nothing c.args.settings c.read_log.new.replay.replay _ _ _ _ _ _ (alone c.args.settings c.read_log.new.replay _ _ _ _ _ done.0)
-            c.in-Ok-finish.status c.in-Ok-finish.ensures.all c.in-Ok-finish.ensures.status;
+            c.in-Ok-finish.status c.in-Ok-finish.ensures.finished.put.0 c.in-Ok-finish.ensures.finished.status;
         reader_ended = done.1;
-        writer_flushed = moved_then_append Took Flushed _ _ _ done.2 c.in-Ok-finish.ensures.flushed;
+        writer_flushed = moved_then_append Took Flushed _ _ _ done.2 c.in-Ok-finish.ensures.finished.put.1;
       };
       bad_settings = search rules;
       whole = search rules;
@@ -29,7 +29,7 @@ pub returns-in-Ok-finish-clause-last : goal.returns-in-Ok-finish-clause-last
 returns-in-Ok-finish-clause-last g c =
     ends_with_needs c.args.settings c.read_log.new.replay c.finish.new.replay _ c.in-Ok-finish.status _ _ _ _ _
     (c.in-Ok-read_log.ensures.ends c.args.settings (c.in-Ok.ensures.made, c.none.ensures c.args.settings) (no_notes c.args.settings)).0
-    c.in-Ok-finish.ensures.all c.in-Ok-finish.ensures.status (c.in-Ok-finish.ensures.kept refl) (c.in-Ok-read_log.ensures.fixed ∙ c.in-Ok.ensures.records)
+    c.in-Ok-finish.ensures.finished.put.0 c.in-Ok-finish.ensures.finished.status (c.in-Ok-finish.ensures.kept refl) (c.in-Ok-read_log.ensures.fixed ∙ c.in-Ok.ensures.records)
 
 -- the writer failed at the end
 pub returns-in-Err-finish-clause-ran : goal.returns-in-Err-finish-clause-ran
@@ -37,8 +37,8 @@ returns-in-Err-finish-clause-ran g c =
     let done = c.in-Ok-read_log.ensures.ends c.args.settings (c.in-Ok.ensures.made, c.none.ensures c.args.settings) (no_notes c.args.settings) in
     record {
       ends = record {
-        write_fault = report_write Nothing c.args.settings c.read_log.new.replay.replay _ _ _ _ _ _ (alone c.args.settings c.read_log.new.replay _ _ _ _ _ done.0) c.in-Err-finish.ensures.beginning;
-        writer_failed = failed_after _ _ _ done.2 c.in-Err-finish.ensures.failed;
+        write_fault = report_write Nothing c.args.settings c.read_log.new.replay.replay _ _ _ _ _ _ (alone c.args.settings c.read_log.new.replay _ _ _ _ _ done.0) c.in-Err-finish.ensures.finished.put.0;
+        writer_failed = failed_after _ _ _ done.2 c.in-Err-finish.ensures.finished.put.1;
         reader_not_failed = inr done.1;
       };
       bad_settings = search rules;

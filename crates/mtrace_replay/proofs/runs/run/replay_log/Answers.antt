@@ -1,10 +1,9 @@
 use Rattle.std.proofs.Common.{rules, subst, ◌∙◌, inr}
 use Rattle.mtrace_log.specs.Output.{Wrote}
 use Rattle.mtrace_replay.specs.declared.runs.report.Report.{Report}
-use Rattle.mtrace_replay.specs.Run.{end_text}
 use Rattle.mtrace_log.specs.declared.call.Call.TheVariants.{Took, Flushed}
 use Rattle.mtrace_log.proofs.TraceLemmas.{moved_then_append, failed_after}
-use Rattle.mtrace_replay.proofs.Running.RunLemmas.{no_notes, run_stops, report_all, ends_at, report_write}
+use Rattle.mtrace_replay.proofs.Running.RunLemmas.{end_text, no_notes, run_stops, report_all, ends_at, report_write}
 use Rattle.mtrace_replay.proofs.runs.run.replay_log.Goals as goal
 
 -- memory was never refused
@@ -17,9 +16,9 @@ returns-in-Ok-finish-clause-ran g c =
     let done = c.in-Ok-read_log.ensures.ends c.args.settings c.in-Ok.ensures.made (no_notes c.args.settings) in
     record {
       ends = record {
-        finished = report_all c.args.report c.args.settings c.read_log.new.replay _ _ _ _ _ _ done.0 c.in-Ok-finish.status c.in-Ok-finish.ensures.all c.in-Ok-finish.ensures.status;
+        finished = report_all c.args.report c.args.settings c.read_log.new.replay _ _ _ _ _ _ done.0 c.in-Ok-finish.status c.in-Ok-finish.ensures.finished.put.0 c.in-Ok-finish.ensures.finished.status;
         reader_ended = done.1;
-        writer_flushed = moved_then_append Took Flushed _ _ _ done.2 c.in-Ok-finish.ensures.flushed;
+        writer_flushed = moved_then_append Took Flushed _ _ _ done.2 c.in-Ok-finish.ensures.finished.put.1;
       };
       bad_settings = search rules;
       whole = search rules;
@@ -30,7 +29,7 @@ returns-in-Ok-finish-clause-last g c = λ only.
     let P : Report → Type 0 = λ report. Wrote (g.W.Sink.shown c.read_log.new.writer) (g.W.Sink.shown c.finish.new.writer) (end_text report c.read_log.new.replay) in
     ends_at c.args.settings c.read_log.new.replay c.finish.new.replay _ c.in-Ok-finish.status _ _ _ _ _
     (c.in-Ok-read_log.ensures.ends c.args.settings c.in-Ok.ensures.made (no_notes c.args.settings)).0
-    (subst P only c.in-Ok-finish.ensures.all) c.in-Ok-finish.ensures.status (c.in-Ok-finish.ensures.kept only) (c.in-Ok-read_log.ensures.fixed ∙ c.in-Ok.ensures.records)
+    (subst P only c.in-Ok-finish.ensures.finished.put.0) c.in-Ok-finish.ensures.finished.status (c.in-Ok-finish.ensures.kept only) (c.in-Ok-read_log.ensures.fixed ∙ c.in-Ok.ensures.records)
 
 -- the writer failed at the end
 pub returns-in-Err-finish-clause-ran : goal.returns-in-Err-finish-clause-ran
@@ -38,8 +37,8 @@ returns-in-Err-finish-clause-ran g c =
     let done = c.in-Ok-read_log.ensures.ends c.args.settings c.in-Ok.ensures.made (no_notes c.args.settings) in
     record {
       ends = record {
-        write_fault = report_write c.args.report c.args.settings c.read_log.new.replay _ _ _ _ _ _ done.0 c.in-Err-finish.ensures.beginning;
-        writer_failed = failed_after _ _ _ done.2 c.in-Err-finish.ensures.failed;
+        write_fault = report_write c.args.report c.args.settings c.read_log.new.replay _ _ _ _ _ _ done.0 c.in-Err-finish.ensures.finished.put.0;
+        writer_failed = failed_after _ _ _ done.2 c.in-Err-finish.ensures.finished.put.1;
         reader_not_failed = inr done.1;
       };
       bad_settings = search rules;

@@ -6,7 +6,8 @@ use Rattle.mtrace_replay.specs.declared.runs.status.Status.{Status}
 use Rattle.mtrace_replay.specs.declared.runs.status.RunFault.{RunFault}
 use Rattle.mtrace_replay.specs.declared.runs.status.RunFault.TheVariants.{Image}
 use Rattle.mtrace_replay.specs.Course.{course}
-use Rattle.mtrace_replay.specs.Saving.{PutsAndFlushes, EndsWithImage, RunsAndSaves}
+use Rattle.mtrace_replay.specs.Reporting.{PutsAndFlushes}
+use Rattle.mtrace_replay.specs.Saving.{EndsWithImage, RunsAndSaves}
 use Rattle.mtrace_replay.proofs.Running.RunLemmas.{replays_by}
 use Rattle.mtrace_replay.proofs.runs.save.run_save.Given.{Over}
 use Rattle.mtrace_replay.proofs.runs.save.run_save.Goals.{After-save}

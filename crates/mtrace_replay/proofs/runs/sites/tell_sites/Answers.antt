@@ -4,7 +4,7 @@ use Rattle.mtrace_replay.specs.declared.heap.totals.Totals.{Totals}
 use Rattle.mtrace_replay.specs.Sites.{Site, AreSites}
 use Rattle.mtrace_replay.specs.Replay.{Replayed, entries}
 use Rattle.mtrace_replay.specs.Again.{HasReplayedFirst}
-use Rattle.mtrace_replay.specs.Saving.{PutsAndFlushes}
+use Rattle.mtrace_replay.specs.Reporting.{PutsAndFlushes}
 use Rattle.mtrace_replay.proofs.Running.RunsAgain.{follows_told}
 use Rattle.mtrace_replay.proofs.Running.SitesLemmas.{sites_text, tells_sites, sites_text-is}
 use Rattle.mtrace_replay.proofs.runs.sites.tell_sites.Goals as goal

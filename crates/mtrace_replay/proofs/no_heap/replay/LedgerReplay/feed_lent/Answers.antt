@@ -6,7 +6,7 @@ use Rattle.mtrace_replay.specs.declared.held.diagnostic.Diagnostic.{Diagnostic}
 use Rattle.mtrace_replay.specs.History.{held_after}
 use Rattle.mtrace_replay.specs.Totals.{is_served}
 use Rattle.mtrace_replay.specs.Moment.{plan, half, is_new}
-use Rattle.mtrace_replay.specs.Served.{CountsAct, served_moments, all_served, found_in, Standing, IsServed, served_noted}
+use Rattle.mtrace_replay.specs.Served.{CountsAct, served_moments, all_served, found_in, Standing, StandsWithoutHeap, served_noted}
 use Rattle.mtrace_replay.proofs.Served.ServedLemmas.{held_on, called_on, served_on, told_on, raised}
 use Rattle.mtrace_replay.proofs.no_heap.replay.LedgerReplay.feed_lent.Goals as goal
 
@@ -51,14 +51,14 @@ returns c =
     let one : c.from.result ≡ (if is_some (all_served (plan (inside.lines + 1) event inside.pending (found_in inside.ledger.all))).given then 1 else 0) =
     c.from.ensures ∙ one_where c.in_ok-is_given.is_given ∙ ap (λ b. if b then 1 else 0) given in
     record {
-      stands = λ past. subst (λ (before : Standing). IsServed before past → IsServed new (event ∷ past)) c.self.view_is
+      stands = λ past. subst (λ (before : Standing). StandsWithoutHeap before past → StandsWithoutHeap new (event ∷ past)) c.self.view_is
           (λ stands.
           let held = held_on old middle past event stands (subst H next c.in_ok-is_given.ensures.held) c.keeps_order.ensures in
           let count = ap (λ n. n + c.from.result) stands.served_are ∙ ap (λ n. count_by is_served (served_moments past) + n) one
           ∙ served_on old middle past event stands (subst H next c.in_ok-is_given.ensures.held) c.keeps_order.ensures in
           let called = called_on old middle past event stands (subst H next c.in_ok-is_given.ensures.held) c.keeps_order.ensures (subst A next c.in_ok-is_given.ensures.called) in
           raised old middle new past event stands held (next ∙ omega (arith, stands.lines_are)) refl refl refl c.in_ok-is_given.ensures.peak.at_peak c.raise_peak.ensures called count c.old_address-next.ensures);
-      told = λ past. subst (λ (before : Standing). IsServed before past → served_noted (event ∷ past) ≡ served_noted past ++ c.put_half.new.findings) c.self.view_is
+      told = λ past. subst (λ (before : Standing). StandsWithoutHeap before past → served_noted (event ∷ past) ≡ served_noted past ++ c.put_half.new.findings) c.self.view_is
           (λ stands. told_on old middle past event stands (subst H next c.in_ok-is_given.ensures.held) c.keeps_order.ensures c.put_half.new.findings
           (c.put_half.ensures ∙ ap (λ (all : List Diagnostic). all ++ c.outcome.new.findings) c.half_before-half.ensures
           ∙ ap (λ (all : List Diagnostic). (if is_new event then [] else half inside.lines inside.pending) ++ all) (subst D next c.in_ok-is_given.ensures.diagnostics_are)));

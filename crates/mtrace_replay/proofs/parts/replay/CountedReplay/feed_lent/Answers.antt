@@ -1,6 +1,6 @@
 use Rattle.std.proofs.Common.{◌≡◌, ◌∷◌, suc, true, false, sym, ap, ◌∙◌, subst, arith}
 use Rattle.std.specs.Prelude.{Result, Ok, Err, OnOk, nat_lt}
-use Rattle.mtrace_replay.specs.Served.{Standing, IsServed}
+use Rattle.mtrace_replay.specs.Served.{Standing, StandsWithoutHeap}
 use Rattle.mtrace_replay.specs.Spans.{AreFew, released_by}
 use Rattle.mtrace_replay.specs.declared.no_heap.replay.LedgerTotals.{LedgerTotals}
 use Rattle.mtrace_replay.proofs.BySize.CountedLemmas.{served_more}
@@ -23,7 +23,7 @@ returns c =
     let middle : Standing = c.feed_lent.new.self in
     let same : c.count.new.self.ledger ≡ middle = c.count.ensures.ledger in
     record {
-      stands = on_ok c.count.result _ (λ past stands. subst (λ (replay : Standing). IsServed replay (event ∷ past)) (sym same) (fed.stands past stands));
+      stands = on_ok c.count.result _ (λ past stands. subst (λ (replay : Standing). StandsWithoutHeap replay (event ∷ past)) (sym same) (fed.stands past stands));
       spans = also_ok c.count.result _ _ c.count.ensures.counted (λ counts past stands counted.
           let pending_is = c.pending.ensures ∙ stands.pending_is in
           counts past event (record {
