@@ -7,3 +7,4 @@ pub mod CutLemmas
 pub mod CountedRunLemmas
 pub mod PartsTextLemmas
 pub mod PartsRun
+pub mod OneHeapsText

@@ -30,6 +30,7 @@ ghost use Rattle.mtrace_replay.specs.Run.{whole_text};
 ghost use Rattle.mtrace_replay.specs.RunSites.{TellsSites};
 ghost use Rattle.mtrace_replay.specs.RunServed.{AreServedTotals, TellsHeld, TellsServedSites, TellsServedCallers, whole_served};
 ghost use Rattle.mtrace_replay.specs.RunServedTimeline.{TellsServedTimeline};
+ghost use Rattle.mtrace_replay.specs.Parts.{TellsParts};
 ghost use Rattle.mtrace_replay.specs.declared.no_heap.point.LedgerPoint.{LedgerPoint};
 ghost use Rattle.mtrace_replay.specs.ServedTimeline.{IsLedgerPoint, IsPointOfLines};
 ghost use Rattle.mtrace_replay.specs.declared.heap.point.Point.{Point};
@@ -134,12 +135,14 @@ pub fn one_text_where_unrefused()
         → HasReadAll (Some whole) end lines → TellsSites settings lines (Some whole) left text → TellsServedSites lines other → other ≡ text }
 {}
 
-/// Without a heap a log has one text of its sites, one of its callers, and one of what is held over its lines.
+/// Without a heap a log has one text of its sites, one of its callers, one of what is held over its lines, and one of its heaps by
+/// size.
 pub fn one_text_without_a_heap()
     ensures sites { (lines : List ReadLine) (text other : List ℕ) → TellsServedSites lines text → TellsServedSites lines other → text ≡ other }
     ensures callers { (lines : List ReadLine) (text other : List ℕ) → TellsServedCallers lines text → TellsServedCallers lines other → text ≡ other }
     ensures timeline { (parts : ℕ) (lines : List ReadLine) (whole : List ℕ) (end left rest : Bytes) (text other : List ℕ) → HasReadAll (Some whole) end lines
         → TellsServedTimeline parts lines (Some whole) left text → TellsServedTimeline parts lines (Some whole) rest other → text ≡ other }
+    ensures heaps { (heaps : ℕ) (lines : List ReadLine) (text other : List ℕ) → TellsParts heaps lines text → TellsParts heaps lines other → text ≡ other }
 {}
 
 /// A log that one heap refuses nothing is refused nothing on its sure pool, where four things hold there. After any number of its

@@ -49,7 +49,7 @@ lesser_second one other is = record { either = inr refl; first = back (cut_order
     back there Greater is same = absurd (false≢true (ap is_gt (sym same) ∙ is))
 
 module _ (part : ℕ → ℕ → Part) where
-  cmp_total : (first : ℕ) → IsTotalOrder (cut_cmp part first)
+  pub cmp_total : (first : ℕ) → IsTotalOrder (cut_cmp part first)
   cmp_total first =
       then_total (on_total (cut_unbuilt part first) nat_cmp_total) (then_total (on_total (cut_bytes part first) nat_cmp_total)
       (then_total (on_total (λ (ends : List ℕ). length ends) nat_cmp_total) (lists_total nat_cmp_total)))

@@ -54,7 +54,7 @@ same_points again (x ∷ xs) (y ∷ ys) same all as_well =
     ap (λ point. point ∷ xs) first ∙ ap (λ points. y ∷ points) (same_points again xs ys lines all.1 as_well.1)
 
 -- the peak is at one line
-one_peak_line : (past : List Moment) (bytes most line other : ℕ) → IsPeak past bytes line → IsPeak past most other → line ≡ other
+pub one_peak_line : (past : List Moment) (bytes most line other : ℕ) → IsPeak past bytes line → IsPeak past most other → line ≡ other
 one_peak_line past bytes most line other first second = omega (arith, not_later _ past bytes most line other first second, not_later _ past most bytes other line second first)
 
 pub one_sites_text : (lines : List ReadLine) (text other : List ℕ) → TellsServedSites lines text → TellsServedSites lines other → text ≡ other
