@@ -21,8 +21,8 @@ static char name[PATH_MOST];
 /* Whether settings were read, and whether nothing is to be traced. */
 static bool is_set;
 static bool is_off;
-/* Whether tracing began while the program ran, and whether handlers were tied then. */
-static bool is_late, is_tied;
+/* Whether tracing began while the program ran, and wasn't ended by order; and whether handlers were tied then. */
+static bool is_late, is_ordered, is_tied;
 /* Whether what is still reachable is told at the end, and whether the last handler of exit runs. */
 static bool tells_reachable, is_last_handler;
 
@@ -50,6 +50,7 @@ void find_real(void)
     }
     bool before = inside;
     inside = true;
+    find("syscall", &real.syscall);
     find("free", &real.free);
     find("calloc", &real.calloc);
     find("realloc", &real.realloc);
@@ -66,6 +67,10 @@ void find_real(void)
     find("execvpe", &real.execvpe);
     find("fexecve", &real.fexecve);
     find("execveat", &real.execveat);
+    find("prctl", &real.prctl);
+    find("mlockall", &real.mlockall);
+    find("setrlimit", &real.setrlimit);
+    find("prlimit", &real.prlimit);
     find("malloc", &real.malloc);
     inside = before;
 }
@@ -83,9 +88,11 @@ __attribute__((noinline)) static bool end_by(void (*end_log)(void))
     inside = true;
     log_lock();
     end_log();
-    if (tells_reachable) {
+    if (tells_reachable && log_may_open()) {
         __builtin_unwind_init();
         reach_tell(is_last_handler);
+    } else if (tells_reachable) {
+        say(log_path(), "has no list of what is reachable: a filter of system calls may forbid to read it");
     }
     log_unlock();
     inside = false;
@@ -120,7 +127,7 @@ static void release_libraries(void)
 static void at_exit(void *unused)
 {
     (void)unused;
-    if (!inside && log_is_on() && is_alone()) {
+    if (!inside && log_is_on() && log_may_open() && is_alone()) {
         release_libraries();
     }
     is_last_handler = true;
@@ -244,12 +251,24 @@ bool enter(void)
 
 void leave(void) { inside = false; }
 
-__attribute__((constructor)) static void start(void)
+void begin_early(void)
 {
     if (enter()) {
         leave();
     }
 }
+
+void end_early(void)
+{
+    if (!inside && log_is_on() && getpid() == log_process()) {
+        is_off = true;
+        log_lock();
+        log_drop("is cut, since its process may call read and write alone from now on");
+        log_unlock();
+    }
+}
+
+__attribute__((constructor)) static void start(void) { begin_early(); }
 
 /* ---- a running program, whose debugger calls these */
 
@@ -275,6 +294,7 @@ static bool begin_late(void)
     if (!made) {
         slots_turn(false);
     }
+    is_ordered = made;
     return made;
 }
 
@@ -308,9 +328,12 @@ EXPORT const char *tlsf_trace_begin(const char *log, int frames, int reachable)
 /* Ends the log of this process, which goes on without being traced. Returns as above. */
 EXPORT const char *tlsf_trace_end(void)
 {
-    if (!is_late || !end_by(log_close)) {
+    if (!is_ordered || getpid() != log_process()) {
         return "it isn't traced since it runs";
     }
+    /* A log that can't go on has ended by itself. */
+    end_by(log_close);
+    is_ordered = false;
     slots_turn(false);
     return log_path();
 }
@@ -324,7 +347,7 @@ static int back(bool ended, int result)
         inside = true;
         log_lock();
         log_resume();
-        if (tells_reachable) {
+        if (tells_reachable && log_may_open()) {
             reach_resume();
         }
         log_unlock();

@@ -6,12 +6,13 @@
  *     module.c   the program or library that an address is in
  *     told.c     the modules and stacks that the log has told
  *     text.c     numbers as text
- *     log.c      the log: a file that is mapped piece by piece
+ *     log.c      the log: a file that is mapped ahead
  *     slots.c    the slots by which a running program calls malloc
  *     since.c    the blocks that are held since a running program is traced
  *     held.c     the blocks that are held at the end, by the log
  *     reach.c    which of them the process's memory still points to
  *     process.c  where a log begins and ends: start, fork, exec, exit, and a running program's orders
+ *     limits.c   the calls by which a process limits itself: the log is made ready for that
  *
  * The environment has TLSF_TRACE_LOG, the log's name; TLSF_TRACE_FRAMES, the most frames of a
  * location; TLSF_TRACE_INDEX, a file to which each process adds its log's name; and
@@ -27,6 +28,7 @@
 #include <stddef.h>
 #include <stdint.h>
 #include <sys/auxv.h>
+#include <sys/resource.h>
 #include <sys/types.h>
 
 #define EXPORT __attribute__((visibility("default")))
@@ -64,6 +66,11 @@ struct real {
     int (*execvpe)(const char *, char *const[], char *const[]);
     int (*fexecve)(int, char *const[], char *const[]);
     int (*execveat)(int, const char *, char *const[], char *const[], int);
+    int (*prctl)(int, ...);
+    long (*syscall)(long, ...);
+    int (*mlockall)(int);
+    int (*setrlimit)(int, const struct rlimit *);
+    int (*prlimit)(pid_t, int, const struct rlimit *, struct rlimit *);
 };
 extern struct real real;
 
@@ -74,6 +81,10 @@ void find_real(void);
  * its log with its first call. */
 bool enter(void);
 void leave(void);
+
+/* Begins the log of a process that has none yet, and before one that may call read and write alone ends it for good. */
+void begin_early(void);
+void end_early(void);
 
 /* A line on standard error, behind the tracer's name. */
 void say(const char *what, const char *why);
@@ -96,8 +107,19 @@ void log_end(void);
 /* Ends the log: nothing is traced from then on. */
 void log_close(void);
 
-/* The log stays as it is, without an end, for a reason that is said. */
+/* The log stays as it is, with a last line that it is cut, for a reason that is said. */
 void log_drop(const char *why);
+
+/* From now on this process may open no file, since a filter of its system calls might end it for that; or it may again. */
+void log_seal(bool is_on);
+
+bool log_is_sealed(void);
+
+/* Whether it may: so not where another filter came unseen, either. */
+bool log_may_open(void);
+
+/* From now on no more of the file is mapped than is needed: memory is limited or locked. */
+void log_keep_small(void);
 
 /* Takes back the end: the program goes on. */
 void log_resume(void);

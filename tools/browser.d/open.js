@@ -145,8 +145,18 @@ async function endsInZeros(file) {
   return end.length === 2 && !end[0] && !end[1];
 }
 
-// Refuses a log that is still written.
+// What packed a file, by its first bytes, or nothing.
+async function packedBy(file) {
+  const head = String.fromCharCode(...new Uint8Array(await file.slice(0, 6).arrayBuffer()));
+  const found = Object.entries({ "\x1f\x8b": "gzip", "\xfd7zXZ\0": "xz", "\x28\xb5\x2f\xfd": "zstd", BZh: "bzip2", "PK\x03\x04": "zip" })
+    .find(([sign]) => head.startsWith(sign));
+  return found && found[1];
+}
+
+// Refuses a log that is packed, or still written.
 async function expectEnded({ log }) {
+  const packed = await packedBy(log);
+  if (packed) throw new Error(`${log.name} is packed by ${packed}: unpack it first`);
   if (await endsInZeros(log)) throw new Error(`${log.name} is still written: end its program, or copy its lines by tlsf-trace --copy`);
 }
 

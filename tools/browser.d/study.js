@@ -28,6 +28,13 @@ function jsonLength(text) {
   return Array.from(JSON.stringify(text), (letter) => letter < "\x7f" ? 1 : 6 * letter.length).reduce((sum, count) => sum + count, 0);
 }
 
+// How a log ends, as tools/page.d/ends.py tells it: with its end; with a line that says it is cut, since its process went on; or with
+// neither.
+async function howItEnds(file) {
+  const last = new Uint8Array(await file.slice(-16).arrayBuffer()), text = byteText(last, 0, last.length);
+  return text.endsWith("= End\n") ? "whole" : text.endsWith("@ cut ! (nil) 0\n") ? "left" : "ended";
+}
+
 // The functions of sites, each with its number, and its short name: with the line where it is one.
 class Functions {
   constructor(sites) {
@@ -85,6 +92,7 @@ class Study {
     // What fails is told by the first of these that is waited for.
     heap.catch(() => {});
     this.peakRow = points.indexOf(this.peak);
+    this.end = await howItEnds(this.file);
     this.reader = new PointReader(points, this.faulty, (location, line) => this.stacks.take(location, line));
     await readLog(this.file, this.reader, this.progress);
     this.reached.resolve(this.reader.places[this.peakRow]);
@@ -345,7 +353,7 @@ class Study {
 
   headData() {
     const at = this.limits && { at: this.functions.label(this.functionOf[this.reader.reading.largest.site]) };
-    return { sites: this.locations.length, bare: "", kinds: this.kinds, refused: this.refused, firstRefused: this.firstRefused,
+    return { sites: this.locations.length, end: this.end, bare: "", kinds: this.kinds, refused: this.refused, firstRefused: this.firstRefused,
       limits: this.limits && { ...this.limits, ...at } };
   }
 

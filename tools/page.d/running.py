@@ -6,7 +6,6 @@ import re
 import shutil
 import signal
 import subprocess
-import tempfile
 from pathlib import Path
 
 HERE = Path(__file__).resolve().parent
@@ -162,14 +161,17 @@ def give(process, tracer, order, log="", frames=0, reachable=False):
     """Gives the tracer in a process an order. Returns its log."""
     check(process)
     told = {**orders(process, tracer, order), "log": log, "frames": frames, "reachable": int(reachable)}
-    with tempfile.TemporaryDirectory(prefix="tlsf-trace-") as folder:
-        told["answer"] = os.path.join(folder, "answer")
-        Path(told["answer"]).touch()
+    # In memory, since the disk may be full.
+    answer = os.memfd_create("tlsf-trace")
+    try:
+        told["answer"] = f"/proc/{os.getpid()}/fd/{answer}"
         words = ["gdb", "-nx", "-batch", "-iex", "set auto-load off", "-iex", "set debuginfod enabled off", "-x", str(HERE / "in_gdb.py")]
         gdb = subprocess.Popen(words, env={**os.environ, "TLSF_IN_GDB": json.dumps(told)}, stdin=subprocess.DEVNULL, stdout=subprocess.DEVNULL,
                                stderr=subprocess.PIPE, text=True, errors="replace", start_new_session=True)
         said = wait_for(gdb, process, told["answer"])
         kind, _, text = (lines_of(told["answer"]) or [""])[-1].partition(" ")
+    finally:
+        os.close(answer)
     if kind == "yes":
         return text
     if kind == "no" and not text.startswith(OF_GDB):
