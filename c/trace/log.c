@@ -45,9 +45,9 @@ enum { END_BYTES = sizeof end_line - 1, CUT_BYTES = sizeof cut_line - 1 };
 
 static pthread_mutex_t lock = PTHREAD_MUTEX_INITIALIZER;
 
-/* The file's name, and what tells it from others. Written: the bytes of whole lines. What is mapped begins with a byte of
+/* The names of the file and of the index, and what tells the file from others. Written: the bytes of whole lines. What is mapped begins with a byte of
  * the file, and is null where the file was cut to its length. There is room up to another byte. */
-static char path[PATH_MOST];
+static char path[PATH_MOST], index_path[PATH_MOST];
 static struct stat made;
 static pid_t process;
 static char *mapped;
@@ -85,9 +85,11 @@ static int open_file(const char *name, int flags)
 
 static void close_file(int file) { syscall(SYS_close, file); }
 
+bool log_is_sealed(void) { return sealed != 0 && sealed == getpid(); }
+
 bool log_may_open(void)
 {
-    return sealed != process && syscall(SYS_prctl, PR_GET_SECCOMP, 0ul, 0ul, 0ul, 0ul) == first_filter;
+    return !log_is_sealed() && syscall(SYS_prctl, PR_GET_SECCOMP, 0ul, 0ul, 0ul, 0ul) == first_filter;
 }
 
 /* Opens the log again, or fails: its name may be that of another file by now, as behind chroot. */
@@ -395,7 +397,6 @@ void log_close(void)
 void log_drop(const char *why) { fail(why); }
 
 void log_seal(bool is_on) { sealed = is_on ? getpid() : 0; }
-bool log_is_sealed(void) { return sealed != 0 && sealed == getpid(); }
 
 void log_keep_small(void)
 {
@@ -478,22 +479,29 @@ static bool make_file(const char *name)
     return false;
 }
 
+void log_note(const char *words, size_t length)
+{
+    int file = index_path[0] == 0 || !log_may_open() ? -1 : open_file(index_path, O_WRONLY | O_APPEND);
+    if (file >= 0) {
+        syscall(SYS_write, file, words, length);
+        close_file(file);
+    }
+}
+
 /* Adds process, log and program to the index, each ended by a zero. With the lock held. */
 static void add_to_index(void)
 {
     static char entry[2 * PATH_MOST + 32], program[PATH_MOST];
-    const char *index = getenv("TLSF_TRACE_INDEX");
-    int file = index == NULL ? -1 : open_file(index, O_WRONLY | O_APPEND);
-    if (file < 0) {
-        return;
+    const char *given = getenv("TLSF_TRACE_INDEX");
+    if (given != NULL && strlen(given) < sizeof index_path) {
+        strcpy(index_path, given);
     }
     ssize_t length = readlink("/proc/self/exe", program, sizeof program - 1);
     program[length < 0 ? 0 : length] = 0;
     int bytes = snprintf(entry, sizeof entry, "%d%c%s%c%s%c", (int)process, 0, path, 0, program, 0);
     if (bytes > 0) {
-        syscall(SYS_write, file, entry, (size_t)bytes);
+        log_note(entry, (size_t)bytes);
     }
-    close_file(file);
 }
 
 /* The page with `alive`. */
@@ -518,7 +526,7 @@ bool log_begin(const char *name)
     writes = 0;
     process = getpid();
     written = room_to = 0;
-    if (sealed == process) {
+    if (log_is_sealed()) {
         say(name, "can't be made by a child behind a filter of system calls, so nothing of it is traced");
         return false;
     }

@@ -67,6 +67,10 @@ void find_real(void)
     find("execvpe", &real.execvpe);
     find("fexecve", &real.fexecve);
     find("execveat", &real.execveat);
+    find("posix_spawn", &real.posix_spawn);
+    find("posix_spawnp", &real.posix_spawnp);
+    find("system", &real.system);
+    find("popen", &real.popen);
     find("prctl", &real.prctl);
     find("mlockall", &real.mlockall);
     find("setrlimit", &real.setrlimit);
@@ -108,20 +112,28 @@ static bool is_alone(void)
     return stat("/proc/self/task", &told) == 0 && told.st_nlink == 3;
 }
 
+/* Calls a function by its name, of the first object that has it and of the first library: a program may have
+ * the library of C++ in itself. */
+static void call_each(const char *symbol)
+{
+    inside = true;
+    void *found[] = {dlsym(RTLD_DEFAULT, symbol), dlsym(RTLD_NEXT, symbol)};
+    inside = false;
+    for (size_t k = 0; k < 2; k++) {
+        void (*release)(void);
+        memcpy(&release, &found[k], sizeof release);
+        if (release != NULL && (k == 0 || found[k] != found[0])) {
+            release();
+        }
+    }
+}
+
 /* The C library gives back what it keeps for itself, as it does for mtrace(3), and so does that of
  * C++. Another thread might still use it. */
 static void release_libraries(void)
 {
-    static const char *const names[] = {"_ZN9__gnu_cxx9__freeresEv", "__libc_freeres"};
-    for (size_t k = 0; k < sizeof names / sizeof *names; k++) {
-        void (*release)(void);
-        inside = true;
-        find(names[k], &release);
-        inside = false;
-        if (release != NULL) {
-            release();
-        }
-    }
+    call_each("_ZN9__gnu_cxx9__freeresEv");
+    call_each("__libc_freeres");
 }
 
 static void at_exit(void *unused)
@@ -340,10 +352,25 @@ EXPORT const char *tlsf_trace_end(void)
 
 /* ---- exec: the log ends, and goes on where the call returns */
 
-static int back(bool ended, int result)
+/* What was done before a call of exec: whether the log has ended, and whether the program is noted as untraced. */
+struct before {
+    bool ended, noted;
+};
+
+static struct before leave_for(const char *program, char *const variables[])
 {
-    if (ended) {
-        int code = errno;
+    find_real();
+    struct before before = {end(), child_note(getpid(), program, variables)};
+    return before;
+}
+
+static int back(struct before before, int result)
+{
+    int code = errno;
+    if (before.noted) {
+        child_take_back(getpid());
+    }
+    if (before.ended) {
         inside = true;
         log_lock();
         log_resume();
@@ -352,52 +379,46 @@ static int back(bool ended, int result)
         }
         log_unlock();
         inside = false;
-        errno = code;
     }
+    errno = code;
     return result;
 }
 
 EXPORT int execve(const char *path, char *const words[], char *const variables[])
 {
-    find_real();
-    bool ended = end();
-    return back(ended, real.execve(path, words, variables));
+    struct before before = leave_for(path, variables);
+    return back(before, real.execve(path, words, variables));
 }
 
 EXPORT int execv(const char *path, char *const words[])
 {
-    find_real();
-    bool ended = end();
-    return back(ended, real.execv(path, words));
+    struct before before = leave_for(path, environ);
+    return back(before, real.execv(path, words));
 }
 
 EXPORT int execvp(const char *file, char *const words[])
 {
-    find_real();
-    bool ended = end();
-    return back(ended, real.execvp(file, words));
+    struct before before = leave_for(file, environ);
+    return back(before, real.execvp(file, words));
 }
 
 EXPORT int execvpe(const char *file, char *const words[], char *const variables[])
 {
-    find_real();
-    bool ended = end();
-    return back(ended, real.execvpe(file, words, variables));
+    struct before before = leave_for(file, variables);
+    return back(before, real.execvpe(file, words, variables));
 }
 
 EXPORT int fexecve(int file, char *const words[], char *const variables[])
 {
-    find_real();
-    bool ended = end();
-    return back(ended, real.fexecve(file, words, variables));
+    struct before before = leave_for(words[0], variables);
+    return back(before, real.fexecve(file, words, variables));
 }
 
 EXPORT int execveat(int folder, const char *path, char *const words[], char *const variables[],
                     int flags)
 {
-    find_real();
-    bool ended = end();
-    return back(ended, real.execveat(folder, path, words, variables, flags));
+    struct before before = leave_for(path[0] == 0 ? words[0] : path, variables);
+    return back(before, real.execveat(folder, path, words, variables, flags));
 }
 
 /* The number of words of a list that ends with a null pointer. */

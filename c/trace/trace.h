@@ -12,6 +12,7 @@
  *     held.c     the blocks that are held at the end, by the log
  *     reach.c    which of them the process's memory still points to
  *     process.c  where a log begins and ends: start, fork, exec, exit, and a running program's orders
+ *     child.c    the calls that start a program, of which those are noted that aren't traced
  *     limits.c   the calls by which a process limits itself: the log is made ready for that
  *
  * The environment has TLSF_TRACE_LOG, the log's name; TLSF_TRACE_FRAMES, the most frames of a
@@ -24,9 +25,11 @@
 #ifndef TLSF_TRACE_H
 #define TLSF_TRACE_H
 
+#include <spawn.h>
 #include <stdbool.h>
 #include <stddef.h>
 #include <stdint.h>
+#include <stdio.h>
 #include <sys/auxv.h>
 #include <sys/resource.h>
 #include <sys/types.h>
@@ -66,6 +69,10 @@ struct real {
     int (*execvpe)(const char *, char *const[], char *const[]);
     int (*fexecve)(int, char *const[], char *const[]);
     int (*execveat)(int, const char *, char *const[], char *const[], int);
+    int (*posix_spawn)(pid_t *, const char *, const posix_spawn_file_actions_t *, const posix_spawnattr_t *, char *const[], char *const[]);
+    int (*posix_spawnp)(pid_t *, const char *, const posix_spawn_file_actions_t *, const posix_spawnattr_t *, char *const[], char *const[]);
+    int (*system)(const char *);
+    FILE *(*popen)(const char *, const char *);
     int (*prctl)(int, ...);
     long (*syscall)(long, ...);
     int (*mlockall)(int);
@@ -139,6 +146,16 @@ void log_detach(void);
 
 /* The name of the log's file, as long as this process has one. */
 const char *log_path(void);
+
+/* Adds words to the index, each ended by a zero, in one write. Without the lock: a child of vfork may do it. */
+void log_note(const char *words, size_t length);
+
+/* child.c */
+
+/* Notes a program that is to be started with these variables, or the process's own, where they don't preload the tracer.
+ * Returns whether they don't. And takes the last note of a process back. */
+bool child_note(pid_t process, const char *program, char *const variables[]);
+void child_take_back(pid_t process);
 
 /* since.c: with the lock held. */
 
