@@ -13,7 +13,7 @@
 #include <sys/syscall.h>
 #include <unistd.h>
 
-enum { FRAMES_USUAL = 32 };
+enum { FRAMES_USUAL = 256 };
 
 __thread bool inside __attribute__((tls_model("initial-exec")));
 struct real real;

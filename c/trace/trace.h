@@ -42,8 +42,8 @@
  * of a realloc. A path has at most PATH_MOST bytes with its end. */
 enum { LOCATION_MOST = 255, LINE_MOST = 317, LINES_MOST = 2 * LINE_MOST, PATH_MOST = 4096 };
 
-/* The most frames that a stack can be asked to have. */
-enum { FRAMES_MOST = 64 };
+/* The most frames that a stack can be asked to have. Behind these one more can stand, for all others. */
+enum { FRAMES_MOST = 256 };
 
 /* Whether this thread is in the tracer: what it asks for then isn't written. */
 extern __thread bool inside __attribute__((tls_model("initial-exec")));
@@ -256,8 +256,8 @@ bool next_line(struct reader *reader);
  * `main` on. */
 enum kind { PROGRAM, OPERATOR, START };
 
-/* The most modules, and the number of known functions. */
-enum { MODULES_MOST = 2048, KNOWN = 19 };
+/* The most modules, the number of known functions, and the most bytes of a build id: a longer one isn't told. */
+enum { MODULES_MOST = 2048, KNOWN = 19, BUILD_ID_MOST = 32 };
 
 /* Code of one kind: what returns there was called by it. */
 struct range {
@@ -265,11 +265,13 @@ struct range {
     enum kind kind;
 };
 
-/* A module: where it begins in memory, its path as text, and its known functions. */
+/* A module: where it begins in memory, its path as text, its build id, and its known functions. */
 struct module {
     uintptr_t base;
     const char *text;
     size_t length;
+    unsigned char build_id[BUILD_ID_MOST];
+    unsigned build_id_length;
     unsigned ranges;
     struct range range[KNOWN];
 };
@@ -300,7 +302,8 @@ void module_in_child(void);
 
 /* stack.c */
 
-/* A frame that is told: its module, and the address that it returns to, less the module's base. */
+/* A frame that is told: its module, and the address that it returns to, less the module's base. Module 0 at 0
+ * stands for frames that aren't told. */
 struct place {
     uint64_t offset;
     unsigned module;
@@ -324,7 +327,7 @@ void stack_in_child(void);
 
 /* told.c */
 
-/* The number of a stack of 1 to FRAMES_MOST frames, which is told where it is new. 0 where there is
+/* The number of a stack of 1 to FRAMES_MOST + 1 frames, which is told where it is new. 0 where there is
  * no memory for it. With the log's lock held. */
 unsigned told_stack(const struct place *frames, unsigned length);
 

@@ -80,6 +80,19 @@ function readSites(bytes) {
   return parts;
 }
 
+// What of a log's end is lost, possibly lost and still reachable, by LOG.reachable: bytes and blocks by location.
+function readReachable(bytes) {
+  const names = ["Lost", "Possibly lost", "Still reachable"], parts = [];
+  eachLine(bytes, 0, (line) => {
+    const head = /^(.+): (\d+) blocks, (\d+) bytes\.$/.exec(line), site = /^(\d+) bytes in (\d+) blocks(?: at (.*))?$/s.exec(line);
+    if (head && head[1] === names[parts.length]) parts.push(new Map());
+    else if (site && parts.length) parts[parts.length - 1].set(site[3] || "", [numberOf(site[1]), numberOf(site[2])]);
+    else throw new Differs("the list of what is reachable is none");
+  });
+  if (parts.length !== names.length) throw new Differs("the list of what is reachable has no three parts");
+  return parts;
+}
+
 // Calls `take` for each block that isn't freed: size, line and location.
 function readLeaks(bytes, take) {
   eachLine(bytes, readDiagnostics(bytes, () => {}), (line) => {

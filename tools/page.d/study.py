@@ -224,6 +224,8 @@ class Study:
         """Says which programs and libraries were changed after the log was written, and which have no lines."""
         for module in self.functions.newer_than(os.stat(self.path).st_mtime_ns):
             self.say(f"{module} is newer than {self.name}: its source lines may be others")
+        for other in self.functions.of_others():
+            self.say(other)
         bare = self.functions.without_lines()
         if bare:
             self.say(bare)
