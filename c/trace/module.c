@@ -43,7 +43,7 @@ _Static_assert(sizeof known / sizeof *known == KNOWN, "each known function has a
 /* The table of modules, and the text of their paths. The first module is that of code without a
  * file. Where either is full, further modules are that one. */
 enum { TEXT_MOST = 1 << 19, ENCODED_MOST = 3 * PATH_MOST };
-static struct module modules[MODULES_MOST] = {{.text = "?", .length = 1}};
+static struct module modules[MODULES_MOST];
 static unsigned module_count = 1;
 static char texts[TEXT_MOST];
 static size_t text_used;
@@ -335,6 +335,8 @@ void module_begin(void)
 {
     ssize_t length = readlink("/proc/self/exe", program, sizeof program - 1);
     program[length < 0 ? 0 : length] = 0;
+    modules[0].text = "?";
+    modules[0].length = 1;
 }
 
 void module_in_child(void)

@@ -196,12 +196,14 @@ void slots_in_child(void);
  * amid its block; or by a chain of pointers to where blocks begin. */
 enum reach { LOST, POSSIBLY_LOST, REACHABLE, REACHES };
 
-/* A block that is held: its address, the bytes that were asked for, and the number of its stack, or 0. */
+/* A block that is held: its address, the bytes that were asked for, and the number of its stack, or 0. One that is lost
+ * with others which lead to it has the number of their first's stack, or 0. */
 struct block {
     uintptr_t start;
     size_t size;
     uint32_t stack;
     uint32_t reach;
+    uint32_t leader;
 };
 
 /* The blocks that are held, in order of address, and the greatest number of a stack. While the log is

@@ -99,6 +99,11 @@ int main(int count, char **words)
     void *kept[100];
     for (int k = 0; k < 100; k++)
         kept[k] = malloc(70);
+    if (strcmp(word, "waits") == 0) {
+        char byte;
+        filter_calls(0);
+        return write(1, "ready\n", 6) < 6 || read(0, &byte, 1) < 1 || write(1, "ended\n", 6) < 6;
+    }
     if (limit(word) != 0)
         return 9;
     work(100000);

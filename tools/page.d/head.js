@@ -155,7 +155,9 @@ function poolWords() {
 function readWords() {
   const { sites, kinds } = data.head;
   const each = kinds.flatMap((count, kind) => count ? [`${told(count)} ${KIND_NAMES[kind]}`] : []).join(", ");
-  return `${data.log}: ${counted(data.lines, "line")}, ${counted(sites, "site")} in ${counted(data.functions.length - 1, "function")}, ` +
+  // Without names each site is a function for itself.
+  const functions = data.named ? ` in ${counted(data.functions.length - 1, "function")}` : "";
+  return `${data.log}: ${counted(data.lines, "line")}, ${counted(sites, "site")}${functions}, ` +
     (each ? `${counted(data.faulty, "diagnostic")} (${each}).` : "no diagnostic.") +
     (data.head.end === "ended" ? " It has no end: a signal ended its process, or lines are missing." : "");
 }

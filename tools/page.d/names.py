@@ -15,7 +15,7 @@ from stacks import path_of
 
 # Libraries whose frames are of the standard library, whatever they are called.
 STANDARD_MODULE = re.compile(r"(?:libc|libm|libdl|librt|libpthread|libstdc\+\+|libc\+\+|libc\+\+abi|libgcc_s|ld|ld-linux[-\w]*)[-.\d]*\.so")
-STANDARD_FILE = re.compile(r".*/include/(?:[-\w.]+/)?c\+\+/v?\d|/rustc/|/rust/deps/|.*/rustlib/src/rust/library/|library/(?:alloc|core|std)/src/")
+STANDARD_FILE = re.compile(r".*/include/(?:[-\w.]+/)?c\+\+/v?\d|/rustc/|/rust/deps/|.*/rustc-\d[^/]*/(?:library|vendor)/|.*/rustlib/src/rust/library/|library/(?:alloc|core|std)/src/")
 STANDARD_NAME = re.compile(r"execute_native_thread_routine$|(?:std|core|alloc|hashbrown|__gnu_cxx|__cxxabiv1)::|operator (?:new|delete)\b|__rust_|__rdl_|__rustc|"
                            r"<[^ :]* as (?:std|core|alloc)::|<[&*\[]*(?:mut )?(?:std|core|alloc|hashbrown)::")
 CLONE = re.compile(r" \[clone [^\]]*\]|\[abi:\w+\]|::h[0-9a-f]{16}$|(?<=\w)\[[0-9a-f]{16}\]|(?:\.(?:constprop|isra|part|cold|llvm|lto_priv|localalias)(?:\.\d+)*)+$")

@@ -65,8 +65,13 @@ def is_there(process):
         return False
 
 
+def filter_of(process):
+    """What a process has as a filter of its system calls."""
+    return status_of(process, "Seccomp"), status_of(process, "Seccomp_filters")
+
+
 def check(process):
-    """Raises where a process isn't there, is another's, or is debugged."""
+    """Raises where a process isn't there, is another's, is debugged, or may not do what the tracer does."""
     if not is_there(process):
         raise Refused(f"there is no process {process}")
     if os.getuid() not in (0, os.stat(f"/proc/{process}").st_uid):
@@ -79,6 +84,8 @@ def check(process):
             raise Refused(f"process {process} has other files than this one, as in a container: run this there")
     except PermissionError:
         raise Refused(f"process {process} may not be looked into: ptrace isn't permitted, for it has more rights or gave up some") from None
+    if status_of(process, "Seccomp") not in ("", "0") and filter_of(process) != filter_of("self"):
+        raise Refused(f"process {process} is behind a filter of its system calls, which might end it for what the tracer does")
     if not shutil.which("gdb"):
         raise Refused("gdb isn't found: install it (Debian's gdb)")
     if not shutil.which("nm"):
