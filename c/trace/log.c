@@ -1,40 +1,65 @@
 /* log.c: the log of a process.
  *
- * Its file is mapped piece by piece, shared, so that each line is the kernel's once it is written:
- * whatever ends the process, no line is lost. Behind the last line the piece has zeros, which
- * log_end cuts off, or tools/trace where the process was killed. No descriptor stays open, since
- * programs close those that they don't know. System calls are made by syscall(): the C library's
- * open and write are cancellation points, and may be those of another preloaded library.
+ * Its file is mapped, shared, so that each line is the kernel's once it is written: whatever ends the
+ * process, no line is lost. Behind the last line the file has zeros, which log_end cuts off, or
+ * tools/trace where the process was killed. No descriptor stays open, since programs close those that
+ * they don't know.
+ *
+ * A gigabyte is mapped at once, of a file that has holes. So the log goes on where the process may no
+ * longer open it: behind chroot, setuid or a filter of its system calls, or with no descriptor left.
+ * Room on the disk is promised a piece at a time; where the file can't be opened each page is tried
+ * before it is written to. Where the log can't go on its last line says that it is cut.
+ *
+ * System calls are made by syscall(): the C library's open and write are cancellation points, and may
+ * be those of another preloaded library.
  */
 #define _GNU_SOURCE
 #include "trace.h"
 
 #include <errno.h>
 #include <fcntl.h>
+#include <linux/magic.h>
 #include <pthread.h>
 #include <signal.h>
 #include <stdio.h>
 #include <stdlib.h>
 #include <string.h>
 #include <sys/mman.h>
+#include <sys/prctl.h>
+#include <sys/resource.h>
+#include <sys/stat.h>
 #include <sys/syscall.h>
+#include <sys/vfs.h>
 #include <time.h>
 #include <unistd.h>
 
-enum { PIECE = 1 << 20, NAMES_MOST = 1000, LOOK_EACH = 100, TELL_EACH = 10000 };
+#ifndef EXFAT_SUPER_MAGIC
+#define EXFAT_SUPER_MAGIC 0x2011BAB0
+#endif
 
-static const char end_line[] = "= End\n";
-enum { END_BYTES = sizeof end_line - 1 };
+/* A piece is as much as the disk promises at once. What is mapped ahead is a multiple of it. */
+enum { PIECE = 1 << 20, AHEAD = 1 << 30, NAMES_MOST = 1000, LOOK_EACH = 100, TELL_EACH = 10000 };
+
+static const char end_line[] = "= End\n", cut_line[] = "@ cut ! (nil) 0\n";
+enum { END_BYTES = sizeof end_line - 1, CUT_BYTES = sizeof cut_line - 1 };
 
 static pthread_mutex_t lock = PTHREAD_MUTEX_INITIALIZER;
 
-/* Written: the bytes of whole lines. The piece is mapped from a byte of the file on, and is null
- * where the file has ended. */
-static char path[PATH_MOST];
+/* The names of the file and of the index, and what tells the file from others. Written: the bytes of whole lines. What is mapped begins with a byte of
+ * the file, and is null where the file was cut to its length. There is room up to another byte. */
+static char path[PATH_MOST], index_path[PATH_MOST];
+static struct stat made;
 static pid_t process;
-static char *piece;
-static size_t piece_from;
-static size_t written;
+static char *mapped;
+static size_t mapped_from, mapped_bytes;
+static size_t written, room_to;
+/* Whether the end is written; whether no more than a piece is mapped; and from which byte on the file is opened again for
+ * room, where that failed. */
+static bool is_ended, is_small;
+static size_t try_from;
+/* The process that may open no file any more, and the filter of system calls that it had at first. */
+static pid_t sealed;
+static long first_filter;
 /* When the log began, and when its age was told last, in milliseconds; and how often it was written to. */
 static uint64_t begun, last_told, writes;
 /* Whether the log was detached: what is written is lost. */
@@ -51,6 +76,8 @@ bool log_is_on(void) { return *alive != 0; }
 pid_t log_process(void) { return process; }
 const char *log_path(void) { return path; }
 
+/* ---- the file */
+
 static int open_file(const char *name, int flags)
 {
     return (int)syscall(SYS_openat, AT_FDCWD, name, flags | O_CLOEXEC, 0666);
@@ -58,29 +85,87 @@ static int open_file(const char *name, int flags)
 
 static void close_file(int file) { syscall(SYS_close, file); }
 
-/* The log can't go on: it stays as far as it is, without an end. This process has no other. */
+bool log_is_sealed(void) { return sealed != 0 && sealed == getpid(); }
+
+bool log_may_open(void)
+{
+    return !log_is_sealed() && syscall(SYS_prctl, PR_GET_SECCOMP, 0ul, 0ul, 0ul, 0ul) == first_filter;
+}
+
+/* Opens the log again, or fails: its name may be that of another file by now, as behind chroot. */
+static int open_again(int flags)
+{
+    struct stat now;
+    int file = log_may_open() ? open_file(path, flags) : -1;
+    if (file >= 0 && (fstat(file, &now) != 0 || now.st_dev != made.st_dev || now.st_ino != made.st_ino)) {
+        close_file(file);
+        file = -1;
+    }
+    return file;
+}
+
+/* Cuts the file to a length. Returns whether it could. */
+static bool cut_file(size_t length)
+{
+    int file = open_again(O_WRONLY);
+    bool is_cut = file >= 0 && ftruncate(file, (off_t)length) == 0;
+    if (file >= 0) {
+        close_file(file);
+    }
+    return is_cut;
+}
+
+static void unmap(void)
+{
+    if (mapped != NULL) {
+        munmap(mapped, mapped_bytes);
+        mapped = NULL;
+    }
+}
+
+/* The log can't go on: it stays as far as it is, with a last line that says so. This process has no other. */
 static void fail(const char *why)
 {
     say(path, why);
     *alive = 0;
-    if (piece != NULL) {
-        munmap(piece, PIECE);
-        piece = NULL;
-        (void)!truncate(path, (off_t)written);
+    if (mapped != NULL && written + CUT_BYTES <= room_to) {
+        memcpy(mapped + (written - mapped_from), cut_line, CUT_BYTES);
+        written += CUT_BYTES;
+    }
+    if (mapped != NULL) {
+        unmap();
+        cut_file(written);
     }
 }
 
-/* Room on the disk for a piece from a byte on, and the file as long. Where a file system can't
- * promise room the file is made longer alone. The signal of a file that may not be as long isn't
- * for the program. */
-static bool make_room(int file, size_t from)
+/* ---- room */
+
+/* How many bytes from here on can be mapped and the file be longer, as the limits of the process have it: less than a piece
+ * where it can't go on. On a file system without holes, and where memory is limited or locked, it is a piece. */
+static size_t bytes_ahead(int file, size_t from)
+{
+    struct rlimit limit;
+    struct statfs system;
+    size_t bytes = AHEAD;
+    if (getrlimit(RLIMIT_AS, &limit) != 0 || limit.rlim_cur != RLIM_INFINITY || fstatfs(file, &system) != 0 ||
+        system.f_type == MSDOS_SUPER_MAGIC || system.f_type == EXFAT_SUPER_MAGIC || is_small) {
+        bytes = PIECE;
+    }
+    if (getrlimit(RLIMIT_FSIZE, &limit) == 0 && limit.rlim_cur != RLIM_INFINITY) {
+        size_t most = limit.rlim_cur / PAGE * PAGE;
+        bytes = most <= from ? 0 : most - from < bytes ? most - from : bytes;
+    }
+    return bytes;
+}
+
+/* Makes the file longer. The signal of a file that may not be as long isn't for the program. */
+static bool lengthen(int file, size_t length)
 {
     sigset_t limit, before;
     sigemptyset(&limit);
     sigaddset(&limit, SIGXFSZ);
     pthread_sigmask(SIG_BLOCK, &limit, &before);
-    bool made = syscall(SYS_fallocate, file, 0, (long)from, (long)PIECE) == 0 ||
-        (errno == EOPNOTSUPP && ftruncate(file, (off_t)from + PIECE) == 0);
+    bool made = ftruncate(file, (off_t)length) == 0;
     if (!made) {
         struct timespec none = {0, 0};
         syscall(SYS_rt_sigtimedwait, &limit, NULL, &none, 8);
@@ -89,47 +174,141 @@ static bool make_room(int file, size_t from)
     return made;
 }
 
-/* Maps the piece that begins with the page of the last byte written. */
-static bool map_piece(void)
+/* The disk promises room for the next piece, or what of it is mapped. */
+static bool promise(int file)
+{
+    size_t left = mapped_from + mapped_bytes - room_to, bytes = left < PIECE ? left : PIECE;
+    bool is_promised = syscall(SYS_fallocate, file, 0, (long)room_to, (long)bytes) == 0;
+    room_to += is_promised ? bytes : 0;
+    return is_promised;
+}
+
+/* The same by the file's name. Where that fails it is tried again a piece later. */
+static bool promise_again(void)
+{
+    if (room_to < try_from) {
+        return false;
+    }
+    int file = open_again(O_RDWR);
+    bool is_promised = file >= 0 && promise(file);
+    if (file >= 0) {
+        close_file(file);
+    }
+    try_from = is_promised ? 0 : room_to + PIECE;
+    return is_promised;
+}
+
+/* Tries the next page: the kernel writes into it what signals are blocked, and says where it can't. To write there oneself
+ * would end the process. */
+static bool try_page(void)
+{
+    char *page = mapped + (room_to - mapped_from);
+    if (syscall(SYS_rt_sigprocmask, SIG_BLOCK, NULL, page, 8ul) != 0) {
+        return false;
+    }
+    memset(page, 0, 8);
+    room_to += PAGE;
+    return true;
+}
+
+/* Maps what lies ahead, from the page of the last byte written on: at most so many bytes. */
+static bool map_ahead(int file, size_t most)
+{
+    size_t from = written / PAGE * PAGE;
+    size_t bytes = bytes_ahead(file, from);
+    bytes = bytes > most ? most : bytes;
+    if (bytes <= written - from + LINES_MOST + CUT_BYTES || !lengthen(file, from + bytes)) {
+        return false;
+    }
+    void *memory = mmap(NULL, bytes, PROT_READ | PROT_WRITE, MAP_SHARED, file, (off_t)from);
+    if (memory == MAP_FAILED) {
+        return false;
+    }
+    /* Else the kernel reads ahead, in holes. */
+    madvise(memory, bytes, MADV_RANDOM);
+    unmap();
+    mapped = memory;
+    mapped_from = from;
+    mapped_bytes = bytes;
+    room_to = room_to > from ? room_to : from;
+    try_from = 0;
+    return promise(file) || try_page();
+}
+
+/* Maps the file on, or for the first time: as far as the process has room for it. */
+static bool map_on(void)
 {
     if (is_detached) {
         return false;
     }
-    size_t from = written / PAGE * PAGE;
-    int file = open_file(path, O_RDWR);
+    int file = open_again(O_RDWR);
     if (file < 0) {
         fail("can't be opened again, so the log is cut");
         return false;
     }
-    bool room = make_room(file, from);
-    void *memory = room ? mmap(NULL, PIECE, PROT_READ | PROT_WRITE, MAP_SHARED, file, (off_t)from)
-                        : MAP_FAILED;
+    bool is_mapped = map_ahead(file, AHEAD) || map_ahead(file, PIECE);
     close_file(file);
-    if (memory == MAP_FAILED) {
+    if (!is_mapped) {
         fail("has no room, so the log is cut");
-        return false;
     }
-    if (piece != NULL) {
-        munmap(piece, PIECE);
+    return is_mapped;
+}
+
+/* Gives whole pieces back whose lines are written: they are the kernel's. */
+static void unmap_written(void)
+{
+    size_t behind = (written - mapped_from) / PIECE * PIECE;
+    if (behind > 0 && behind < mapped_bytes) {
+        munmap(mapped, behind);
+        mapped += behind;
+        mapped_from += behind;
+        mapped_bytes -= behind;
     }
-    piece = memory;
-    piece_from = from;
+}
+
+/* Whether there is room for so many bytes, and the line that says that the log is cut. */
+static bool has_room(size_t bytes)
+{
+    while (written + bytes + CUT_BYTES > room_to) {
+        if (is_detached) {
+            return false;
+        }
+        unmap_written();
+        if (room_to >= mapped_from + mapped_bytes) {
+            if (!map_on()) {
+                return false;
+            }
+        } else if (!promise_again() && !try_page()) {
+            fail("has no room, so the log is cut");
+            return false;
+        }
+    }
     return true;
 }
 
-/* After the end: a line takes the place of the last, which is written again behind it. */
+/* ---- lines */
+
+/* After the end, where the file was cut: a line takes the place of the last, which is written again behind it. */
+static void write_to_file(const char *text, size_t length)
+{
+    int file = is_detached ? -1 : open_again(O_WRONLY);
+    if (file >= 0) {
+        syscall(SYS_pwrite64, file, text, length, (long)written);
+        close_file(file);
+        written += length - END_BYTES;
+    }
+}
+
+/* After the end. */
 static void write_before_end(const char *lines, size_t length)
 {
-    if (is_detached) {
-        return;
-    }
     char text[LINES_MOST + END_BYTES];
     memcpy(text, lines, length);
     memcpy(text + length, end_line, END_BYTES);
-    int file = open_file(path, O_WRONLY);
-    if (file >= 0) {
-        syscall(SYS_pwrite64, file, text, length + END_BYTES, (long)written);
-        close_file(file);
+    if (mapped == NULL) {
+        write_to_file(text, length + END_BYTES);
+    } else if (has_room(length + END_BYTES)) {
+        memcpy(mapped + (written - mapped_from), text, length + END_BYTES);
         written += length;
     }
 }
@@ -137,15 +316,12 @@ static void write_before_end(const char *lines, size_t length)
 /* Writes whole lines behind the last one. */
 static void append(const char *lines, size_t length)
 {
-    if (piece == NULL) {
+    if (is_ended) {
         write_before_end(lines, length);
-        return;
+    } else if (has_room(length)) {
+        memcpy(mapped + (written - mapped_from), lines, length);
+        written += length;
     }
-    if (written - piece_from + LINES_MOST > PIECE && !map_piece()) {
-        return;
-    }
-    memcpy(piece + (written - piece_from), lines, length);
-    written += length;
 }
 
 static uint64_t milliseconds(void)
@@ -195,16 +371,20 @@ static void tell_before(void)
     }
 }
 
+/* Where the file can't be opened zeros stay behind the end, which tools/trace cuts off. */
 void log_end(void)
 {
-    if (log_is_on() && piece != NULL) {
-        tell_before();
+    if (!log_is_on() || is_ended) {
+        return;
     }
-    if (log_is_on() && piece != NULL) {
-        memcpy(piece + (written - piece_from), end_line, END_BYTES);
-        munmap(piece, PIECE);
-        piece = NULL;
-        (void)!truncate(path, (off_t)(written + END_BYTES));
+    tell_before();
+    if (log_is_on() && has_room(END_BYTES)) {
+        memcpy(mapped + (written - mapped_from), end_line, END_BYTES);
+        is_ended = true;
+        if (cut_file(written + END_BYTES)) {
+            unmap();
+            room_to = 0;
+        }
     }
 }
 
@@ -216,31 +396,46 @@ void log_close(void)
 
 void log_drop(const char *why) { fail(why); }
 
+void log_seal(bool is_on) { sealed = is_on ? getpid() : 0; }
+
+void log_keep_small(void)
+{
+    is_small = true;
+    size_t kept = room_to - mapped_from;
+    if (mapped != NULL && kept < mapped_bytes) {
+        munmap(mapped + kept, mapped_bytes - kept);
+        mapped_bytes = kept;
+    }
+}
+
 void log_resume(void)
 {
-    if (log_is_on() && piece == NULL && map_piece()) {
-        memset(piece + (written - piece_from), 0, END_BYTES);
+    if (log_is_on() && is_ended && (mapped != NULL || map_on())) {
+        memset(mapped + (written - mapped_from), 0, END_BYTES);
+        is_ended = false;
     }
 }
 
 void log_forget(void)
 {
-    if (piece != NULL) {
-        munmap(piece, PIECE);
-        piece = NULL;
-    }
+    unmap();
     *alive = 0;
+    /* A filter of system calls is the child's, too. */
+    sealed = sealed != 0 && sealed == process ? getpid() : 0;
     process = 0;
-    written = 0;
+    written = room_to = 0;
+    is_ended = false;
     pthread_mutex_t fresh = PTHREAD_MUTEX_INITIALIZER;
     lock = fresh;
 }
 
 void log_detach(void)
 {
-    if (piece != NULL) {
+    if (mapped != NULL) {
+        /* With the page that may just be tried. */
+        size_t left = mapped_from + mapped_bytes - written / PAGE * PAGE, wanted = room_to + PAGE - written / PAGE * PAGE;
         int kind = MAP_PRIVATE | MAP_ANONYMOUS | MAP_FIXED;
-        mmap(piece, PIECE, PROT_READ | PROT_WRITE, kind, -1, 0);
+        mmap(mapped + (written / PAGE * PAGE - mapped_from), wanted < left ? wanted : left, PROT_READ | PROT_WRITE, kind, -1, 0);
     }
     *alive = 0;
     is_detached = true;
@@ -273,8 +468,9 @@ static bool make_file(const char *name)
     for (int tries = 0; tries < NAMES_MOST && name_file(name, tries); tries++) {
         int file = open_file(path, O_RDWR | O_CREAT | O_EXCL);
         if (file >= 0) {
+            bool is_told = fstat(file, &made) == 0;
             close_file(file);
-            return true;
+            return is_told;
         }
         if (errno != EEXIST) {
             return false;
@@ -283,22 +479,29 @@ static bool make_file(const char *name)
     return false;
 }
 
+void log_note(const char *words, size_t length)
+{
+    int file = index_path[0] == 0 || !log_may_open() ? -1 : open_file(index_path, O_WRONLY | O_APPEND);
+    if (file >= 0) {
+        syscall(SYS_write, file, words, length);
+        close_file(file);
+    }
+}
+
 /* Adds process, log and program to the index, each ended by a zero. With the lock held. */
 static void add_to_index(void)
 {
     static char entry[2 * PATH_MOST + 32], program[PATH_MOST];
-    const char *index = getenv("TLSF_TRACE_INDEX");
-    int file = index == NULL ? -1 : open_file(index, O_WRONLY | O_APPEND);
-    if (file < 0) {
-        return;
+    const char *given = getenv("TLSF_TRACE_INDEX");
+    if (given != NULL && strlen(given) < sizeof index_path) {
+        strcpy(index_path, given);
     }
     ssize_t length = readlink("/proc/self/exe", program, sizeof program - 1);
     program[length < 0 ? 0 : length] = 0;
     int bytes = snprintf(entry, sizeof entry, "%d%c%s%c%s%c", (int)process, 0, path, 0, program, 0);
     if (bytes > 0) {
-        syscall(SYS_write, file, entry, (size_t)bytes);
+        log_note(entry, (size_t)bytes);
     }
-    close_file(file);
 }
 
 /* The page with `alive`. */
@@ -318,16 +521,22 @@ bool log_begin(const char *name)
     static const char start_line[] = "= Start\n";
     make_alive();
     told_forget();
-    is_detached = false;
+    is_detached = is_ended = false;
     begun = last_told = milliseconds();
     writes = 0;
     process = getpid();
-    written = 0;
+    written = room_to = 0;
+    if (log_is_sealed()) {
+        say(name, "can't be made by a child behind a filter of system calls, so nothing of it is traced");
+        return false;
+    }
+    first_filter = syscall(SYS_prctl, PR_GET_SECCOMP, 0ul, 0ul, 0ul, 0ul);
+    is_small |= since_is_on();
     if (!make_file(name)) {
         fail("can't be made, so nothing is traced");
         return false;
     }
-    if (!map_piece()) {
+    if (!map_on()) {
         return false;
     }
     *alive = 1;

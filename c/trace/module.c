@@ -43,7 +43,7 @@ _Static_assert(sizeof known / sizeof *known == KNOWN, "each known function has a
 /* The table of modules, and the text of their paths. The first module is that of code without a
  * file. Where either is full, further modules are that one. */
 enum { TEXT_MOST = 1 << 19, ENCODED_MOST = 3 * PATH_MOST };
-static struct module modules[MODULES_MOST] = {{.text = "?", .length = 1}};
+static struct module modules[MODULES_MOST];
 static unsigned module_count = 1;
 static char texts[TEXT_MOST];
 static size_t text_used;
@@ -192,6 +192,37 @@ static void find_known(struct module *module, const struct dl_phdr_info *info)
     }
 }
 
+/* Takes the build id of a part with notes: each has the lengths of its name and of what it tells, a kind, and both of
+ * these, at multiples of four bytes. */
+static void read_notes(struct module *module, const char *at, size_t left)
+{
+    ElfW(Nhdr) note;
+    while (left >= sizeof note) {
+        memcpy(&note, at, sizeof note);
+        size_t name = (note.n_namesz + 3u) & ~3u, told = (note.n_descsz + 3u) & ~3u;
+        if (left - sizeof note < name + told) {
+            return;
+        }
+        const char *text = at + sizeof note;
+        if (note.n_type == NT_GNU_BUILD_ID && note.n_namesz == 4 && memcmp(text, "GNU", 4) == 0 && note.n_descsz <= BUILD_ID_MOST) {
+            memcpy(module->build_id, text + name, note.n_descsz);
+            module->build_id_length = note.n_descsz;
+        }
+        at += sizeof note + name + told;
+        left -= sizeof note + name + told;
+    }
+}
+
+static void find_build_id(struct module *module, const struct dl_phdr_info *info)
+{
+    for (int k = 0; k < info->dlpi_phnum; k++) {
+        const ElfW(Phdr) *part = &info->dlpi_phdr[k];
+        if (part->p_type == PT_NOTE) {
+            read_notes(module, (const char *)(info->dlpi_addr + part->p_vaddr), part->p_memsz);
+        }
+    }
+}
+
 /* What is asked for the first object that defines a name, and its address there. */
 struct definition {
     const char *name;
@@ -248,6 +279,7 @@ static unsigned number_of(const struct dl_phdr_info *info, uintptr_t base)
     module->text = memcpy(texts + text_used, text, length);
     module->length = length;
     text_used += length;
+    find_build_id(module, info);
     find_known(module, info);
     return module_count++;
 }
@@ -303,6 +335,8 @@ void module_begin(void)
 {
     ssize_t length = readlink("/proc/self/exe", program, sizeof program - 1);
     program[length < 0 ? 0 : length] = 0;
+    modules[0].text = "?";
+    modules[0].length = 1;
 }
 
 void module_in_child(void)

@@ -13,7 +13,7 @@
 #include <sys/syscall.h>
 #include <unistd.h>
 
-enum { FRAMES_USUAL = 32 };
+enum { FRAMES_USUAL = 256 };
 
 __thread bool inside __attribute__((tls_model("initial-exec")));
 struct real real;
@@ -21,8 +21,8 @@ static char name[PATH_MOST];
 /* Whether settings were read, and whether nothing is to be traced. */
 static bool is_set;
 static bool is_off;
-/* Whether tracing began while the program ran, and whether handlers were tied then. */
-static bool is_late, is_tied;
+/* Whether tracing began while the program ran, and wasn't ended by order; and whether handlers were tied then. */
+static bool is_late, is_ordered, is_tied;
 /* Whether what is still reachable is told at the end, and whether the last handler of exit runs. */
 static bool tells_reachable, is_last_handler;
 
@@ -50,6 +50,7 @@ void find_real(void)
     }
     bool before = inside;
     inside = true;
+    find("syscall", &real.syscall);
     find("free", &real.free);
     find("calloc", &real.calloc);
     find("realloc", &real.realloc);
@@ -66,6 +67,14 @@ void find_real(void)
     find("execvpe", &real.execvpe);
     find("fexecve", &real.fexecve);
     find("execveat", &real.execveat);
+    find("posix_spawn", &real.posix_spawn);
+    find("posix_spawnp", &real.posix_spawnp);
+    find("system", &real.system);
+    find("popen", &real.popen);
+    find("prctl", &real.prctl);
+    find("mlockall", &real.mlockall);
+    find("setrlimit", &real.setrlimit);
+    find("prlimit", &real.prlimit);
     find("malloc", &real.malloc);
     inside = before;
 }
@@ -83,9 +92,11 @@ __attribute__((noinline)) static bool end_by(void (*end_log)(void))
     inside = true;
     log_lock();
     end_log();
-    if (tells_reachable) {
+    if (tells_reachable && log_may_open()) {
         __builtin_unwind_init();
         reach_tell(is_last_handler);
+    } else if (tells_reachable) {
+        say(log_path(), "has no list of what is reachable: a filter of system calls may forbid to read it");
     }
     log_unlock();
     inside = false;
@@ -101,26 +112,34 @@ static bool is_alone(void)
     return stat("/proc/self/task", &told) == 0 && told.st_nlink == 3;
 }
 
-/* The C library gives back what it keeps for itself, as it does for mtrace(3), and so does that of
- * C++. Another thread might still use it. */
-static void release_libraries(void)
+/* Calls a function by its name, of the first object that has it and of the first library: a program may have
+ * the library of C++ in itself. */
+static void call_each(const char *symbol)
 {
-    static const char *const names[] = {"_ZN9__gnu_cxx9__freeresEv", "__libc_freeres"};
-    for (size_t k = 0; k < sizeof names / sizeof *names; k++) {
+    inside = true;
+    void *found[] = {dlsym(RTLD_DEFAULT, symbol), dlsym(RTLD_NEXT, symbol)};
+    inside = false;
+    for (size_t k = 0; k < 2; k++) {
         void (*release)(void);
-        inside = true;
-        find(names[k], &release);
-        inside = false;
-        if (release != NULL) {
+        memcpy(&release, &found[k], sizeof release);
+        if (release != NULL && (k == 0 || found[k] != found[0])) {
             release();
         }
     }
 }
 
+/* The C library gives back what it keeps for itself, as it does for mtrace(3), and so does that of
+ * C++. Another thread might still use it. */
+static void release_libraries(void)
+{
+    call_each("_ZN9__gnu_cxx9__freeresEv");
+    call_each("__libc_freeres");
+}
+
 static void at_exit(void *unused)
 {
     (void)unused;
-    if (!inside && log_is_on() && is_alone()) {
+    if (!inside && log_is_on() && log_may_open() && is_alone()) {
         release_libraries();
     }
     is_last_handler = true;
@@ -244,12 +263,24 @@ bool enter(void)
 
 void leave(void) { inside = false; }
 
-__attribute__((constructor)) static void start(void)
+void begin_early(void)
 {
     if (enter()) {
         leave();
     }
 }
+
+void end_early(void)
+{
+    if (!inside && log_is_on() && getpid() == log_process()) {
+        is_off = true;
+        log_lock();
+        log_drop("is cut, since its process may call read and write alone from now on");
+        log_unlock();
+    }
+}
+
+__attribute__((constructor)) static void start(void) { begin_early(); }
 
 /* ---- a running program, whose debugger calls these */
 
@@ -275,6 +306,7 @@ static bool begin_late(void)
     if (!made) {
         slots_turn(false);
     }
+    is_ordered = made;
     return made;
 }
 
@@ -308,73 +340,85 @@ EXPORT const char *tlsf_trace_begin(const char *log, int frames, int reachable)
 /* Ends the log of this process, which goes on without being traced. Returns as above. */
 EXPORT const char *tlsf_trace_end(void)
 {
-    if (!is_late || !end_by(log_close)) {
+    if (!is_ordered || getpid() != log_process()) {
         return "it isn't traced since it runs";
     }
+    /* A log that can't go on has ended by itself. */
+    end_by(log_close);
+    is_ordered = false;
     slots_turn(false);
     return log_path();
 }
 
 /* ---- exec: the log ends, and goes on where the call returns */
 
-static int back(bool ended, int result)
+/* What was done before a call of exec: whether the log has ended, and whether the program is noted as untraced. */
+struct before {
+    bool ended, noted;
+};
+
+static struct before leave_for(const char *program, char *const variables[])
 {
-    if (ended) {
-        int code = errno;
+    find_real();
+    struct before before = {end(), child_note(getpid(), program, variables)};
+    return before;
+}
+
+static int back(struct before before, int result)
+{
+    int code = errno;
+    if (before.noted) {
+        child_take_back(getpid());
+    }
+    if (before.ended) {
         inside = true;
         log_lock();
         log_resume();
-        if (tells_reachable) {
+        if (tells_reachable && log_may_open()) {
             reach_resume();
         }
         log_unlock();
         inside = false;
-        errno = code;
     }
+    errno = code;
     return result;
 }
 
 EXPORT int execve(const char *path, char *const words[], char *const variables[])
 {
-    find_real();
-    bool ended = end();
-    return back(ended, real.execve(path, words, variables));
+    struct before before = leave_for(path, variables);
+    return back(before, real.execve(path, words, variables));
 }
 
 EXPORT int execv(const char *path, char *const words[])
 {
-    find_real();
-    bool ended = end();
-    return back(ended, real.execv(path, words));
+    struct before before = leave_for(path, environ);
+    return back(before, real.execv(path, words));
 }
 
 EXPORT int execvp(const char *file, char *const words[])
 {
-    find_real();
-    bool ended = end();
-    return back(ended, real.execvp(file, words));
+    struct before before = leave_for(file, environ);
+    return back(before, real.execvp(file, words));
 }
 
 EXPORT int execvpe(const char *file, char *const words[], char *const variables[])
 {
-    find_real();
-    bool ended = end();
-    return back(ended, real.execvpe(file, words, variables));
+    struct before before = leave_for(file, variables);
+    return back(before, real.execvpe(file, words, variables));
 }
 
 EXPORT int fexecve(int file, char *const words[], char *const variables[])
 {
-    find_real();
-    bool ended = end();
-    return back(ended, real.fexecve(file, words, variables));
+    struct before before = leave_for(words[0], variables);
+    return back(before, real.fexecve(file, words, variables));
 }
 
 EXPORT int execveat(int folder, const char *path, char *const words[], char *const variables[],
                     int flags)
 {
-    find_real();
-    bool ended = end();
-    return back(ended, real.execveat(folder, path, words, variables, flags));
+    struct before before = leave_for(path[0] == 0 ? words[0] : path, variables);
+    return back(before, real.execveat(folder, path, words, variables, flags));
 }
 
 /* The number of words of a list that ends with a null pointer. */

@@ -28,6 +28,8 @@ enum { PIECE = 1 << 16, WORD = sizeof(uintptr_t), THREADS_MOST = 1024, RED_ZONE 
 /* The most parts of files, and the words of a table of functions that are looked at, of which so many are to
  * lead to code. */
 enum { FILES_MOST = 8192, TABLE_WORDS = 20, TABLE_CODE = 2 };
+/* What a lost block has in place of its first's stack until that is known. */
+#define IS_LED UINT32_MAX
 /* Words of a piece, bytes of a name, arguments of a system call, the pages that are asked for at once, the
  * most bytes of exit's code, the words that are looked at for its frame, and the registers that it keeps. */
 enum { WORDS = PIECE / WORD, NAME_MOST = PATH_MOST + 16, ARGUMENTS = 6, PAGES = 64, EXIT_CODE = 64, EXIT_WORDS = 128, EXIT_KEPT = 6 };
@@ -61,6 +63,8 @@ struct search {
     /* The kernel's list of pages, or below 0; the file that is written, how many bytes wait for it, and whether
      * all others could be written. */
     int pages, file;
+    /* The stack of the lost block whose others are looked for. */
+    uint32_t leader;
     size_t waiting;
     bool is_whole;
     struct reader reader;
@@ -188,8 +192,16 @@ static bool is_near(const struct held *held, uintptr_t word)
     return word >= held->blocks[0].start && word - last->start <= (word < last->start ? UINTPTR_MAX : last->size);
 }
 
+/* What is done with a word of a held block that can be the address of another. */
+typedef void take_t(struct search *search, const struct block *block, uintptr_t word);
+
+static void reach_on(struct search *search, const struct block *block, uintptr_t word)
+{
+    look_at(search, word, (enum reach)block->reach);
+}
+
 /* Looks at the words of a held block. */
-static void look_at_block(struct search *search, const struct block *block)
+static void look_at_block(struct search *search, const struct block *block, take_t *take)
 {
     uintptr_t from = (block->start + WORD - 1) / WORD * WORD, end = block->start + block->size;
     while (from + WORD <= end) {
@@ -197,7 +209,7 @@ static void look_at_block(struct search *search, const struct block *block)
         size_t got = read_memory(search->words, from, wanted) / WORD;
         for (size_t k = 0; k < got; k++) {
             if (is_near(&search->held, search->words[k])) {
-                look_at(search, search->words[k], (enum reach)block->reach);
+                take(search, block, search->words[k]);
             }
         }
         from += wanted;
@@ -244,10 +256,57 @@ static void look_at_roots(struct search *search, const struct mapping *mapping, 
     }
 }
 
-static void follow(struct search *search)
+static void follow(struct search *search, take_t *take)
 {
     while (search->queued > 0) {
-        look_at_block(search, &search->held.blocks[search->queue[--search->queued]]);
+        look_at_block(search, &search->held.blocks[search->queue[--search->queued]], take);
+    }
+}
+
+/* ---- which lost blocks lead to others */
+
+/* The lost block that an address is in, but for this one; or null. */
+static struct block *lost_at(const struct search *search, uintptr_t word, const struct block *but)
+{
+    struct block *block = held_find(&search->held, word);
+    return block == NULL || block == but || block->reach != LOST ? NULL : block;
+}
+
+static void note_led(struct search *search, const struct block *block, uintptr_t word)
+{
+    struct block *led = lost_at(search, word, block);
+    if (led != NULL) {
+        led->leader = IS_LED;
+    }
+}
+
+static void lead_on(struct search *search, const struct block *block, uintptr_t word)
+{
+    struct block *led = lost_at(search, word, block);
+    if (led != NULL && led->leader == IS_LED) {
+        led->leader = search->leader;
+        search->queue[search->queued++] = (uint32_t)(led - search->held.blocks);
+    }
+}
+
+/* Each lost block that none leads to is the first of those that it leads to; of a ring it is that of the lowest address. */
+static void find_leaders(struct search *search)
+{
+    for (size_t k = 0; k < search->held.count; k++) {
+        if (search->held.blocks[k].reach == LOST) {
+            look_at_block(search, &search->held.blocks[k], note_led);
+        }
+    }
+    for (uint32_t is_ring = 0; is_ring < 2; is_ring++) {
+        for (size_t k = 0; k < search->held.count; k++) {
+            struct block *block = &search->held.blocks[k];
+            if (block->reach == LOST && block->leader == (is_ring ? IS_LED : 0)) {
+                block->leader = 0;
+                search->leader = block->stack;
+                look_at_block(search, block, lead_on);
+                follow(search, lead_on);
+            }
+        }
     }
 }
 
@@ -437,7 +496,7 @@ static bool look_at_mappings(struct search *search)
 
 /* ---- what is told */
 
-/* Adds up the blocks of one reach by their stacks, and returns the sum of all. */
+/* Adds up the blocks of one reach that none leads to by their stacks, and returns the sum of all. */
 static struct sum add_up(const struct held *held, enum reach reach, struct sum *sums)
 {
     struct sum all = {0, 0};
@@ -445,8 +504,8 @@ static struct sum add_up(const struct held *held, enum reach reach, struct sum *
     for (size_t k = 0; k < held->count; k++) {
         const struct block *block = &held->blocks[k];
         if (block->reach == reach) {
-            sums[block->stack].blocks++;
-            sums[block->stack].bytes += block->size;
+            sums[block->stack].blocks += block->leader == 0;
+            sums[block->stack].bytes += block->leader == 0 ? block->size : 0;
             all.blocks++;
             all.bytes += block->size;
         }
@@ -471,6 +530,85 @@ static void put(struct search *search, const char *text)
     search->waiting += length;
 }
 
+/* Writes the sum of the blocks of a stack, which others lead to, or none. */
+static void tell_sum(struct search *search, struct sum sum, uint32_t stack, uint32_t leader)
+{
+    char line[128], place[32] = "", by[32] = "";
+    if (sum.blocks == 0) {
+        return;
+    }
+    snprintf(place, sizeof place, " at s%u", stack);
+    snprintf(by, sizeof by, " by s%u", leader);
+    snprintf(line, sizeof line, "%llu bytes in %llu blocks%s%s\n", (unsigned long long)sum.bytes, (unsigned long long)sum.blocks,
+             stack == 0 ? "" : place, stack == 0 || leader == 0 ? "" : by);
+    put(search, line);
+}
+
+/* Whether a block that others lead to stands behind another, by the stacks of both. */
+static bool is_behind(const struct block *one, const struct block *other)
+{
+    return one->leader != other->leader ? one->leader > other->leader : one->stack > other->stack;
+}
+
+static void sink(const struct block *blocks, uint32_t *order, size_t at, size_t count)
+{
+    uint32_t moved = order[at];
+    for (size_t child = 2 * at + 1; child < count; child = 2 * at + 1) {
+        child += child + 1 < count && is_behind(&blocks[order[child + 1]], &blocks[order[child]]);
+        if (!is_behind(&blocks[order[child]], &blocks[moved])) {
+            break;
+        }
+        order[at] = order[child];
+        at = child;
+    }
+    order[at] = moved;
+}
+
+/* The blocks that others lead to, in order of the stacks of both, by a heap. Returns how many there are. */
+static size_t put_in_order(const struct held *held, uint32_t *order)
+{
+    size_t count = 0;
+    for (size_t k = 0; k < held->count; k++) {
+        if (held->blocks[k].leader != 0) {
+            order[count++] = (uint32_t)k;
+        }
+    }
+    for (size_t k = count / 2; k > 0; k--) {
+        sink(held->blocks, order, k - 1, count);
+    }
+    for (size_t left = count; left > 1; left--) {
+        uint32_t last = order[left - 1];
+        order[left - 1] = order[0];
+        order[0] = last;
+        sink(held->blocks, order, 0, left - 1);
+    }
+    return count;
+}
+
+/* Writes the sums of lost blocks that others lead to, each behind its stack with that of their first. */
+static void tell_led(struct search *search)
+{
+    const struct block *blocks = search->held.blocks, *before = NULL;
+    uint32_t *order = take_pages((search->held.count + 1) * sizeof *order);
+    size_t count = order == NULL ? 0 : put_in_order(&search->held, order);
+    struct sum sum = {0, 0};
+    search->is_whole = search->is_whole && order != NULL;
+    for (size_t k = 0; k < count; k++) {
+        const struct block *block = &blocks[order[k]];
+        if (before != NULL && is_behind(block, before)) {
+            tell_sum(search, sum, before->stack, before->leader);
+            sum.blocks = sum.bytes = 0;
+        }
+        sum.blocks++;
+        sum.bytes += block->size;
+        before = block;
+    }
+    if (before != NULL) {
+        tell_sum(search, sum, before->stack, before->leader);
+    }
+    give_pages(order);
+}
+
 /* Writes the part of the blocks of one reach. */
 static void tell_part(struct search *search, enum reach reach, struct sum *sums)
 {
@@ -480,13 +618,10 @@ static void tell_part(struct search *search, enum reach reach, struct sum *sums)
     snprintf(line, sizeof line, "%s: %llu blocks, %llu bytes.\n", names[reach], (unsigned long long)all.blocks, (unsigned long long)all.bytes);
     put(search, line);
     for (uint32_t stack = 0; stack <= search->held.stacks; stack++) {
-        char place[32] = "";
-        if (sums[stack].blocks > 0) {
-            snprintf(place, sizeof place, " at s%u", stack);
-            snprintf(line, sizeof line, "%llu bytes in %llu blocks%s\n", (unsigned long long)sums[stack].bytes,
-                     (unsigned long long)sums[stack].blocks, stack == 0 ? "" : place);
-            put(search, line);
-        }
+        tell_sum(search, sums[stack], stack, 0);
+    }
+    if (reach == LOST) {
+        tell_led(search);
     }
 }
 
@@ -545,7 +680,8 @@ static bool look(struct search *search)
     read_files(search);
     read_threads(search);
     bool looked = look_at_mappings(search);
-    follow(search);
+    follow(search, reach_on);
+    find_leaders(search);
     syscall(SYS_close, search->pages);
     give_pages(search->queue);
     return looked;

@@ -227,13 +227,13 @@ static int addresses_of(void *caller, void **stack)
     return frames_most == 1 && frame_of(caller, &spare)->kind != OPERATOR ? 1 : stack_of(caller, stack);
 }
 
-/* The frames of a stack that are told: how many. */
+/* The frames of a stack that are told: how many. Of more frames than are asked for the last says so. */
 static unsigned told_frames(void *const *stack, int count, struct place *places)
 {
     struct frame spare[2];
     const struct frame *next = frame_of(stack[0], &spare[0]);
     unsigned told = 0;
-    for (int k = 0; next != NULL && told < frames_most; k++) {
+    for (int k = 0; next != NULL; k++) {
         const struct frame *frame = next;
         bool is_last = k + 1 >= count || stack[k + 1] == NULL;
         next = is_last ? NULL : frame_of(stack[k + 1], &spare[(k + 1) % 2]);
@@ -243,6 +243,11 @@ static unsigned told_frames(void *const *stack, int count, struct place *places)
         if (told > 0 && is_of_start(frame, next)) {
             break;
         }
+        if (told == frames_most) {
+            struct place others = {0, 0};
+            places[told] = others;
+            return told + (frames_most > 1);
+        }
         places[told].module = frame->module;
         places[told++].offset = (uintptr_t)stack[k] - module_at(frame->module)->base;
     }
@@ -251,7 +256,7 @@ static unsigned told_frames(void *const *stack, int count, struct place *places)
 
 static unsigned find_number(void *const *stack, int count)
 {
-    struct place places[FRAMES_MOST];
+    struct place places[FRAMES_MOST + 1];
     unsigned told = told_frames(stack, count, places);
     log_lock();
     /* The child of a handler's fork comes back here without a log. */

@@ -2,6 +2,7 @@
  * that failed, which have no effect, and has a number from then on:
  *
  *     @ m3=/usr/lib/libshop.so ! (nil) 0
+ *     @ i3=5a1f20c3 ! (nil) 0
  *     @ s17=3:1f2a<77<1:9a<s12.5 ! (nil) 0
  *
  * A stack's text has a frame for each call, the nearest first: the number of its module, left out where
@@ -30,7 +31,7 @@ static uint32_t *buckets;
 static size_t count, room;
 
 /* The stack that was told last: its frames, which the next one may share. */
-static struct place last[FRAMES_MOST];
+static struct place last[FRAMES_MOST + 1];
 static unsigned last_frames;
 
 static bool is_told[MODULES_MOST];
@@ -75,6 +76,22 @@ static void add(struct line *line, const char *part, size_t length)
     line->end += length;
 }
 
+/* `@ i3=5a1f..`: the build id of a module, where it has one. */
+static void tell_build_id(unsigned number)
+{
+    static const char digits[] = "0123456789abcdef";
+    const struct module *module = module_at(number);
+    struct line line = {.letter = 'i', .number = number};
+    begin_line(&line, '=');
+    for (unsigned k = 0; k < module->build_id_length; k++) {
+        char byte[] = {digits[module->build_id[k] >> 4], digits[module->build_id[k] & 15]};
+        add(&line, byte, sizeof byte);
+    }
+    if (module->build_id_length > 0) {
+        end_line(&line);
+    }
+}
+
 static void tell_module(unsigned number)
 {
     const struct module *module = module_at(number);
@@ -84,6 +101,7 @@ static void tell_module(unsigned number)
         add(&line, module->text + k, 1);
     }
     end_line(&line);
+    tell_build_id(number);
     is_told[number] = true;
 }
 

@@ -6,12 +6,14 @@
  *     module.c   the program or library that an address is in
  *     told.c     the modules and stacks that the log has told
  *     text.c     numbers as text
- *     log.c      the log: a file that is mapped piece by piece
+ *     log.c      the log: a file that is mapped ahead
  *     slots.c    the slots by which a running program calls malloc
  *     since.c    the blocks that are held since a running program is traced
  *     held.c     the blocks that are held at the end, by the log
  *     reach.c    which of them the process's memory still points to
  *     process.c  where a log begins and ends: start, fork, exec, exit, and a running program's orders
+ *     child.c    the calls that start a program, of which those are noted that aren't traced
+ *     limits.c   the calls by which a process limits itself: the log is made ready for that
  *
  * The environment has TLSF_TRACE_LOG, the log's name; TLSF_TRACE_FRAMES, the most frames of a
  * location; TLSF_TRACE_INDEX, a file to which each process adds its log's name; and
@@ -23,10 +25,13 @@
 #ifndef TLSF_TRACE_H
 #define TLSF_TRACE_H
 
+#include <spawn.h>
 #include <stdbool.h>
 #include <stddef.h>
 #include <stdint.h>
+#include <stdio.h>
 #include <sys/auxv.h>
+#include <sys/resource.h>
 #include <sys/types.h>
 
 #define EXPORT __attribute__((visibility("default")))
@@ -37,8 +42,8 @@
  * of a realloc. A path has at most PATH_MOST bytes with its end. */
 enum { LOCATION_MOST = 255, LINE_MOST = 317, LINES_MOST = 2 * LINE_MOST, PATH_MOST = 4096 };
 
-/* The most frames that a stack can be asked to have. */
-enum { FRAMES_MOST = 64 };
+/* The most frames that a stack can be asked to have. Behind these one more can stand, for all others. */
+enum { FRAMES_MOST = 256 };
 
 /* Whether this thread is in the tracer: what it asks for then isn't written. */
 extern __thread bool inside __attribute__((tls_model("initial-exec")));
@@ -64,6 +69,15 @@ struct real {
     int (*execvpe)(const char *, char *const[], char *const[]);
     int (*fexecve)(int, char *const[], char *const[]);
     int (*execveat)(int, const char *, char *const[], char *const[], int);
+    int (*posix_spawn)(pid_t *, const char *, const posix_spawn_file_actions_t *, const posix_spawnattr_t *, char *const[], char *const[]);
+    int (*posix_spawnp)(pid_t *, const char *, const posix_spawn_file_actions_t *, const posix_spawnattr_t *, char *const[], char *const[]);
+    int (*system)(const char *);
+    FILE *(*popen)(const char *, const char *);
+    int (*prctl)(int, ...);
+    long (*syscall)(long, ...);
+    int (*mlockall)(int);
+    int (*setrlimit)(int, const struct rlimit *);
+    int (*prlimit)(pid_t, int, const struct rlimit *, struct rlimit *);
 };
 extern struct real real;
 
@@ -74,6 +88,10 @@ void find_real(void);
  * its log with its first call. */
 bool enter(void);
 void leave(void);
+
+/* Begins the log of a process that has none yet, and before one that may call read and write alone ends it for good. */
+void begin_early(void);
+void end_early(void);
 
 /* A line on standard error, behind the tracer's name. */
 void say(const char *what, const char *why);
@@ -96,8 +114,19 @@ void log_end(void);
 /* Ends the log: nothing is traced from then on. */
 void log_close(void);
 
-/* The log stays as it is, without an end, for a reason that is said. */
+/* The log stays as it is, with a last line that it is cut, for a reason that is said. */
 void log_drop(const char *why);
+
+/* From now on this process may open no file, since a filter of its system calls might end it for that; or it may again. */
+void log_seal(bool is_on);
+
+bool log_is_sealed(void);
+
+/* Whether it may: so not where another filter came unseen, either. */
+bool log_may_open(void);
+
+/* From now on no more of the file is mapped than is needed: memory is limited or locked. */
+void log_keep_small(void);
 
 /* Takes back the end: the program goes on. */
 void log_resume(void);
@@ -117,6 +146,16 @@ void log_detach(void);
 
 /* The name of the log's file, as long as this process has one. */
 const char *log_path(void);
+
+/* Adds words to the index, each ended by a zero, in one write. Without the lock: a child of vfork may do it. */
+void log_note(const char *words, size_t length);
+
+/* child.c */
+
+/* Notes a program that is to be started with these variables, or the process's own, where they don't preload the tracer.
+ * Returns whether they don't. And takes the last note of a process back. */
+bool child_note(pid_t process, const char *program, char *const variables[]);
+void child_take_back(pid_t process);
 
 /* since.c: with the lock held. */
 
@@ -157,12 +196,14 @@ void slots_in_child(void);
  * amid its block; or by a chain of pointers to where blocks begin. */
 enum reach { LOST, POSSIBLY_LOST, REACHABLE, REACHES };
 
-/* A block that is held: its address, the bytes that were asked for, and the number of its stack, or 0. */
+/* A block that is held: its address, the bytes that were asked for, and the number of its stack, or 0. One that is lost
+ * with others which lead to it has the number of their first's stack, or 0. */
 struct block {
     uintptr_t start;
     size_t size;
     uint32_t stack;
     uint32_t reach;
+    uint32_t leader;
 };
 
 /* The blocks that are held, in order of address, and the greatest number of a stack. While the log is
@@ -217,8 +258,8 @@ bool next_line(struct reader *reader);
  * `main` on. */
 enum kind { PROGRAM, OPERATOR, START };
 
-/* The most modules, and the number of known functions. */
-enum { MODULES_MOST = 2048, KNOWN = 19 };
+/* The most modules, the number of known functions, and the most bytes of a build id: a longer one isn't told. */
+enum { MODULES_MOST = 2048, KNOWN = 19, BUILD_ID_MOST = 32 };
 
 /* Code of one kind: what returns there was called by it. */
 struct range {
@@ -226,11 +267,13 @@ struct range {
     enum kind kind;
 };
 
-/* A module: where it begins in memory, its path as text, and its known functions. */
+/* A module: where it begins in memory, its path as text, its build id, and its known functions. */
 struct module {
     uintptr_t base;
     const char *text;
     size_t length;
+    unsigned char build_id[BUILD_ID_MOST];
+    unsigned build_id_length;
     unsigned ranges;
     struct range range[KNOWN];
 };
@@ -261,7 +304,8 @@ void module_in_child(void);
 
 /* stack.c */
 
-/* A frame that is told: its module, and the address that it returns to, less the module's base. */
+/* A frame that is told: its module, and the address that it returns to, less the module's base. Module 0 at 0
+ * stands for frames that aren't told. */
 struct place {
     uint64_t offset;
     unsigned module;
@@ -285,7 +329,7 @@ void stack_in_child(void);
 
 /* told.c */
 
-/* The number of a stack of 1 to FRAMES_MOST frames, which is told where it is new. 0 where there is
+/* The number of a stack of 1 to FRAMES_MOST + 1 frames, which is told where it is new. 0 where there is
  * no memory for it. With the log's lock held. */
 unsigned told_stack(const struct place *frames, unsigned length);
 

@@ -81,7 +81,7 @@ class Work {
         else if (data.fault) reject(new Error(data.fault));
         else resolve(data.page);
       }, (fault) => reject(new Error(fault)));
-      worker.postMessage({ logs: this.logs.map(({ log, names }) => ({ log, name: log.name, names })), documents });
+      worker.postMessage({ logs: this.logs.map(({ log, names, reachable }) => ({ log, name: log.name, names, reachable })), documents });
     });
   }
 
@@ -101,7 +101,7 @@ class Work {
 
 // ---- what is shown
 
-// What is chosen: a log, or the old and the new one, each with its names, where these are known.
+// What is chosen: a log, or the old and the new one, each with its names and with what is reachable, where these are known.
 let work = null, chosen = [], begun = 0;
 const report = { words: [], status: null, out: null, errors: null };
 
@@ -145,8 +145,18 @@ async function endsInZeros(file) {
   return end.length === 2 && !end[0] && !end[1];
 }
 
-// Refuses a log that is still written.
+// What packed a file, by its first bytes, or nothing.
+async function packedBy(file) {
+  const head = String.fromCharCode(...new Uint8Array(await file.slice(0, 6).arrayBuffer()));
+  const found = Object.entries({ "\x1f\x8b": "gzip", "\xfd7zXZ\0": "xz", "\x28\xb5\x2f\xfd": "zstd", BZh: "bzip2", "PK\x03\x04": "zip" })
+    .find(([sign]) => head.startsWith(sign));
+  return found && found[1];
+}
+
+// Refuses a log that is packed, or still written.
 async function expectEnded({ log }) {
+  const packed = await packedBy(log);
+  if (packed) throw new Error(`${log.name} is packed by ${packed}: unpack it first`);
   if (await endsInZeros(log)) throw new Error(`${log.name} is still written: end its program, or copy its lines by tlsf-trace --copy`);
 }
 
@@ -207,23 +217,40 @@ async function isNames(file) {
   return decoder.decode(await file.slice(0, 9).arrayBuffer()) === '{"sites":';
 }
 
-// The names of a file belong to the log that is chosen, of two to that which they are called by.
-async function takeNames(file) {
-  const named = chosen.length > 1 ? chosen.filter(({ log }) => file.name === `${log.name}.names`) : chosen;
-  if (named.length !== 1) throw new Error(`It isn't known whose names ${file.name} has: of two logs they are called LOG.names.`);
-  named[0].names = JSON.parse(await file.text()).sites;
+// What is reachable begins with what is lost, with which no log does.
+async function isReachable(file) {
+  return /^Lost: \d/.test(decoder.decode(await file.slice(0, 7).arrayBuffer()));
 }
 
-// Takes one log or two, of which that is the old one that was written first, and names. `more` is the log that stays beside them.
+// The log that a file with more of it belongs to: the one that is chosen, of two that which it is called by.
+function logOf(file, ending, what) {
+  const named = chosen.length > 1 ? chosen.filter(({ log }) => file.name === `${log.name}${ending}`) : chosen;
+  if (named.length !== 1) throw new Error(`It isn't known whose ${what} ${file.name} has: of two logs they are called LOG${ending}.`);
+  return named[0];
+}
+
+async function takeNames(file) {
+  logOf(file, ".names", "names").names = JSON.parse(await file.text()).sites;
+}
+
+// Takes files that tell more of the logs that are chosen.
+async function takeMore(names, reachable) {
+  for (const file of names) await takeNames(file);
+  for (const file of reachable) logOf(file, ".reachable", "reachable blocks").reachable = file;
+}
+
+// Takes one log or two, of which that is the old one that was written first, names, and what is reachable. `more` is the log that stays
+// beside them.
 async function take(files, more = []) {
   if (!files.length) return undefined;
-  const areNames = await Promise.all(files.map(isNames)), logs = files.filter((file, at) => !areNames[at]);
-  const all = [...more, ...logs.map((log) => ({ log, names: null }))];
+  const [areNames, areReachable] = await Promise.all([isNames, isReachable].map((is) => Promise.all(files.map(is))));
+  const logs = files.filter((file, at) => !areNames[at] && !areReachable[at]);
+  const all = [...more, ...logs.map((log) => ({ log, names: null, reachable: null }))];
   if (all.length > 2) return say("Choose one log, or two to compare.");
   if (logs.length) chosen = all.sort((one, other) => one.log.lastModified - other.log.lastModified);
   if (!chosen.length) return say("Choose a log first.");
   try {
-    for (const file of files.filter((each, at) => areNames[at])) await takeNames(file);
+    await takeMore(files.filter((file, at) => areNames[at]), files.filter((file, at) => areReachable[at]));
   } catch (fault) {
     return say("These names can't be read.", fault.message);
   }

@@ -80,6 +80,23 @@ function readSites(bytes) {
   return parts;
 }
 
+// What of a log's end is lost, possibly lost and still reachable, by LOG.reachable: bytes and blocks by location. A lost block that others
+// lead to has the stack of their first behind its own.
+function readReachable(bytes) {
+  const names = ["Lost", "Possibly lost", "Still reachable"], parts = [];
+  eachLine(bytes, 0, (line) => {
+    const head = /^(.+): (\d+) blocks, (\d+) bytes\.$/.exec(line), site = /^(\d+) bytes in (\d+) blocks(?: at (.*?)(?: by s\d+)?)?$/s.exec(line);
+    if (head && head[1] === names[parts.length]) parts.push(new Map());
+    else if (site && parts.length) {
+      const part = parts[parts.length - 1], numbers = [numberOf(site[1]), numberOf(site[2])];
+      part.set(site[3] || "", added(part.get(site[3] || "") || [0, 0], numbers));
+    }
+    else throw new Differs("the list of what is reachable is none");
+  });
+  if (parts.length !== names.length) throw new Differs("the list of what is reachable has no three parts");
+  return parts;
+}
+
 // Calls `take` for each block that isn't freed: size, line and location.
 function readLeaks(bytes, take) {
   eachLine(bytes, readDiagnostics(bytes, () => {}), (line) => {

@@ -91,7 +91,7 @@ function plainSite(location) {
     }
     module = found[1] || module;
     modules.push(module.slice(module.lastIndexOf("/") + 1));
-    frames.push(`${modules[modules.length - 1]}[${found[2]}]`);
+    frames.push(module === "?" && found[2] === "0x0" ? "(more calls)" : `${modules[modules.length - 1]}[${found[2]}]`);
   }
   if (frames.length < 2) frames = [location];
   const told = frames.map(siteName), of = modules.length ? shown(modules[0]) : shown(location.split(":", 1)[0]) || NO_LOCATION;

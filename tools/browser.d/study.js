@@ -28,6 +28,13 @@ function jsonLength(text) {
   return Array.from(JSON.stringify(text), (letter) => letter < "\x7f" ? 1 : 6 * letter.length).reduce((sum, count) => sum + count, 0);
 }
 
+// How a log ends, as tools/page.d/ends.py tells it: with its end; with a line that says it is cut, since its process went on; or with
+// neither.
+function howItEnds(file) {
+  const last = file.piece(Math.max(0, file.size - 16), 16), text = byteText(last, 0, last.length);
+  return text.endsWith("= End\n") ? "whole" : text.endsWith("@ cut ! (nil) 0\n") ? "left" : "ended";
+}
+
 // The functions of sites, each with its number, and its short name: with the line where it is one.
 class Functions {
   constructor(sites) {
@@ -58,10 +65,11 @@ class Functions {
   }
 }
 
-// One log. `run` runs the program on words and answers its text; `names` has what is known of locations, or is nothing.
+// One log. `run` runs the program on words and answers its text; `names` has what is known of locations, and `reachable` what of its end
+// is lost, or they are nothing.
 class Study {
-  constructor(file, name, run, names, progress) {
-    Object.assign(this, { file, name, run, names, progress });
+  constructor(file, name, run, names, progress, reachable) {
+    Object.assign(this, { file, name, run, names, progress, reachable });
     this.faulty = new Faulty();
     this.kinds = KINDS.map(() => 0);
     this.diagnostics = [];
@@ -85,6 +93,7 @@ class Study {
     // What fails is told by the first of these that is waited for.
     heap.catch(() => {});
     this.peakRow = points.indexOf(this.peak);
+    this.end = howItEnds(this.file);
     this.reader = new PointReader(points, this.faulty, (location, line) => this.stacks.take(location, line));
     await readLog(this.file, this.reader, this.progress);
     this.reached.resolve(this.reader.places[this.peakRow]);
@@ -92,11 +101,23 @@ class Study {
     this.locations = this.reader.reading.locations.names;
     [this.atPeak, this.atEnd, this.byCalls] = readSites(await sites);
     this.leaks = await leaks;
+    this.lookForLost();
     await heap;
     if (this.fits) this.findLimits(Object.fromEntries(this.fit));
     this.findFunctions();
     this.agree();
     this.keepGreatest();
+  }
+
+  // What of the end is lost, possibly lost and still reachable, where that is known. By location it is what is held there.
+  lookForLost() {
+    this.lost = this.reachable && readReachable(this.reachable.piece(0, this.reachable.size));
+    if (!this.lost) return;
+    const sums = new Map();
+    for (const part of this.lost) part.forEach((numbers, location) => sums.set(location, added(sums.get(location) || [0, 0], numbers)));
+    const isSame = sums.size === this.atEnd.size &&
+      [...sums].every(([location, numbers]) => String(numbers) === String(this.atEnd.get(location)));
+    if (!isSame) throw new Differs(`${this.name}.reachable isn't of this log's end`);
   }
 
   // ---- the reports
@@ -332,7 +353,8 @@ class Study {
     return rows;
   }
 
-  // For each row what isn't freed: bytes, blocks, first and last line, least and greatest size.
+  // For each row what isn't freed: bytes, blocks, first and last line, least and greatest size; and where that is known the bytes that are
+  // lost, possibly lost and still reachable.
   leaksData() {
     const index = new Map(this.locations.map((location, site) => [location, site])), rows = new Map();
     readLeaks(this.leaks, (size, line, location) => {
@@ -340,12 +362,21 @@ class Study {
       const [bytes, blocks, first, last, least, most] = rows.get(at) || [0, 0, line, line, size, size];
       rows.set(at, [bytes + size, blocks + 1, Math.min(first, line), Math.max(last, line), Math.min(least, size), Math.max(most, size)]);
     });
-    return Array.from(rows, ([row, numbers]) => [row, ...numbers]);
+    const lost = new Map(Array.from(rows.keys(), (row) => [row, (this.lost || []).map(() => 0)]));
+    (this.lost || []).forEach((part, place) => part.forEach(([bytes], location) => {
+      lost.get(this.totalRow.get(index.get(location)))[place] += bytes;
+    }));
+    return Array.from(rows, ([row, numbers]) => [row, ...numbers, ...lost.get(row)]);
+  }
+
+  // Bytes and blocks that are lost, possibly lost and still reachable, where that is known.
+  lostData() {
+    return this.lost && this.lost.map((part) => [...part.values()].reduce(added, [0, 0]));
   }
 
   headData() {
     const at = this.limits && { at: this.functions.label(this.functionOf[this.reader.reading.largest.site]) };
-    return { sites: this.locations.length, bare: "", kinds: this.kinds, refused: this.refused, firstRefused: this.firstRefused,
+    return { sites: this.locations.length, end: this.end, bare: "", kinds: this.kinds, refused: this.refused, firstRefused: this.firstRefused,
       limits: this.limits && { ...this.limits, ...at } };
   }
 
@@ -359,7 +390,7 @@ class Study {
     const { names, briefs, sites, raw } = this.sitesData(), { changes, changeRests } = this.changesData(), { totals, rests } = this.totalsData();
     return { log: this.name, lines: this.lines, points: this.rows, peak: this.peakRow, ages: this.ages(), functions: this.functions.data(),
       names, briefs, sites, raw, totals, rests, changes, changeRests, followed: this.followed, named: Boolean(this.names), head: this.headData(),
-      sizes: this.sizesData(), leaks: this.leaksData(), lost: null, heaps: this.heaps, fit: this.fit, step: this.step, fits: this.fits,
+      sizes: this.sizesData(), leaks: this.leaksData(), lost: this.lostData(), heaps: this.heaps, fit: this.fit, step: this.step, fits: this.fits,
       diagnostics: this.diagnostics, faulty: this.kinds.reduce((sum, count) => sum + count, 0) };
   }
 }

@@ -32,11 +32,11 @@ async function read(study, isOneOfTwo) {
 // Two logs are studied side by side.
 async function studyLogs({ logs, documents }) {
   const parts = logs.map(() => 0);
-  const studies = logs.map(({ log, name, names }, which) => new Study(new LentFile(log), shown(bytesOf(name)),
+  const studies = logs.map(({ log, name, names, reachable }, which) => new Study(new LentFile(log), shown(bytesOf(name)),
     (words, first) => askFor(which, words, first), names, (part) => {
       parts[which] = part;
       postMessage({ part: parts.reduce((sum, own) => sum + own) / parts.length });
-    }));
+    }, reachable && new LentFile(reachable)));
   await Promise.all(studies.map((study) => read(study, studies.length > 1)));
   postMessage({ page: studies.length === 1 ? pageOf(documents, ...studies) : comparisonOf(documents, ...studies) });
 }

@@ -123,7 +123,7 @@ class Chart {
     this.span = Math.max(this.lines[this.last], 1);
     this.box = find("chart-box");
     this.svg = find("chart");
-    this.svg.setAttribute("aria-label", `Bytes held after each line of ${data.log}, stacked by function, with the peak at line ` +
+    this.svg.setAttribute("aria-label", `Bytes held after each line of ${data.log}, stacked by ${CHOICES[choice]}, with the peak at line ` +
       `${told(data.points[data.peak][0])}. The tables below have its numbers.`);
     this.shade = draw("rect", { id: "range-shade", visibility: "hidden" });
     this.cursor = draw("path", { id: "cursor", visibility: "hidden" });

@@ -128,12 +128,12 @@ def lost_data(log):
 
 
 def head_data(log):
-    """What the head tells beside the numbers: how many sites, which programs have no lines, diagnostics of each kind, lines that the heap
+    """What the head tells beside the numbers: how many sites, how the log ends, which programs have no lines, diagnostics of each kind, lines that the heap
     refused, and what the sure pool rests on."""
     limits = log.limits and {"blocks": log.limits.blocks, "bytes": log.limits.whole_bytes, "line": log.limits.largest.line,
                              "size": log.limits.largest.size, "align": log.limits.largest.align, "classSize": log.limits.largest.class_size,
                              "at": log.short_name(log.limits.largest.location)}
-    return {"sites": len(log.locations), "bare": log.functions.without_lines(), "kinds": [log.kinds[kind] for kind in range(len(KINDS))],
+    return {"sites": len(log.locations), "end": log.end, "bare": log.functions.without_lines(), "kinds": [log.kinds[kind] for kind in range(len(KINDS))],
             "refused": log.refused, "firstRefused": log.first_refused, "limits": limits}
 
 

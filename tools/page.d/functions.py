@@ -6,7 +6,7 @@ from dataclasses import dataclass
 from functools import cache, cached_property
 from itertools import chain, dropwhile, islice, takewhile
 
-from names import Names, end_of_type, told_bare, without_brackets
+from names import MORE_CALLS, NO_FILE, Names, end_of_type, told_bare, told_others, without_brackets
 from stacks import frames_in, frames_of, list_of, text_of
 from texts import shown, site_name
 from told import told_calls
@@ -153,7 +153,8 @@ def plain_site(location):
             break
         module = found[1] or module
         modules.append(module.rpartition(b"/")[2])
-        frames.append(modules[-1] + b"[" + found[2] + b"]")
+        is_more = (module, found[2]) == (NO_FILE.encode(), b"0x0")
+        frames.append(MORE_CALLS.encode() if is_more else modules[-1] + b"[" + found[2] + b"]")
     if len(frames) < 2:
         frames = [location]
     name = site_name(frames[0])
@@ -167,7 +168,7 @@ class Functions:
     def __init__(self, stacks, locations, named):
         self.stacks = stacks
         self.lists = {location: stacks.lists.get(text) or list_of(frames_of(text)) for location in locations if (text := text_of(location))}
-        self.names = Names({frame for stack in self.lists.values() for frame in frames_in(stack)}) if named else None
+        self.names = Names({frame for stack in self.lists.values() for frame in frames_in(stack)}, stacks.build_ids) if named else None
         own = cache(lambda frame: [call for call in self.names.calls(frame) if not call.is_standard])
         self.calls = {location: Calls(self.names, own, stack) for location, stack in self.lists.items() if self.is_named(stack)}
         self.function_of = cache(function_of)
@@ -214,7 +215,11 @@ class Functions:
     def newer_than(self, written):
         """Those that were changed behind a time."""
         return sorted(told_text(module.path) for module in self.modules
-                      if module.is_object and os.stat(module.path).st_mtime_ns > written)
+                      if module.is_object and not module.is_same and os.stat(module.path).st_mtime_ns > written)
+
+    def of_others(self):
+        """What is said of those that are other builds than the ones that ran."""
+        return [told_text(text) for text in told_others(self.modules)]
 
     def without_lines(self):
         """What is said of those that have no debug information, or nothing."""

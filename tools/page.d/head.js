@@ -155,8 +155,19 @@ function poolWords() {
 function readWords() {
   const { sites, kinds } = data.head;
   const each = kinds.flatMap((count, kind) => count ? [`${told(count)} ${KIND_NAMES[kind]}`] : []).join(", ");
-  return `${data.log}: ${counted(data.lines, "line")}, ${counted(sites, "site")} in ${counted(data.functions.length - 1, "function")}, ` +
-    (each ? `${counted(data.faulty, "diagnostic")} (${each}).` : "no diagnostic.");
+  // Without names each site is a function for itself.
+  const functions = data.named ? ` in ${counted(data.functions.length - 1, "function")}` : "";
+  return `${data.log}: ${counted(data.lines, "line")}, ${counted(sites, "site")}${functions}, ` +
+    (each ? `${counted(data.faulty, "diagnostic")} (${each}).` : "no diagnostic.") +
+    (data.head.end === "ended" ? " It has no end: a signal ended its process, or lines are missing." : "");
+}
+
+// Whether the process went on without its log: what isn't freed there may have been freed later.
+const wentOn = () => data.head.end === "left";
+
+// The first line of such a log.
+function cutLines() {
+  return wentOn() ? [["Cut", "The log could not go on, and its process did: what was freed later isn't known, so no leak is told."]] : [];
 }
 
 // The parts of what isn't freed, where they are known.
@@ -184,7 +195,15 @@ function bareLines() {
 
 // Where nothing is held at the end. A log without a block is no sign that nothing leaks: the program may have its own malloc.
 function noneHeldWords() {
-  return data.head.sites ? "Nothing: no memory leaks." : "Nothing is known: no line of the log asks for memory.";
+  if (!data.head.sites) return "Nothing is known: no line of the log asks for memory.";
+  return wentOn() ? "Nothing where the log is cut." : "Nothing: no memory leaks.";
+}
+
+// What is held at the end of the log.
+function heldWords(groups, [, bytes, blocks]) {
+  const held = `${counted(bytes, "byte")} in ${counted(blocks, "block")}`;
+  return wentOn() ? `Not known. Where the log is cut ${held} were held: ${greatest(groups, PLACES[1]) || "all of 0 bytes"}.`
+    : `${held}. ${notFreedWords(groups)}`;
 }
 
 // The head's lines, each with its name, by the groups that are chosen.
@@ -192,10 +211,11 @@ function headLines() {
   const groups = grouped(totalRows, data.totals), atPeak = data.points[data.peak], atEnd = data.points[data.points.length - 1];
   const holders = atPeak[1] ? `. ${greatest(groups, PLACES[0])}` : "";
   return [
+    ...cutLines(),
     ["Read", readWords()],
     ...bareLines(),
     ["Peak", `${counted(atPeak[1], "byte")} in ${counted(atPeak[2], "block")}, after line ${told(atPeak[0])}${holders}.`],
-    ["Not freed", atEnd[2] ? `${counted(atEnd[1], "byte")} in ${counted(atEnd[2], "block")}. ${notFreedWords(groups)}` : noneHeldWords()],
+    ["Not freed", atEnd[2] ? heldWords(groups, atEnd) : noneHeldWords()],
     ["Grows steadily", growsSteadily(seriesOf(), groups)],
     ["Pools to give", poolWords()],
   ];

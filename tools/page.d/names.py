@@ -15,13 +15,15 @@ from stacks import path_of
 
 # Libraries whose frames are of the standard library, whatever they are called.
 STANDARD_MODULE = re.compile(r"(?:libc|libm|libdl|librt|libpthread|libstdc\+\+|libc\+\+|libc\+\+abi|libgcc_s|ld|ld-linux[-\w]*)[-.\d]*\.so")
-STANDARD_FILE = re.compile(r".*/include/(?:[-\w.]+/)?c\+\+/v?\d|/rustc/|/rust/deps/|.*/rustlib/src/rust/library/|library/(?:alloc|core|std)/src/")
+STANDARD_FILE = re.compile(r".*/include/(?:[-\w.]+/)?c\+\+/v?\d|/rustc/|/rust/deps/|.*/rustc-\d[^/]*/(?:library|vendor)/|.*/rustlib/src/rust/library/|library/(?:alloc|core|std)/src/")
 STANDARD_NAME = re.compile(r"execute_native_thread_routine$|(?:std|core|alloc|hashbrown|__gnu_cxx|__cxxabiv1)::|operator (?:new|delete)\b|__rust_|__rdl_|__rustc|"
                            r"<[^ :]* as (?:std|core|alloc)::|<[&*\[]*(?:mut )?(?:std|core|alloc|hashbrown)::")
 CLONE = re.compile(r" \[clone [^\]]*\]|\[abi:\w+\]|::h[0-9a-f]{16}$|(?<=\w)\[[0-9a-f]{16}\]|(?:\.(?:constprop|isra|part|cold|llvm|lto_priv|localalias)(?:\.\d+)*)+$")
 OPERATOR = re.compile(r"operator *(?:<=>|<<=|>>=|->\*|<<|>>|<=|>=|->|\(\)|<|>)")
 LINE = re.compile(r"(.*):(\d+|\?)(?: \(discriminator \d+\))?", re.S)
 LLVM = "llvm-addr2line"
+# The module of code of no file. At 0 it stands for calls that a log doesn't tell.
+NO_FILE, MORE_CALLS = "?", "(more calls)"
 # The most files without lines that are named.
 MOST_BARE = 4
 
@@ -61,6 +63,12 @@ def without_result(name):
     return name[name.rfind(" ", 0, end if end >= 0 else len(name)) + 1:]
 
 
+def whole_name(name):
+    """A demangled name with what tells it from others: its arguments, and those of its template."""
+    name = CLONE.sub("", name.removeprefix("__GI_")).replace("(anonymous namespace)", "{anonymous}")
+    return name.replace("std::__cxx11::basic_string<char, std::char_traits<char>, std::allocator<char> >", "std::string").replace("std::__cxx11::", "std::").replace(" >", ">")
+
+
 def short_name(name):
     """A demangled name as it is told: `std::vector::push_back`, and not its arguments."""
     name = CLONE.sub("", name.removeprefix("__GI_")).replace("(anonymous namespace)", "{anonymous}").replace("std::__cxx11::basic_string", "std::string")
@@ -82,6 +90,8 @@ class Call:
     offset: int
     # Where its function begins in the module, of one without a name; 0 where that isn't known.
     start: int = 0
+    # The function with its arguments, and those of its template.
+    whole: str = ""
 
     @cached_property
     def is_standard(self):
@@ -94,13 +104,16 @@ class Call:
         """`grow shop.cc:14`, `strdup+0x1a libc.so.6`, or `libz.so.1:[0x7f]`."""
         return self.told(paths=False)
 
-    def told(self, paths):
-        """The same, or with the file's whole path."""
+    def told(self, paths, whole=False):
+        """The same, or with the file's whole path, or with the function's whole name."""
+        if self.module == NO_FILE and not self.offset:
+            return MORE_CALLS
+        function = self.whole or self.function if whole else self.function
         if self.file:
             place = (self.file if paths else os.path.basename(self.file)) + (f":{self.line}" if self.line else "")
-            return f"{self.function} {place}" if self.function else place
+            return f"{function} {place}" if function else place
         module = os.path.basename(self.module)
-        return f"{self.function}+0x{self.offset:x} {module}" if self.function else f"{module}:[0x{self.offset:x}]"
+        return f"{function}+0x{self.offset:x} {module}" if function else f"{module}:[0x{self.offset:x}]"
 
 
 def output_of(words, given=""):
@@ -120,7 +133,7 @@ def base_of(path):
 
 
 def lines_of(path, addresses, reader="addr2line"):
-    """For each address its calls, innermost first, as function, file and line, where one is known. Each is asked for twice: the first
+    """For each address its calls, innermost first, as function, file, line and the function's whole name, where one is known. Each is asked for twice: the first
     answer gives an inlined function that has no linker's name that of the function around it."""
     found = defaultdict(list)
     told = output_of([reader, "-a", "-f", "-i", "-C", "-e", path], "".join(f"0x{address:x}\n" * 2 for address in addresses))
@@ -134,7 +147,8 @@ def lines_of(path, addresses, reader="addr2line"):
             continue
         told = LINE.fullmatch(next(lines, ""))
         if told and told[1] != "??" and told[2] not in "0?":
-            found[address].append(("" if line == "??" else short_name(line), told[1], int(told[2])))
+            function, whole = ("", "") if line == "??" else (short_name(line), whole_name(line))
+            found[address].append((function, told[1], int(told[2]), whole))
     return found
 
 
@@ -184,7 +198,7 @@ def symbols_in(path):
 
 
 def symbols_of(path, addresses):
-    """For each address the symbol whose code it is in, and where that begins."""
+    """For each address the symbol whose code it is in, its whole name, and where that begins."""
     symbols, found = symbols_in(path), {}
     starts = [start for start, _, _ in symbols]
     for address in addresses:
@@ -192,7 +206,7 @@ def symbols_of(path, addresses):
         if at >= 0 and address - starts[at] < symbols[at][1]:
             found[address] = symbols[at][2], starts[at]
     plain = demangled(sorted({name for name, _ in found.values()}))
-    return {address: (short_name(plain.get(name, name)), start) for address, (name, start) in found.items()}
+    return {address: (short_name(plain.get(name, name)), whole_name(plain.get(name, name)), start) for address, (name, start) in found.items()}
 
 
 def starts_of(path):
@@ -212,12 +226,16 @@ def starts_of(path):
 
 
 class Module:
-    """A program or library of a log: the calls of its frames, whether it can be read, and whether a line is known of one."""
+    """A program or library of a log: the calls of its frames, whether it can be read, and whether a line is known of one. Where the log
+    has another build id than the file there are no names: they would be of another build."""
 
-    def __init__(self, name, offsets):
+    def __init__(self, name, offsets, build_id=""):
         # A name may stand as it is, or with its odd bytes told.
         self.path = name if os.path.isfile(name) else path_of(name).decode("utf-8", "surrogateescape")
         base = base_of(self.path) if os.path.isfile(self.path) else None
+        now = build_id_of(self.path) if build_id and base is not None else ""
+        self.is_same, self.is_other = bool(now) and now == build_id, base is not None and now != build_id
+        base = None if self.is_other else base
         self.is_object = base is not None
         addresses = {} if base is None else {offset: base + offset - 1 for offset in offsets}
         lines = self.lines_at(addresses.values()) if addresses else {}
@@ -228,7 +246,7 @@ class Module:
         self.base, self.calls = base or 0, {}
         for offset in offsets:
             address = addresses.get(offset)
-            self.calls[offset] = [Call(*call, self.path, 0) for call in lines.get(address, [])] or [self.by_symbol(offset, address, symbols)]
+            self.calls[offset] = [Call(*call, self.path, 0, whole=whole) for *call, whole in lines.get(address, [])] or [self.by_symbol(offset, address, symbols)]
 
     @property
     def lacks_lines(self):
@@ -249,24 +267,30 @@ class Module:
 
     def by_symbol(self, offset, address, symbols):
         """The call at an address that has no line."""
-        name, start = symbols.get(address, ("", None))
+        name, whole, start = symbols.get(address, ("", "", None))
         at = bisect_right(self.starts, address) - 1 if address is not None and start is None else -1
-        return Call(name, "", 0, self.path, offset if start is None else address + 1 - start, self.starts[at] - self.base if at >= 0 else 0)
+        return Call(name, "", 0, self.path, offset if start is None else address + 1 - start, self.starts[at] - self.base if at >= 0 else 0,
+                    whole)
 
 
 class Names:
-    """The calls of all frames. Each module is asked once."""
+    """The calls of all frames. Each module is asked once. Build ids are those that a log tells of its modules."""
 
-    def __init__(self, frames):
+    def __init__(self, frames, build_ids=None):
         offsets = defaultdict(set)
         for frame in frames:
             offsets[frame.module].add(frame.offset)
         with ThreadPoolExecutor(4) as pool:
-            self.modules = dict(zip(offsets, pool.map(lambda name: Module(name, sorted(offsets[name])), offsets)))
+            self.modules = dict(zip(offsets, pool.map(lambda name: Module(name, sorted(offsets[name]), (build_ids or {}).get(name, "")), offsets)))
 
     def calls(self, frame):
         """The calls of a frame, innermost first: at least one."""
         return self.modules[frame.module].calls[frame.offset]
+
+
+def told_others(modules):
+    """What is said of each file that is another build than the one that ran."""
+    return [f"{module.path} is another build than the one that ran: its names aren't told" for module in modules if module.is_other]
 
 
 def told_bare(modules):

@@ -4,7 +4,8 @@ from pathlib import Path
 
 PARTS = (b"Lost", b"Possibly lost", b"Still reachable")
 HEAD = re.compile(rb"(.+): (\d+) blocks, (\d+) bytes\.")
-SITE = re.compile(rb"(\d+) bytes in (\d+) blocks(?: at (.*))?")
+# A lost block that others lead to has the stack of their first behind its own.
+SITE = re.compile(rb"(\d+) bytes in (\d+) blocks(?: at (.*?)(?: by s\d+)?)?")
 
 
 class Wrong(Exception):
@@ -21,7 +22,8 @@ def read_parts(text):
             parts.append({})
             told.append((int(found[3]), int(found[2])))
         elif (found := SITE.fullmatch(line)) and parts:
-            parts[-1][found[3] or b""] = int(found[1]), int(found[2])
+            before = parts[-1].get(found[3] or b"", (0, 0))
+            parts[-1][found[3] or b""] = before[0] + int(found[1]), before[1] + int(found[2])
         else:
             raise Wrong
     if len(parts) != len(PARTS) or told != [tuple(sum(column) for column in zip((0, 0), *part.values())) for part in parts]:

@@ -6,7 +6,6 @@ import re
 import shutil
 import signal
 import subprocess
-import tempfile
 from pathlib import Path
 
 HERE = Path(__file__).resolve().parent
@@ -66,8 +65,13 @@ def is_there(process):
         return False
 
 
+def filter_of(process):
+    """What a process has as a filter of its system calls."""
+    return status_of(process, "Seccomp"), status_of(process, "Seccomp_filters")
+
+
 def check(process):
-    """Raises where a process isn't there, is another's, or is debugged."""
+    """Raises where a process isn't there, is another's, is debugged, or may not do what the tracer does."""
     if not is_there(process):
         raise Refused(f"there is no process {process}")
     if os.getuid() not in (0, os.stat(f"/proc/{process}").st_uid):
@@ -80,6 +84,8 @@ def check(process):
             raise Refused(f"process {process} has other files than this one, as in a container: run this there")
     except PermissionError:
         raise Refused(f"process {process} may not be looked into: ptrace isn't permitted, for it has more rights or gave up some") from None
+    if status_of(process, "Seccomp") not in ("", "0") and filter_of(process) != filter_of("self"):
+        raise Refused(f"process {process} is behind a filter of its system calls, which might end it for what the tracer does")
     if not shutil.which("gdb"):
         raise Refused("gdb isn't found: install it (Debian's gdb)")
     if not shutil.which("nm"):
@@ -162,14 +168,17 @@ def give(process, tracer, order, log="", frames=0, reachable=False):
     """Gives the tracer in a process an order. Returns its log."""
     check(process)
     told = {**orders(process, tracer, order), "log": log, "frames": frames, "reachable": int(reachable)}
-    with tempfile.TemporaryDirectory(prefix="tlsf-trace-") as folder:
-        told["answer"] = os.path.join(folder, "answer")
-        Path(told["answer"]).touch()
+    # In memory, since the disk may be full.
+    answer = os.memfd_create("tlsf-trace")
+    try:
+        told["answer"] = f"/proc/{os.getpid()}/fd/{answer}"
         words = ["gdb", "-nx", "-batch", "-iex", "set auto-load off", "-iex", "set debuginfod enabled off", "-x", str(HERE / "in_gdb.py")]
         gdb = subprocess.Popen(words, env={**os.environ, "TLSF_IN_GDB": json.dumps(told)}, stdin=subprocess.DEVNULL, stdout=subprocess.DEVNULL,
                                stderr=subprocess.PIPE, text=True, errors="replace", start_new_session=True)
         said = wait_for(gdb, process, told["answer"])
         kind, _, text = (lines_of(told["answer"]) or [""])[-1].partition(" ")
+    finally:
+        os.close(answer)
     if kind == "yes":
         return text
     if kind == "no" and not text.startswith(OF_GDB):

@@ -1,6 +1,6 @@
 // ---- sites, and the groups that they are told by
 
-const CHOICES = { function: "function", namespace: "namespace or crate", file: "file", module: "module", stack: "whole stack" };
+const CHOICES = { function: data.named ? "function" : "return address", namespace: "namespace or crate", file: "file", module: "module", stack: "whole stack" };
 const MEASURES = ["Bytes at the peak", "Bytes at the end", "Calls", "Temporary blocks"];
 // Where each measure stands among the totals of a row.
 const PLACES = [0, 2, 4, 6];

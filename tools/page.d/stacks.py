@@ -11,7 +11,7 @@ NUMBER = re.compile(r"s[1-9][0-9]*")
 NO_EFFECT = b" ! (nil) 0\n"
 PIECE = 1 << 23
 TIME = re.compile(rb"@ t([0-9]{1,15})")
-PART = re.compile(rb"@ ([ms])([0-9]+)([=+])([\x21-\x7e\x80-\xff]*)")
+PART = re.compile(rb"@ ([msi])([0-9]+)([=+])([\x21-\x7e\x80-\xff]*)")
 SHARED = re.compile(r"s[0-9]+\.([0-9]+)")
 TOLD_FRAME = re.compile(r"(?:([0-9]+):)?([0-9a-f]+)")
 FRAME = re.compile(r"(?:(.+):)?\[0x([0-9a-f]+)\]", re.S)
@@ -81,11 +81,16 @@ class Stacks:
 
     def __init__(self, log=None, wanted=None):
         self.modules, self.lists, self.known = {}, {}, {}
+        # The build ids that modules had when they ran, by their texts.
+        self.build_ids = {}
         # The lists that the stack before ends in, by the number of their frames.
         self.ends = [None]
         for letter, number, text in whole_parts(parts_of(log) if log else ()):
             if letter == "m":
                 self.modules[str(number)] = text
+                continue
+            if letter == "i":
+                self.build_ids[self.modules.get(str(number), "?")] = text
                 continue
             stack, location = self.take(text), f"s{number}"
             if wanted is None or location in wanted:

@@ -6,6 +6,7 @@ from collections import Counter
 from concurrent.futures import ThreadPoolExecutor
 from itertools import accumulate
 
+import ends
 import reports
 import sizing
 from functions import Functions, plain_site
@@ -62,6 +63,7 @@ class Study:
         text = sums.text()
         end = reports.end_of_diagnostics(text)
         told = reports.read_peak(text)
+        self.end = ends.how_file_ends(self.path)
         self.lines, self.peak = int(told[b"lines"]), int(told[b"peak"].split()[-1])
         self.kinds = Counter()
         self.first_diagnostics, self.unserved = [], set()
@@ -222,6 +224,8 @@ class Study:
         """Says which programs and libraries were changed after the log was written, and which have no lines."""
         for module in self.functions.newer_than(os.stat(self.path).st_mtime_ns):
             self.say(f"{module} is newer than {self.name}: its source lines may be others")
+        for other in self.functions.of_others():
+            self.say(other)
         bare = self.functions.without_lines()
         if bare:
             self.say(bare)

@@ -8,6 +8,7 @@ from names import demangled, short_name, symbols_in
 
 ALLOCATORS = ("malloc", "calloc", "realloc", "memalign", "aligned_alloc", "posix_memalign", "_Znwm", "_Znam")
 ANY_FRAMES = "..."
+KINDS_LINE, LEAK_KINDS = "match-leak-kinds:", ("definite", "indirect", "possible", "reachable")
 # A name as the linker has it, with a `*`: it is compared with the symbols of the modules.
 MANGLED = "mangled"
 
@@ -21,17 +22,18 @@ class AnyCall:
     """LeakSanitizer's: a text that stands in the function, file or module of any call."""
     pattern: re.Pattern
 
-    def matches(self, calls):
+    def matches(self, calls, _):
         return any(self.pattern.search(text) for call in calls for text in (call.function, call.file, call.module) if text)
 
 
 @dataclass(frozen=True)
 class FirstCalls:
-    """Valgrind's: patterns of the innermost calls, each with its kind."""
+    """Valgrind's: patterns of the innermost calls, each with its kind, and the kinds of leaks that it is for; of all where it names none."""
     frames: tuple
+    kinds: frozenset = frozenset()
 
-    def matches(self, calls):
-        return matches_from(self.frames, calls)
+    def matches(self, calls, kind):
+        return (not self.kinds or kind in self.kinds) and matches_from(self.frames, calls)
 
 
 def matches_from(frames, calls):
@@ -67,6 +69,14 @@ def frame_of(line):
     raise Malformed(line)
 
 
+def kinds_in(line):
+    """The kinds of leaks that a line names."""
+    names = line[len(KINDS_LINE):].replace(",", " ").split()
+    if not names or not {*names} <= {*LEAK_KINDS, "all", "none"}:
+        raise Malformed(line)
+    return LEAK_KINDS if "all" in names else names
+
+
 def first_calls(lines):
     """The suppression of lines between braces: its name, its kind, and frames; or nothing where it is of no leak. The call of malloc in
     front isn't told in a stack."""
@@ -74,10 +84,11 @@ def first_calls(lines):
         raise Malformed(lines[0] if lines else "}")
     if not lines[1].split(":")[1].startswith("Leak"):
         return None
-    frames = [line for line in lines[2:] if not line.startswith("match-leak-kinds:")]
+    frames = [line for line in lines[2:] if not line.startswith(KINDS_LINE)]
+    kinds = frozenset(kind for line in lines[2:] if line.startswith(KINDS_LINE) for kind in kinds_in(line))
     if frames and frames[0].startswith("fun:") and any(fnmatchcase(name, frames[0][4:]) for name in ALLOCATORS):
         frames = frames[1:]
-    return FirstCalls(tuple(frame_of(line) for line in frames))
+    return FirstCalls(tuple(frame_of(line) for line in frames), kinds)
 
 
 def read_suppressions(text):
@@ -109,10 +120,10 @@ def by_symbols(suppressions, paths):
     fitting = {pattern: [name for name in symbols if fnmatchcase(name, pattern)] for pattern in wanted}
     plain = demangled(sorted({name for names in fitting.values() for name in names})) if symbols else {}
     told = {pattern: frozenset(short_name(plain[name]) for name in names) for pattern, names in fitting.items()}
-    return [FirstCalls(tuple((kind, told.get(pattern, pattern) if kind == MANGLED else pattern) for kind, pattern in one.frames))
+    return [FirstCalls(tuple((kind, told.get(pattern, pattern) if kind == MANGLED else pattern) for kind, pattern in one.frames), one.kinds)
             if isinstance(one, FirstCalls) else one for one in suppressions]
 
 
-def is_known(suppressions, calls):
-    """Whether the calls of a stack are of a known site."""
-    return any(suppression.matches(calls) for suppression in suppressions)
+def is_known(suppressions, calls, kind):
+    """Whether the calls of a stack, whose memory is held in this way, are of a known site."""
+    return any(suppression.matches(calls, kind) for suppression in suppressions)

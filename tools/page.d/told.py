@@ -22,12 +22,12 @@ def without_start(calls):
     return calls[:own[-1] + 1] if own else calls
 
 
-def folded(calls):
+def folded(calls, whole=False):
     """Calls of the standard library as one: that which the program called."""
     named = next((call for call in reversed(calls) if call.function), calls[-1])
     of_cxx, plain = IN_STD
     space = "std::" if of_cxx.match(named.file) and plain.fullmatch(named.function) else ""
-    return f"{space}{named.function or named.briefly} .."
+    return f"{space}{whole and named.whole or named.function or named.briefly} .."
 
 
 def without_new(calls):
@@ -38,17 +38,23 @@ def without_new(calls):
     return calls[at:]
 
 
-def one_call(call, paths):
+def one_call(call, paths, whole):
     """A call as it is told."""
-    return call.told(paths) if paths else call.briefly
+    return call.told(paths, whole) if paths or whole else call.briefly
 
 
-def told_calls(calls, all_frames=False, paths=False):
-    """A stack's calls as they are told, innermost first."""
+def told_calls(calls, all_frames=False, paths=False, whole=False):
+    """A stack's calls as they are told, innermost first; or with the whole name of each function."""
     if all_frames or all(call.is_standard for call in calls):
-        return [one_call(call, paths) for call in calls]
+        return [one_call(call, paths, whole) for call in calls]
     told = []
     for is_standard, group in groupby(without_start(without_new(calls)), lambda call: call.is_standard):
         run = list(group)
-        told += [folded(run)] if is_standard and len(run) > 1 else [one_call(call, paths) for call in run]
+        told += [folded(run, whole)] if is_standard and len(run) > 1 else [one_call(call, paths, whole) for call in run]
     return told
+
+
+def told_apart(told, wholes):
+    """How stacks are told that are alike but for the whole names of their functions: each with those that tell it from others."""
+    differs = [len(set(names)) > 1 for names in zip(*wholes)]
+    return [[whole if differs[at] else short for at, (short, whole) in enumerate(zip(told, names))] for names in wholes]

@@ -1,7 +1,13 @@
 // Memory of Rust that is forgotten. Rc has 16 bytes before its value.
 use std::cell::RefCell;
-use std::hint::black_box;
 use std::rc::Rc;
+
+// Older compilers have no std::hint::black_box.
+fn black_box<T>(value: T) -> T {
+    let copy = unsafe { std::ptr::read_volatile(&value) };
+    std::mem::forget(value);
+    copy
+}
 
 mod chest {
     pub struct Chest<T> {
@@ -22,7 +28,7 @@ mod chest {
 
     impl Keep for str {
         fn keep(&self) -> &'static [u8] {
-            self.to_owned().leak().as_bytes() // planted 26 in 1: <str as jewels::chest::Keep>::keep
+            Box::leak(self.to_owned().into_boxed_str()).as_bytes() // planted 26 in 1: <str as jewels::chest::Keep>::keep
         }
     }
 }

@@ -1,0 +1,98 @@
+/* child.c: the calls that start a program. One whose variables don't preload the tracer is noted in the index, so
+ * that nobody takes it for one without leaks.
+ */
+#define _GNU_SOURCE
+#include "trace.h"
+
+#include <errno.h>
+#include <string.h>
+#include <unistd.h>
+
+enum { PROGRAM_MOST = 1024 };
+
+/* Whether variables preload this library. */
+static bool has_tracer(char *const variables[])
+{
+    static const char preload[] = "LD_PRELOAD=";
+    for (size_t k = 0; variables != NULL && variables[k] != NULL; k++) {
+        if (strncmp(variables[k], preload, sizeof preload - 1) == 0) {
+            return strstr(variables[k], "/libtlsf_trace.so") != NULL;
+        }
+    }
+    return false;
+}
+
+/* An entry of the index: a process without a log, and its program, which is cut where it is long. */
+static void note(pid_t process, const char *program)
+{
+    char entry[PROGRAM_MOST + 32];
+    char *end = put_decimal(entry, (size_t)process);
+    size_t length = strlen(program) < PROGRAM_MOST ? strlen(program) : PROGRAM_MOST;
+    *end++ = 0;
+    *end++ = 0;
+    memcpy(end, program, length);
+    end += length;
+    *end++ = 0;
+    log_note(entry, (size_t)(end - entry));
+}
+
+bool child_note(pid_t process, const char *program, char *const variables[])
+{
+    bool is_untraced = !has_tracer(variables) && program != NULL && program[0] != 0;
+    if (is_untraced) {
+        note(process, program);
+    }
+    return is_untraced;
+}
+
+void child_take_back(pid_t process) { note(process, ""); }
+
+typedef const posix_spawn_file_actions_t *actions_t;
+typedef const posix_spawnattr_t *attributes_t;
+
+/* The same of a program that was started, if it was. */
+static int note_spawned(int result, const pid_t *process, const char *program, char *const variables[])
+{
+    if (result == 0) {
+        child_note(*process, program, variables == NULL ? environ : variables);
+    }
+    return result;
+}
+
+EXPORT int posix_spawn(pid_t *process, const char *path, actions_t actions, attributes_t attributes, char *const words[],
+                       char *const variables[])
+{
+    pid_t own, *told = process == NULL ? &own : process;
+    find_real();
+    return note_spawned(real.posix_spawn(told, path, actions, attributes, words, variables), told, path, variables);
+}
+
+EXPORT int posix_spawnp(pid_t *process, const char *file, actions_t actions, attributes_t attributes, char *const words[],
+                        char *const variables[])
+{
+    pid_t own, *told = process == NULL ? &own : process;
+    find_real();
+    return note_spawned(real.posix_spawnp(told, file, actions, attributes, words, variables), told, file, variables);
+}
+
+/* A command of the shell is noted by its words, and by the process that starts it. */
+EXPORT int system(const char *command)
+{
+    find_real();
+    if (command != NULL) {
+        child_note(getpid(), command, environ);
+    }
+    return real.system(command);
+}
+
+EXPORT FILE *popen(const char *command, const char *mode)
+{
+    find_real();
+    FILE *stream = real.popen(command, mode);
+    if (stream != NULL) {
+        int code = errno;
+        child_note(getpid(), command, environ);
+        errno = code;
+    }
+    return stream;
+}
