@@ -42,7 +42,8 @@ class Report:
         self.words, self.stopped = words, False
         self.out, self.said = tempfile.TemporaryFile(), tempfile.TemporaryFile()
         try:
-            self.run = subprocess.Popen([program, *words], stdin=given or subprocess.DEVNULL, stdout=self.out, stderr=self.said)
+            self.run = subprocess.Popen([program, *words], stdin=given or subprocess.DEVNULL, stdout=self.out, stderr=self.said,
+                                        env={**os.environ, "TLSF_CAUSES": "1"})
         except OSError as error:
             give_up(f"the program doesn't run: {error}", 2)
 
