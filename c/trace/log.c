@@ -45,16 +45,17 @@ enum { END_BYTES = sizeof end_line - 1, CUT_BYTES = sizeof cut_line - 1 };
 
 static pthread_mutex_t lock = PTHREAD_MUTEX_INITIALIZER;
 
-/* The names of the file and of the index, and what tells the file from others. Written: the bytes of whole lines. What is mapped begins with a byte of
- * the file, and is null where the file was cut to its length. There is room up to another byte. */
+/* The names of the file and of the index, and what tells the file from others. Written: the bytes of
+ * whole lines. What is mapped begins with a byte of the file, and is null where the file was cut to its
+ * length. There is room up to another byte. */
 static char path[PATH_MOST], index_path[PATH_MOST];
 static struct stat made;
 static pid_t process;
 static char *mapped;
 static size_t mapped_from, mapped_bytes;
 static size_t written, room_to;
-/* Whether the end is written; whether no more than a piece is mapped; and from which byte on the file is opened again for
- * room, where that failed. */
+/* Whether the end is written; whether no more than a piece is mapped; and from which byte on the file is
+ * opened again for room, where that failed. */
 static bool is_ended, is_small;
 static size_t try_from;
 /* The process that may open no file any more, and the filter of system calls that it had at first. */
