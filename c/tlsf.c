@@ -230,14 +230,13 @@ void *tlsf_memalign(tlsf_t tlsf, size_t align, size_t bytes)
         return tlsf_malloc(tlsf, bytes);
     }
     ON_HEAP(tlsf);
-    struct placed_block block = {.word = TLSF_BAD_ALIGN};
     if (control == NULL) {
         return NULL;
     }
-    if (align <= TLSF_MOST_ALIGN) {
-        block = tlsf_placed_memalign(&control->at, align, bytes);
+    if (align > TLSF_MOST_ALIGN) {
+        return refuse_bytes(control, NULL, TLSF_BAD_ALIGN, bytes);
     }
-    return hand_out(control, block, bytes);
+    return hand_out(control, tlsf_placed_memalign(&control->at, align, bytes), bytes);
 }
 
 /* Frees the block of a pointer into a pool. */

@@ -274,8 +274,9 @@ static inline void *tlsf_parts_aligned_alloc(tlsf_parts *parts, size_t align, si
     unsigned char *block = good ? tlsf_parts_ask(parts, room, bytes)
                                 : tlsf_parts_refuse(parts, TLSF_REFUSED_ALIGNMENT, bytes, NULL);
     size_t skip = block == NULL ? 0u : (align - (uintptr_t)block % align) % align;
-    if (skip != 0u) {
-        tlsf_parts_further(tlsf_parts_for(parts, room), block, block + skip);
+    struct tlsf_part_heap *part = skip == 0u ? NULL : tlsf_parts_for(parts, room);
+    if (part != NULL) {
+        tlsf_parts_further(part, block, block + skip);
     }
     return block == NULL ? NULL : block + skip;
 }

@@ -1,7 +1,7 @@
 /* Parts of tlsf_parts.h: their bytes as constant expressions beside the definitions, what each call
  * refuses, and random programs that stay within random limits, in memory of just the bytes told.
  *
- *     parts [CALLS]    the calls of the random programs: without it 2,000,000, or as built */
+ *     parts [CALLS]    the calls of the random programs: without it 2,000,000, and 200,000 on a board */
 #include <stdlib.h>
 #include <string.h>
 
@@ -9,8 +9,10 @@
 #include "tlsf_heap.h"
 #include "tlsf_parts.h"
 
-#ifndef CALLS
+#ifdef __linux__
 #define CALLS 2000000
+#else
+#define CALLS 200000
 #endif
 enum { CLASSES = 704, VALUES = 100000, SLOTS = 300, MOST_BLOCKS = 60, STEPS = 20000 };
 
@@ -524,9 +526,8 @@ static bool program(void)
     return good;
 }
 
-int main(int words, char **word)
+static int run(uint64_t wanted)
 {
-    uint64_t wanted = words > 1 ? strtoull(word[1], NULL, 10) : CALLS;
     bool good = true;
     bytes();
     large_parts();
@@ -544,3 +545,10 @@ int main(int words, char **word)
     expect(refused > wanted / 100, "and what is above is refused, and told");
     return cases_end();
 }
+
+/* A board passes no words. */
+#ifdef __linux__
+int main(int words, char **word) { return run(words > 1 ? strtoull(word[1], NULL, 10) : CALLS); }
+#else
+int main(void) { return run(CALLS); }
+#endif
