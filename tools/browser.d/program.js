@@ -154,6 +154,7 @@ class System {
       rattle_arg: (index, place, room) => this.word(index, place, room),
       rattle_arg_count: () => BigInt(this.words.length),
       rattle_env: (name, place) => this.variable(place),
+      rattle_env_at: () => -1n,
       rattle_errno: () => this.fault,
       rattle_set_errno: (fault) => { this.fault = fault; },
       open: (place, flags) => this.open(place, flags),

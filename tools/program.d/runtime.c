@@ -13,12 +13,14 @@ struct tried {
 
 int64_t rattle_arg(uint64_t number, char *to, uint64_t room);
 int64_t rattle_env(const char *name, char *to, uint64_t room);
+int64_t rattle_env_at(uint64_t number, char *to, uint64_t room);
 int rattle_errno(void);
 void rattle_set_errno(int number);
 struct tried rattle_alloc(size_t bytes, size_t align);
 struct tried rattle_realloc(void *old, size_t had, size_t bytes, size_t align);
 void rattle_dealloc(void *p);
 
+extern char **environ;
 static int count;
 static char **words;
 static char nothing;
@@ -47,13 +49,23 @@ static int64_t copied(const char *text, char *to, uint64_t room)
     return (int64_t)length;
 }
 
-/* Copies the word of this number, and the value of a variable of the environment. */
+/* Copies the word of this number, the value of a variable of the environment, and its variable of a
+ * number. */
 int64_t rattle_arg(uint64_t number, char *to, uint64_t room)
 {
     return copied(number < (uint64_t)count ? words[number] : NULL, to, room);
 }
 
 int64_t rattle_env(const char *name, char *to, uint64_t room) { return copied(getenv(name), to, room); }
+
+int64_t rattle_env_at(uint64_t number, char *to, uint64_t room)
+{
+    char **variable = environ;
+    for (; number > 0 && *variable != NULL; number--) {
+        variable++;
+    }
+    return copied(*variable, to, room);
+}
 
 int rattle_errno(void) { return errno; }
 
