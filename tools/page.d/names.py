@@ -123,13 +123,20 @@ def output_of(words, given=""):
     return run.stdout.decode("utf-8", "surrogateescape")
 
 
+def processor_of(path):
+    """The number that ELF has for the processor of a file, or nothing."""
+    with open(path, "rb") as file:
+        head = file.read(20)
+    return int.from_bytes(head[18:20], "big" if head[5] == 2 else "little") if head[:4] == b"\x7fELF" and len(head) == 20 else None
+
+
 def base_of(path):
-    """The page of the lowest address that a file is linked for, or None where it is no object."""
-    for line in output_of(["readelf", "-lW", "--", path]).splitlines():
-        words = line.split()
-        if words[:1] == ["LOAD"]:
-            return int(words[2], 16) & ~4095
-    return None
+    """The page of the lowest address that a file is linked for, or None where it is no object. It is 0 for a board's program, whose log
+    has addresses as they are: it is for another processor, and no loader is named."""
+    headers = [line.split() for line in output_of(["readelf", "-lW", "--", path]).splitlines()]
+    bases = [int(words[2], 16) & ~4095 for words in headers if words[:1] == ["LOAD"]]
+    is_for_board = processor_of(path) != processor_of(sys.executable) and not any(words[:1] == ["INTERP"] for words in headers)
+    return 0 if bases and is_for_board else bases[0] if bases else None
 
 
 def lines_of(path, addresses, reader="addr2line"):
