@@ -64,13 +64,14 @@ static size_t setting(const char *name, unsigned most, unsigned usual)
     return good ? number : usual;
 }
 
-/* The number of at most nine digits that the text begins with. The text is then what is behind it. */
+/* The number below 2^32 that the text begins with. The text is then what is behind it. */
 static bool take_number(const char **text, uint32_t *number)
 {
     size_t digits = strspn(*text, "0123456789");
-    *number = digits <= 9 ? (uint32_t)strtoul(*text, NULL, 10) : 0;
+    uint64_t told = digits <= 10 ? strtoul(*text, NULL, 10) : UINT64_MAX;
+    *number = (uint32_t)told;
     *text += digits;
-    return digits >= 1 && digits <= 9;
+    return digits >= 1 && told <= UINT32_MAX;
 }
 
 /* The parts that a text as 64:2130,2048:41 tells, and how many there are: none for another text. */
