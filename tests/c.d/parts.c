@@ -233,7 +233,13 @@ static void stale_pointers(void)
     tlsf_parts *parts = of_list();
     unsigned char *stale = (unsigned char *)tlsf_parts_malloc(parts, 1500);
     tlsf_parts_free(parts, stale);
-    unsigned char *aligned = (unsigned char *)tlsf_parts_aligned_alloc(parts, 512, 1200);
+    /* An alignment that the block's start hasn't, and the bytes for which its part serves. */
+    size_t align = 32;
+    while ((uintptr_t)stale % align == 0) {
+        align *= 2;
+    }
+    size_t bytes_asked = 1516 - align;
+    unsigned char *aligned = (unsigned char *)tlsf_parts_aligned_alloc(parts, align, bytes_asked);
     memset(aligned, 7, tlsf_parts_live_size(parts, aligned));
     expect(stale < aligned && aligned < stale + 1500 && told.count == 0, "an aligned block in its place");
     tlsf_parts_free(parts, stale);
@@ -243,13 +249,13 @@ static void stale_pointers(void)
            "the stale pointer is refused");
     unsigned char *other = (unsigned char *)tlsf_parts_malloc(parts, 1500);
     expect(other != NULL && (other + 1500 <= stale || stale + 1500 <= other)
-               && aligned[0] == 7 && aligned[1199] == 7,
+               && aligned[0] == 7 && aligned[bytes_asked - 1] == 7,
            "the live block stays its own");
     tlsf_parts_free(parts, aligned);
     expect(told.count == 0 && tlsf_parts_live_size(parts, aligned) == 0, "it is freed by its own pointer");
     unsigned char *again = (unsigned char *)tlsf_parts_malloc(parts, 1500);
     tlsf_parts_free(parts, aligned);
-    expect(again == stale && was_told(TLSF_REFUSED_FRONT, aligned, 0) == (again[0] != 0)
+    expect(again == stale && was_told(TLSF_REFUSED_POINTER, aligned, 0)
                && tlsf_parts_live_size(parts, again) >= 1500,
            "and its pointer is stale where a plain block begins before it");
     told.count = 0;
