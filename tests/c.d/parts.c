@@ -47,7 +47,8 @@ _Static_assert(TLSF_SURE_BYTES(0, 0, 0) == 0 && TLSF_SURE_BYTES(32767, 16, 16) =
                    && TLSF_SURE_BYTES(1, 1073741808, 16) == 0
                    && TLSF_SURE_BYTES(1, 16, 1056964601) == 0,
                "nothing is enough");
-static _Alignas(8) unsigned char memory[TLSF_PARTS_BYTES(LIST)];
+/* How its blocks are aligned depends on where the memory begins. */
+static _Alignas(512) unsigned char memory[TLSF_PARTS_BYTES(LIST)];
 static const tlsf_part list[] = {LIST(TLSF_PART)};
 
 /* The lowest size of a class, by its definition. */
@@ -233,7 +234,7 @@ static void stale_pointers(void)
     tlsf_parts *parts = of_list();
     unsigned char *stale = (unsigned char *)tlsf_parts_malloc(parts, 1500);
     tlsf_parts_free(parts, stale);
-    /* An alignment that the block's start hasn't, and the bytes for which its part serves. */
+    /* An alignment that the block's start hasn't, at most 512, and the bytes for which its part serves. */
     size_t align = 32;
     while ((uintptr_t)stale % align == 0) {
         align *= 2;
