@@ -112,10 +112,11 @@ void tlsf_log_end(void)
     TLSF_LOG_UNLOCK();
 }
 
-void *__real_tlsf_malloc(tlsf_t tlsf, size_t bytes);
-void *__real_tlsf_memalign(tlsf_t tlsf, size_t align, size_t bytes);
-void *__real_tlsf_realloc(tlsf_t tlsf, void *ptr, size_t bytes);
-void __real_tlsf_free(tlsf_t tlsf, void *ptr);
+/* The calls themselves. They are weak, so that a program which isn't linked by these names links, too. */
+__attribute__((weak)) void *__real_tlsf_malloc(tlsf_t tlsf, size_t bytes);
+__attribute__((weak)) void *__real_tlsf_memalign(tlsf_t tlsf, size_t align, size_t bytes);
+__attribute__((weak)) void *__real_tlsf_realloc(tlsf_t tlsf, void *ptr, size_t bytes);
+__attribute__((weak)) void __real_tlsf_free(tlsf_t tlsf, void *ptr);
 void *__wrap_tlsf_malloc(tlsf_t tlsf, size_t bytes);
 void *__wrap_tlsf_memalign(tlsf_t tlsf, size_t align, size_t bytes);
 void *__wrap_tlsf_realloc(tlsf_t tlsf, void *ptr, size_t bytes);
