@@ -92,6 +92,16 @@ static void add_taken(struct text *text, const void *from, const char *sign, con
 
 static void tell(const struct text *text) { to.put(text->bytes, text->length, to.user); }
 
+/* The calls themselves. They are weak: a program that isn't linked by --wrap has none. */
+__attribute__((weak)) void *__real_tlsf_malloc(tlsf_t tlsf, size_t bytes);
+__attribute__((weak)) void *__real_tlsf_memalign(tlsf_t tlsf, size_t align, size_t bytes);
+__attribute__((weak)) void *__real_tlsf_realloc(tlsf_t tlsf, void *ptr, size_t bytes);
+__attribute__((weak)) void __real_tlsf_free(tlsf_t tlsf, void *ptr);
+void *__wrap_tlsf_malloc(tlsf_t tlsf, size_t bytes);
+void *__wrap_tlsf_memalign(tlsf_t tlsf, size_t align, size_t bytes);
+void *__wrap_tlsf_realloc(tlsf_t tlsf, void *ptr, size_t bytes);
+void __wrap_tlsf_free(tlsf_t tlsf, void *ptr);
+
 void tlsf_log_begin(const char *file, tlsf_log_put put, void *user)
 {
     TLSF_LOG_LOCK();
@@ -99,6 +109,9 @@ void tlsf_log_begin(const char *file, tlsf_log_put put, void *user)
     to.user = user;
     to.put = put;
     put("= Start\n", 8, user);
+    if (__real_tlsf_malloc == NULL) {
+        put("not linked by --wrap\n", 21, user);
+    }
     TLSF_LOG_UNLOCK();
 }
 
@@ -111,16 +124,6 @@ void tlsf_log_end(void)
     to.put = NULL;
     TLSF_LOG_UNLOCK();
 }
-
-/* The calls themselves. They are weak, so that a program which isn't linked by these names links, too. */
-__attribute__((weak)) void *__real_tlsf_malloc(tlsf_t tlsf, size_t bytes);
-__attribute__((weak)) void *__real_tlsf_memalign(tlsf_t tlsf, size_t align, size_t bytes);
-__attribute__((weak)) void *__real_tlsf_realloc(tlsf_t tlsf, void *ptr, size_t bytes);
-__attribute__((weak)) void __real_tlsf_free(tlsf_t tlsf, void *ptr);
-void *__wrap_tlsf_malloc(tlsf_t tlsf, size_t bytes);
-void *__wrap_tlsf_memalign(tlsf_t tlsf, size_t align, size_t bytes);
-void *__wrap_tlsf_realloc(tlsf_t tlsf, void *ptr, size_t bytes);
-void __wrap_tlsf_free(tlsf_t tlsf, void *ptr);
 
 void *__wrap_tlsf_malloc(tlsf_t tlsf, size_t bytes)
 {

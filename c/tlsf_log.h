@@ -8,7 +8,8 @@
  *
  * and its calls of these four are told from tlsf_log_begin to tlsf_log_end, each with the address that
  * it returns to. That takes no heap and no printf, at most 400 bytes of stack, and time that is bounded
- * by the name of the file.
+ * by the name of the file. Without these words it links, too. Then the log has no call, but a line that
+ * says so: `not linked by --wrap`.
  *
  * Calls of interrupt handlers are told, too, where a build of tlsf_log.c defines TLSF_LOG_LOCK() and
  * TLSF_LOG_UNLOCK(), as by c/bare/interrupts.h. These stand around a call with its lines, so that no
