@@ -1,6 +1,7 @@
 /* numbers PROGRAM WHAT FROM STEP TO: runs the program once for each number from FROM on, in steps of STEP, up to TO. WHAT is
  * - records: `timeline` of an empty log, with so many records. With them go over the pools, 1 to 8, and the points, 1 to 10,000
- * - sites: `sites` of an empty log, with so many records
+ * - pairs: `sites` of an empty log, with so many records and each number of pools
+ * - sites: the same with one pool
  * - points: `timeline` of `lines`, with so many points, without a heap
  * - lines: each report without a heap, of a log of so many lines, each of which holds a block of its own, at a location of its own
  * - loads: `save` of an empty log with so many records, and `check` of the image.
@@ -51,6 +52,16 @@ static void sites(int number)
     expect(number, 0, (char *[]){"sites", word, "empty", NULL});
 }
 
+static void pairs(int number)
+{
+    char words[2][WORD];
+    snprintf(words[0], WORD, "--records=%d", number);
+    for (int pools = 2; pools <= MOST_POOLS && pools <= number; pools++) {
+        snprintf(words[1], WORD, "--pools=%d", pools);
+        expect(number, 0, (char *[]){"sites", words[0], words[1], "--pool=16", "empty", NULL});
+    }
+}
+
 static void points(int number)
 {
     char word[WORD];
@@ -87,15 +98,16 @@ static void lines(int number)
     expect(number, 1, (char *[]){"fit", "--heaps=7", log, NULL});
 }
 
-static void (*const kinds[])(int) = {records, sites, points, lines, loads};
-static const char *const names[] = {"records", "sites", "points", "lines", "loads"};
+static void (*const kinds[])(int) = {records, sites, pairs, points, lines, loads};
+static const char *const names[] = {"records", "sites", "pairs", "points", "lines", "loads"};
+enum { KINDS = sizeof kinds / sizeof kinds[0] };
 
 int main(int argc, char **argv)
 {
     size_t kind = 0;
-    while (argc == 6 && kind < 5 && strcmp(names[kind], argv[2]) != 0)
+    while (argc == 6 && kind < KINDS && strcmp(names[kind], argv[2]) != 0)
         kind++;
-    if (argc != 6 || kind == 5 || posix_spawn_file_actions_init(&quiet) != 0
+    if (argc != 6 || kind == KINDS || posix_spawn_file_actions_init(&quiet) != 0
         || posix_spawn_file_actions_addopen(&quiet, 1, "/dev/null", O_WRONLY, 0) != 0)
         return 2;
     program = argv[1];
