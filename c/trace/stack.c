@@ -42,6 +42,8 @@ static pthread_mutex_t lock = PTHREAD_MUTEX_INITIALIZER;
 static int writers, forks;
 static __thread bool forking, searching;
 
+uint64_t mix_seed;
+
 static unsigned frames_most = 1;
 static int (*unwind)(void **, int);
 
@@ -280,8 +282,16 @@ unsigned stack_number(void *caller)
     return number;
 }
 
+/* The kernel's random bytes for this process: the second word, for the first guards stacks. */
+static uint64_t random_word(void)
+{
+    const uint64_t *bytes = (const uint64_t *)getauxval(AT_RANDOM);
+    return bytes == NULL ? 0 : bytes[1];
+}
+
 void stack_begin(unsigned most)
 {
+    mix_seed = random_word();
     module_begin();
     frames_most = most;
     void *library = dlopen("libunwind.so.8", RTLD_NOW | RTLD_LOCAL);

@@ -348,10 +348,13 @@ char *put_hex(char *to, uintptr_t number);
 /* Decimal digits. */
 char *put_decimal(char *to, size_t number);
 
+/* A number of this process that no program knows before it runs, taken by stack_begin: so none can choose what collides. */
+extern uint64_t mix_seed;
+
 /* A number whose bits all depend on all of another's. */
 static inline uint64_t mix(uint64_t number)
 {
-    number *= 0x9E3779B97F4A7C15u;
+    number = (number ^ mix_seed) * 0x9E3779B97F4A7C15u;
     return (number ^ number >> 32) * 0xD6E8FEB86659FD93u;
 }
 

@@ -1,0 +1,94 @@
+"""growing.py PROGRAM TOOL: whether the processor time of each report, and of TOOL, which names locations, grows with the lines.
+
+For each kind of log, one with four times the lines may take MOST times as long. What looks at all that came before at each
+line takes sixteen times as long. Prints a line for each report of each kind, `KIND REPORT: as it should`, or how many times."""
+import resource
+import subprocess
+import sys
+from pathlib import Path
+
+LINES, MOST, ROUNDS, SECONDS = 40_000, 9, 3, 60
+REPORTS = ["leaks --no-heap", "peak --no-heap", "sites", "sites --calls", "timeline --points 10000", "fit --heaps 4",
+           "leaks --records 65535", "sites --records 65535", "timeline --records 65535"]
+
+
+def locations(lines):
+    """A location for each line, held at the end."""
+    return [f"@ prog:(f+0x{k:x})[0x{k:x}] + 0x{16 * k:x} 0x8" for k in range(1, lines)]
+
+
+def locations_freed(lines):
+    """A location for each block, each freed at once."""
+    return [line for k in range(1, lines // 2) for line in (f"@ prog:[0x{k:x}] + 0x10 0x8", "- 0x10")]
+
+
+def long_locations(lines):
+    """Locations of 9,000 bytes, which differ at their end."""
+    return [f"@ {'p' * 9000}{k} + 0x{16 * k:x} 0x8" for k in range(1, lines // 32)]
+
+
+def classes(lines):
+    """Requests of 2,000 sizes, each of its own power or class, held at the end."""
+    return [f"+ 0x{16 * k:x} 0x{k % 2000 + 1 << k % 20:x}" for k in range(1, lines)]
+
+
+def freed_first(lines):
+    """All are held, and freed with the first one first: each line but the first half has less than the peak."""
+    return [f"{sign} 0x{16 * k:x}{size}" for sign, size in (("+", " 0x10"), ("-", "")) for k in range(1, lines // 2)]
+
+
+def moved(lines):
+    """One block, moved from address to address."""
+    return ["+ 0x10 0x1"] + [line for k in range(1, lines // 2) for line in (f"< 0x{16 * k:x}", f"> 0x{16 * k + 16:x} 0x{k % 5000 + 1:x}")]
+
+
+def findings(lines):
+    """Lines that are each wrong."""
+    return [("junk", "- 0x77", "> 0x88 0x1", "< 0x99")[k % 4] for k in range(lines)]
+
+
+def stacks(lines):
+    """Stacks that are told by number, each with one frame more than the one before, up to 256."""
+    text = ["@ m1=/nowhere/prog ! (nil) 0", "@ s1=1:1 ! (nil) 0"]
+    for k in range(2, lines // 2):
+        text += [f"@ s{k}=1:{k:x}<s{k - 1}.{min(k - 1, 255)} ! (nil) 0", f"@ s{k} + 0x{16 * k:x} 0x8"]
+    return text
+
+
+def modules(lines):
+    """A module for each stack."""
+    return [line for k in range(1, lines // 3)
+            for line in (f"@ m{k}=/nowhere/lib{k}.so ! (nil) 0", f"@ s{k}={k}:{k:x} ! (nil) 0", f"@ s{k} + 0x{16 * k:x} 0x8")]
+
+
+def time_of(words):
+    """The least processor time of some runs, in seconds."""
+    times = []
+    for _ in range(ROUNDS):
+        before = resource.getrusage(resource.RUSAGE_CHILDREN)
+        subprocess.run(words, stdout=subprocess.DEVNULL, stderr=subprocess.DEVNULL, timeout=SECONDS, check=False)
+        after = resource.getrusage(resource.RUSAGE_CHILDREN)
+        times.append(after.ru_utime + after.ru_stime - before.ru_utime - before.ru_stime)
+    return min(times)
+
+
+def verdict(words):
+    """How many times as long the larger log takes, where that is too much."""
+    try:
+        ratio = time_of([*words, "large"]) / max(time_of([*words, "small"]), 0.002)
+    except subprocess.TimeoutExpired:
+        return f"more than {SECONDS} seconds"
+    return "as it should" if ratio <= MOST else f"{ratio:.1f} times"
+
+
+def main():
+    program, tool = sys.argv[1:]
+    for kind in (locations, locations_freed, long_locations, classes, freed_first, moved, findings, stacks, modules):
+        for name, lines in (("small", LINES), ("large", 4 * LINES)):
+            Path(name).write_text("\n".join(kind(lines)) + "\n")
+        named = [("source-lines", [tool])] if kind in (locations, stacks, modules) else []
+        for report, words in [(report, [program, *report.split()]) for report in REPORTS] + named:
+            print(f"{kind.__name__} {report}: {verdict(words)}", flush=True)
+
+
+main()
