@@ -7,7 +7,8 @@
  * that can't be served answers a null pointer. A pointer that no live block has is refused, and
  * nothing changes. But a stale pointer can equal that of a later block. To free it frees that block.
  *
- * The heap takes no memory but what the program hands in, which begins at a multiple of 8. Until
+ * The heap takes no memory but what the program hands in. As for Conte's library it begins at a
+ * multiple of a pointer's size: of 4 where pointers have 4 bytes, and of 8 where they have 8. Until
  * the heap or the pool is gone, the program uses only its blocks in this memory. Only one call on a
  * heap runs at a time.
  */
@@ -29,7 +30,9 @@ extern "C" {
 typedef void *tlsf_t;
 typedef void *pool_t;
 
-/* Makes a heap without a pool, in tlsf_size() bytes. */
+/* Makes a heap without a pool, in tlsf_size() bytes. Answers a null pointer where mem is null, or begins
+ * at no multiple of a pointer's size. The heap is mem, or where that is no multiple of 8, mem + 4. The
+ * same holds for the next two calls. */
 tlsf_t tlsf_create(void *mem);
 
 /* Makes a heap and its first pool in `bytes` bytes. Answers a null pointer where tlsf_add_pool
@@ -53,9 +56,10 @@ void tlsf_destroy(tlsf_t tlsf);
  * the answer is a null pointer. */
 pool_t tlsf_get_pool(tlsf_t tlsf);
 
-/* Adds a pool: all whole units of 16 bytes from `mem` on, or from `mem` + 8 on where `mem` is a
- * multiple of 16. Answers a null pointer where
+/* Adds a pool: all whole units of 16 bytes from the first address on, from `mem` on, that is a multiple
+ * of 8 and none of 16. Answers a null pointer where
  * - this is no unit, or more than 1,073,741,808 bytes
+ * - `mem` is null, or begins at no multiple of a pointer's size
  * - the heap has eight pools already
  * - the heap has some of this memory already
  * - no record is vacant
@@ -135,7 +139,7 @@ int tlsf_stats(tlsf_t tlsf, tlsf_figures *figures);
  * tlsf_align_size: the address of each block is a multiple of it.
  * tlsf_block_size_min, tlsf_block_size_max: the bytes of the least and of the greatest block.
  * tlsf_pool_overhead: a pool of n bytes and this many serves a block of n bytes. It is a multiple
- * of 8, for a program that moves an address by it.
+ * of a pointer's size, for a program that moves an address by it.
  * tlsf_alloc_overhead: the bytes that a block takes beside its own. */
 size_t tlsf_size(void);
 size_t tlsf_align_size(void);
@@ -144,7 +148,8 @@ size_t tlsf_block_size_max(void);
 size_t tlsf_pool_overhead(void);
 size_t tlsf_alloc_overhead(void);
 
-/* The bytes that tlsf_create_records needs in front of a pool (this call isn't Conte's). */
+/* The bytes that tlsf_create_records needs in front of a pool, where mem is a multiple of 8, and 4 fewer
+ * than it needs elsewhere (this call isn't Conte's). */
 size_t tlsf_size_records(uint32_t records);
 
 /* Answers the bytes with which tlsf_create_records, for 2 * blocks + 3 records, makes a heap that
@@ -227,7 +232,7 @@ typedef struct tlsf_memory {
 #define TLSF_BROKEN_ADDRESSES 114
 #define TLSF_BROKEN_FRONTS 115
 
-/* Makes the heap of an image again, in the `bytes` bytes at mem, which then is a tlsf_t. The image has
+/* Makes the heap of an image again, in the `bytes` bytes at mem, a multiple of 8, which then is a tlsf_t. The image has
  * `length` bytes elsewhere, and need not be trusted. memory[k] is the memory of the k-th of eight pools, in which
  * its bytes are already as they were. The first pool is that of tlsf_get_pool. The next ones are in the
  * order in which they were added, but one that is added takes the number of one that was removed. Where

@@ -42,14 +42,15 @@ static int take_pools(struct control *control, const struct saved *saved, const 
     int lost = 0;
     for (uint32_t k = 0; k < POOLS; k++) {
         const tlsf_memory *of = memory == NULL || memory[k].mem == NULL ? rest : &memory[k];
-        uintptr_t address = (uintptr_t)of->mem;
+        uintptr_t address = (uintptr_t)of->mem + skipped(of->mem);
+        size_t bytes = of->bytes - skipped(of->mem);
         struct pool *own = &control->at.pools[k];
         if (saved->pools[k].reach != 0u) {
             *own = saved->pools[k];
             own->control = control;
             own->number = k;
-            if (!is_apart(control, address, of->bytes)
-                || !tlsf_placed_move(&control->at, k, address, of->bytes, UINTPTR_MAX)) {
+            if (!is_apart(control, address, bytes)
+                || !tlsf_placed_move(&control->at, k, address, bytes, UINTPTR_MAX)) {
                 return TLSF_BAD_MEMORY;
             }
         }
