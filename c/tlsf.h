@@ -209,6 +209,35 @@ void tlsf_walk_pool(pool_t pool, tlsf_walker walker, void *user);
 int tlsf_check(tlsf_t tlsf);
 int tlsf_check_pool(pool_t pool);
 
+/* What tlsf_check_at and tlsf_load_at find wrong. */
+enum tlsf_fault_kind {
+    TLSF_FAULT_NONE = 0,    /* nothing */
+    TLSF_FAULT_NO_HEAP = 1, /* there is no heap, or the first 8 bytes of its start were changed */
+    TLSF_FAULT_CONTROL = 2, /* a byte of the heap's start, in front of its table */
+    TLSF_FAULT_TABLE = 3,   /* a byte of the table, of no one block: its head, a list's head, a vacant record */
+    TLSF_FAULT_RECORD = 4,  /* the block's record tells another place, size or state, or there is none */
+    TLSF_FAULT_CHAIN = 5,   /* the block's record leads to other neighbours */
+    TLSF_FAULT_LIST = 6,    /* the free block's record leads to others in its list, or one of these to others */
+    TLSF_FAULT_FIGURES = 7, /* how many blocks are live, their bytes, or the most that they had */
+    TLSF_FAULT_POOL = 8,    /* the table has no such pool */
+    TLSF_FAULT_FRONT = 9    /* the 8 bytes in front of the live block: often what the block before wrote past its end */
+};
+
+/* The first block that is wrong, by the order of tlsf_get_pool and tlsf_add_pool's pools, and then of addresses. */
+typedef struct tlsf_fault {
+    enum tlsf_fault_kind what;
+    const char *text; /* the same in words */
+    void *block;      /* its pointer; null where no block is meant */
+    size_t offset;    /* how far it is behind the pointer of its pool's first block, in bytes */
+    size_t size;      /* its bytes, as tlsf_block_size tells them, by its record, which may be what is wrong */
+    uint32_t pool;    /* the number of its pool, which memory[] of tlsf_load has, from 0 on; 8 where no pool is meant */
+} tlsf_fault;
+
+/* As tlsf_check, and *out gets the first fault, or TLSF_FAULT_NONE. A null pointer for it is allowed. Where the table
+ * is wrong the call reads the records of all pools. One bit of a record's place, size, state or neighbours that was
+ * changed is told of that record's block (this call isn't Conte's). */
+int tlsf_check_at(tlsf_t tlsf, tlsf_fault *out);
+
 /* An image of a heap: which blocks are live, and where in their pools. It doesn't keep the bytes of
  * the pools, which the program keeps, nor the hook and the counts of refusals. TLSF_IMAGE_BYTES are the
  * bytes of the image of a heap with that many records. These calls aren't Conte's. */
@@ -243,6 +272,10 @@ typedef struct tlsf_memory {
  * Answers 0, or else why the image isn't loaded. Then no pool was written. Only memory that is handed in
  * is read. */
 int tlsf_load(void *mem, size_t bytes, const void *image, size_t length, const tlsf_memory *memory);
+
+/* As tlsf_load. Where the answer is TLSF_BROKEN_FRONTS *out gets the first block whose front is wrong, in the memory
+ * of its pool; else it stays as it was. A null pointer for it is allowed. */
+int tlsf_load_at(void *mem, size_t bytes, const void *image, size_t length, const tlsf_memory *memory, tlsf_fault *out);
 
 #ifdef __cplusplus
 }

@@ -234,7 +234,8 @@ static inline bool is_apart(const struct control *control, uint64_t address, uin
 uint64_t mark_of(const struct control *control);
 
 /* How many live blocks of an entry's pool have a front that isn't what it was where the pool began at an
- * address. The others get the word of where it begins now, if that is asked for. */
-int lost_fronts(struct control *control, uint32_t entry, uint64_t began, bool moves);
+ * address. The others get the word of where it begins now, if that is asked for. *out, where it isn't null, gets
+ * the first that has not. */
+int lost_fronts(struct control *control, uint32_t entry, uint64_t began, bool moves, tlsf_fault *out);
 
 #endif
