@@ -33,8 +33,6 @@
 #endif
 
 #define LEAST_POOL (FRONT + UNIT)
-/* What memory that is handed in begins at a multiple of. */
-#define HANDED_IN 8u
 /* tlsf_create_with_pool has a record for each, if a build tells nothing else. Where pointers are short,
  * blocks are, too. */
 #ifndef TLSF_BYTES_A_RECORD
@@ -46,7 +44,7 @@ size_t tlsf_size_records(uint32_t records)
 {
     return sizeof(struct control) + HANDED_IN + TLSF_HEAP_TABLE_BYTES(records);
 }
-/* A front takes a block to the next unit at most, and the first one the pool. */
+/* A front takes a block to the next unit at most, and what is skipped and the first one the pool. */
 size_t tlsf_sure_bytes(uint32_t blocks, size_t bytes, size_t largest)
 {
     bool few = largest > 0u && largest < TLSF_HEAP_GREATEST && bytes < TLSF_HEAP_GREATEST;
@@ -54,11 +52,11 @@ size_t tlsf_sure_bytes(uint32_t blocks, size_t bytes, size_t largest)
     uint32_t pool = tlsf_heap_sure_pool(blocks, bytes + (uint64_t)blocks * UNIT, class_size);
     return pool == 0u ? 0u : tlsf_size_records(2u * blocks + 3u) + UNIT + pool;
 }
-size_t tlsf_size(void) { return tlsf_size_records(TLSF_RECORDS); }
+size_t tlsf_size(void) { return MOST_SKIPPED + tlsf_size_records(TLSF_RECORDS); }
 size_t tlsf_align_size(void) { return UNIT; }
 size_t tlsf_block_size_min(void) { return UNIT - FRONT; }
 size_t tlsf_block_size_max(void) { return TLSF_HEAP_GREATEST - FRONT; }
-size_t tlsf_pool_overhead(void) { return HANDED_IN + FRONT + UNIT; }
+size_t tlsf_pool_overhead(void) { return MOST_SKIPPED + HANDED_IN + FRONT + UNIT; }
 size_t tlsf_alloc_overhead(void) { return FRONT; }
 
 /* Each word of the control part counts in its mark by an odd number of its own. So a word that changes
@@ -86,10 +84,11 @@ uint64_t mark_of(const struct control *control)
 pool_t tlsf_add_pool(tlsf_t tlsf, void *mem, size_t bytes)
 {
     ON_HEAP(tlsf);
-    uintptr_t address = (uintptr_t)mem;
+    uintptr_t address = (uintptr_t)mem + skipped(mem);
+    size_t rest = bytes - skipped(mem);
     uint32_t entry = 0;
-    if (control == NULL || !is_apart(control, address, bytes)
-        || tlsf_placed_add_pool(&control->at, address, bytes, TLSF_MOST_ALIGN, &entry) != TLSF_OK) {
+    if (control == NULL || !is_apart(control, address, rest)
+        || tlsf_placed_add_pool(&control->at, address, rest, TLSF_MOST_ALIGN, &entry) != TLSF_OK) {
         return NULL;
     }
     struct pool *pool = &control->at.pools[entry];
@@ -119,12 +118,13 @@ pool_t tlsf_get_pool(tlsf_t tlsf)
 
 tlsf_t tlsf_create_records(void *mem, size_t bytes, uint32_t records)
 {
-    struct control *control = (struct control *)mem;
+    uintptr_t address = (uintptr_t)mem + skipped(mem);
+    struct control *control = (struct control *)address;
     struct places places;
-    if (!tlsf_placed_places((uintptr_t)mem, bytes, sizeof *control, records, UINTPTR_MAX, &places)) {
+    if (!tlsf_placed_places(address, bytes - skipped(mem), sizeof *control, records, UINTPTR_MAX, &places)) {
         return NULL;
     }
-    *control = (struct control){.at.owner = (uintptr_t)mem + MAGIC, .records = records};
+    *control = (struct control){.at.owner = address + MAGIC, .records = records};
     if (tlsf_heap_create_in((void *)(uintptr_t)places.table, TLSF_HEAP_TABLE_BYTES(records), records,
                             &control->at.heap) == TLSF_OK) {
         void *rest = (void *)(uintptr_t)places.pool;
@@ -144,7 +144,8 @@ tlsf_t tlsf_create_with_pool(void *mem, size_t bytes)
 {
     size_t records = (bytes - tlsf_size_records(0)) / TLSF_BYTES_A_RECORD + 1u;
     records = records > TLSF_HEAP_RECORDS_MOST ? TLSF_HEAP_RECORDS_MOST : records;
-    return tlsf_get_pool(tlsf_create_records(mem, bytes, (uint32_t)records)) == NULL ? NULL : mem;
+    tlsf_t made = tlsf_create_records(mem, bytes, (uint32_t)records);
+    return tlsf_get_pool(made) == NULL ? NULL : made;
 }
 
 /* All its memory was handed in: there is nothing to give back. */
@@ -218,10 +219,7 @@ static inline void *hand_out(struct control *control, struct placed_block block,
 void *tlsf_malloc(tlsf_t tlsf, size_t bytes)
 {
     ON_HEAP(tlsf);
-    if (control == NULL) {
-        return NULL;
-    }
-    return hand_out(control, tlsf_placed_malloc(&control->at, bytes), bytes);
+    return control == NULL ? NULL : hand_out(control, tlsf_placed_malloc(&control->at, bytes), bytes);
 }
 
 void *tlsf_memalign(tlsf_t tlsf, size_t align, size_t bytes)

@@ -7,7 +7,8 @@
  * that can't be served answers a null pointer. A pointer that no live block has is refused, and
  * nothing changes. But a stale pointer can equal that of a later block. To free it frees that block.
  *
- * The heap takes no memory but what the program hands in, which begins at a multiple of 8. Until
+ * The heap takes no memory but what the program hands in. As for Conte's library it begins at a
+ * multiple of a pointer's size: of 4 where pointers have 4 bytes, and of 8 where they have 8. Until
  * the heap or the pool is gone, the program uses only its blocks in this memory. Only one call on a
  * heap runs at a time.
  */
@@ -29,7 +30,9 @@ extern "C" {
 typedef void *tlsf_t;
 typedef void *pool_t;
 
-/* Makes a heap without a pool, in tlsf_size() bytes. */
+/* Makes a heap without a pool, in tlsf_size() bytes. Answers a null pointer where mem is null, or begins
+ * at no multiple of a pointer's size. The heap is mem, or where that is no multiple of 8, mem + 4. The
+ * same holds for the next two calls. */
 tlsf_t tlsf_create(void *mem);
 
 /* Makes a heap and its first pool in `bytes` bytes. Answers a null pointer where tlsf_add_pool
@@ -53,9 +56,10 @@ void tlsf_destroy(tlsf_t tlsf);
  * the answer is a null pointer. */
 pool_t tlsf_get_pool(tlsf_t tlsf);
 
-/* Adds a pool: all whole units of 16 bytes from `mem` on, or from `mem` + 8 on where `mem` is a
- * multiple of 16. Answers a null pointer where
+/* Adds a pool: all whole units of 16 bytes from the first address on, from `mem` on, that is a multiple
+ * of 8 and none of 16. Answers a null pointer where
  * - this is no unit, or more than 1,073,741,808 bytes
+ * - `mem` is null, or begins at no multiple of a pointer's size
  * - the heap has eight pools already
  * - the heap has some of this memory already
  * - no record is vacant
@@ -135,7 +139,7 @@ int tlsf_stats(tlsf_t tlsf, tlsf_figures *figures);
  * tlsf_align_size: the address of each block is a multiple of it.
  * tlsf_block_size_min, tlsf_block_size_max: the bytes of the least and of the greatest block.
  * tlsf_pool_overhead: a pool of n bytes and this many serves a block of n bytes. It is a multiple
- * of 8, for a program that moves an address by it.
+ * of a pointer's size, for a program that moves an address by it.
  * tlsf_alloc_overhead: the bytes that a block takes beside its own. */
 size_t tlsf_size(void);
 size_t tlsf_align_size(void);
@@ -144,7 +148,8 @@ size_t tlsf_block_size_max(void);
 size_t tlsf_pool_overhead(void);
 size_t tlsf_alloc_overhead(void);
 
-/* The bytes that tlsf_create_records needs in front of a pool (this call isn't Conte's). */
+/* The bytes that tlsf_create_records needs in front of a pool, where mem is a multiple of 8, and 4 fewer
+ * than it needs elsewhere (this call isn't Conte's). */
 size_t tlsf_size_records(uint32_t records);
 
 /* Answers the bytes with which tlsf_create_records, for 2 * blocks + 3 records, makes a heap that
@@ -204,6 +209,35 @@ void tlsf_walk_pool(pool_t pool, tlsf_walker walker, void *user);
 int tlsf_check(tlsf_t tlsf);
 int tlsf_check_pool(pool_t pool);
 
+/* What tlsf_check_at and tlsf_load_at find wrong. */
+enum tlsf_fault_kind {
+    TLSF_FAULT_NONE = 0,    /* nothing */
+    TLSF_FAULT_NO_HEAP = 1, /* there is no heap, or the first 8 bytes of its start were changed */
+    TLSF_FAULT_CONTROL = 2, /* a byte of the heap's start, in front of its table */
+    TLSF_FAULT_TABLE = 3,   /* a byte of the table, of no one block: its head, a list's head, a vacant record */
+    TLSF_FAULT_RECORD = 4,  /* the block's record tells another place, size or state, or there is none */
+    TLSF_FAULT_CHAIN = 5,   /* the block's record leads to other neighbours */
+    TLSF_FAULT_LIST = 6,    /* the free block's record leads to others in its list, or one of these to others */
+    TLSF_FAULT_FIGURES = 7, /* how many blocks are live, their bytes, or the most that they had */
+    TLSF_FAULT_POOL = 8,    /* the table has no such pool */
+    TLSF_FAULT_FRONT = 9    /* the 8 bytes in front of the live block: often what the block before wrote past its end */
+};
+
+/* The first block that is wrong, by the order of tlsf_get_pool and tlsf_add_pool's pools, and then of addresses. */
+typedef struct tlsf_fault {
+    enum tlsf_fault_kind what;
+    const char *text; /* the same in words */
+    void *block;      /* its pointer; null where no block is meant */
+    size_t offset;    /* how far it is behind the pointer of its pool's first block, in bytes */
+    size_t size;      /* its bytes, as tlsf_block_size tells them, by its record, which may be what is wrong */
+    uint32_t pool;    /* the number of its pool, which memory[] of tlsf_load has, from 0 on; 8 where no pool is meant */
+} tlsf_fault;
+
+/* As tlsf_check, and *out gets the first fault, or TLSF_FAULT_NONE. A null pointer for it is allowed. Where the table
+ * is wrong the call reads the records of all pools. One bit of a record's place, size, state or neighbours that was
+ * changed is told of that record's block (this call isn't Conte's). */
+int tlsf_check_at(tlsf_t tlsf, tlsf_fault *out);
+
 /* An image of a heap: which blocks are live, and where in their pools. It doesn't keep the bytes of
  * the pools, which the program keeps, nor the hook and the counts of refusals. TLSF_IMAGE_BYTES are the
  * bytes of the image of a heap with that many records. These calls aren't Conte's. */
@@ -227,7 +261,7 @@ typedef struct tlsf_memory {
 #define TLSF_BROKEN_ADDRESSES 114
 #define TLSF_BROKEN_FRONTS 115
 
-/* Makes the heap of an image again, in the `bytes` bytes at mem, which then is a tlsf_t. The image has
+/* Makes the heap of an image again, in the `bytes` bytes at mem, a multiple of 8, which then is a tlsf_t. The image has
  * `length` bytes elsewhere, and need not be trusted. memory[k] is the memory of the k-th of eight pools, in which
  * its bytes are already as they were. The first pool is that of tlsf_get_pool. The next ones are in the
  * order in which they were added, but one that is added takes the number of one that was removed. Where
@@ -238,6 +272,10 @@ typedef struct tlsf_memory {
  * Answers 0, or else why the image isn't loaded. Then no pool was written. Only memory that is handed in
  * is read. */
 int tlsf_load(void *mem, size_t bytes, const void *image, size_t length, const tlsf_memory *memory);
+
+/* As tlsf_load. Where the answer is TLSF_BROKEN_FRONTS *out gets the first block whose front is wrong, in the memory
+ * of its pool; else it stays as it was. A null pointer for it is allowed. */
+int tlsf_load_at(void *mem, size_t bytes, const void *image, size_t length, const tlsf_memory *memory, tlsf_fault *out);
 
 #ifdef __cplusplus
 }

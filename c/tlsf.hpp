@@ -27,7 +27,7 @@ public:
 
     /// A resource over a heap of its own, which tlsf_create_with_pool makes in `bytes` bytes of
     /// memory. The heap ends with the resource. Throws std::bad_alloc where the memory is too
-    /// small, or begins at no multiple of 8.
+    /// small, or begins at no multiple of a pointer's size.
     tlsf_resource(void *memory, std::size_t bytes)
         : heap_(tlsf_create_with_pool(memory, bytes)), made_(true)
     {

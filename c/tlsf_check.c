@@ -7,6 +7,7 @@
 #include <stdio.h>
 #endif
 
+#include "tlsf_fault.h"
 #include "tlsf_front.h"
 #include "tlsf_heap.h"
 
@@ -78,7 +79,7 @@ void tlsf_walk_pool(pool_t pool, tlsf_walker walker, void *user)
     }
 }
 
-int lost_fronts(struct control *control, uint32_t entry, uint64_t began, bool moves)
+int lost_fronts(struct control *control, uint32_t entry, uint64_t began, bool moves, tlsf_fault *out)
 {
     struct row rows[TLSF_WALK_ROWS];
     uint64_t from = 0;
@@ -92,7 +93,10 @@ int lost_fronts(struct control *control, uint32_t entry, uint64_t began, bool mo
             uint64_t word = rows[k].used ? front_of((void *)address) : 0u;
             bool whole = rows[k].used
                          && tlsf_placed_moved_front(&control->at, &rows[k], began, first, &word);
-            lost += rows[k].used && !whole ? 1 : 0;
+            if (rows[k].used && !whole) {
+                tell_block(lost == 0 ? out : NULL, TLSF_FAULT_FRONT, control, entry, &rows[k]);
+                lost++;
+            }
             if (whole && moves) {
                 write_front(address, word);
             }
@@ -102,50 +106,49 @@ int lost_fronts(struct control *control, uint32_t entry, uint64_t began, bool mo
 }
 
 /* How many live blocks of an entry's pool have lost their front; 1 where the table has no such pool. */
-static int lost_in(struct control *control, uint32_t entry)
+static int lost_in(struct control *control, uint32_t entry, tlsf_fault *out)
 {
     const struct pool *pool = &control->at.pools[entry];
-    bool is = pool->reach == 0u || tlsf_placed_has_pool(&control->at, pool->place, pool->reach + FRONT);
-    return is ? lost_fronts(control, entry, pool->first, false) : 1;
-}
-
-/* Whether the table leads to its records: it begins with their address and their number, and they lie
- * 16 bytes in front of it. No call changes that, and the proved check follows it. */
-static bool leads_to_records(const struct control *control)
-{
-    const unsigned char *table = (const unsigned char *)control->at.heap.at;
-    uintptr_t records = 0;
-    uint64_t count = 0;
-    (void)__builtin_memcpy(&records, table, sizeof records);
-    (void)__builtin_memcpy(&count, &table[8], sizeof count);
-    return count == control->records && records == (uintptr_t)table - UNIT - UNIT * control->records;
+    if (pool->reach != 0u && !tlsf_placed_has_pool(&control->at, pool->place, pool->reach + FRONT)) {
+        tell(out, TLSF_FAULT_POOL, entry);
+        return 1;
+    }
+    return lost_fronts(control, entry, pool->first, false, out);
 }
 
 /* Of one pool, or of all. The table is read where the control part is whole, and the fronts where the
  * table is, and agrees with the control part. */
-static int check(struct control *control, uint32_t entry)
+static int check(struct control *control, uint32_t entry, tlsf_fault *out)
 {
     int lost = 0;
-    if (control == NULL || control->mark != mark_of(control) || !leads_to_records(control)
-        || control->at.live.most_again != control->at.live.most_bytes
+    enum tlsf_fault_kind what = start_fault(control);
+    tell(out, what, POOLS);
+    if (what != TLSF_FAULT_NONE) {
+        return -1;
+    }
+    if (control->at.live.most_again != control->at.live.most_bytes
         || !tlsf_placed_check(&control->at, control->at.live.blocks, control->at.live.bytes)) {
+        if (out != NULL) {
+            find_fault(control, out);
+        }
         return -1;
     }
     for (uint32_t k = 0; k < POOLS; k++) {
-        lost += entry == POOLS || entry == k ? lost_in(control, k) : 0;
+        lost += entry == POOLS || entry == k ? lost_in(control, k, lost == 0 ? out : NULL) : 0;
     }
     return -lost;
 }
 
-int tlsf_check(tlsf_t tlsf)
+int tlsf_check(tlsf_t tlsf) { return tlsf_check_at(tlsf, NULL); }
+int tlsf_check_at(tlsf_t tlsf, tlsf_fault *out)
 {
     ON_HEAP(tlsf);
-    return check(control, POOLS);
+    return check(control, POOLS, out);
 }
 int tlsf_check_pool(pool_t pool)
 {
     struct pool *own = (struct pool *)pool;
     struct control *control = control_of_pool(own);
     LOCKED(control);
-    return check(control, control == NULL ? 0u : own->number);
+    return check(control, control == NULL ? 0u : own->number, NULL);
 }

@@ -40,6 +40,11 @@ static void unlock(const tlsf_t *tlsf) { TLSF_UNLOCK(*tlsf); }
 #define POOLS TLSF_HEAP_POOLS
 #define FRONT 8u
 
+/* What a heap and a pool begin at a multiple of, and how far behind the memory handed in that may be. As for
+ * Conte's library such memory begins at a multiple of a pointer's size. */
+#define HANDED_IN 8u
+#define MOST_SKIPPED (HANDED_IN - sizeof(void *))
+
 /* What the control part begins with, less its own address: so a copy is no heap. */
 #define MAGIC 0x544c5346u
 
@@ -137,8 +142,7 @@ struct placed_block tlsf_placed_malloc(struct placed *heap, uint64_t bytes);
 struct placed_block tlsf_placed_memalign(struct placed *heap, uint64_t align, uint64_t bytes);
 enum tlsf_status tlsf_placed_free(struct placed *heap, uint64_t address, uint64_t word);
 uint64_t tlsf_placed_block_size(struct placed *heap, uint64_t address, uint64_t word);
-uint64_t tlsf_placed_realloc(struct placed *heap, uint64_t address, uint64_t bytes, uint64_t *word,
-                             uint64_t *copied);
+uint64_t tlsf_placed_realloc(struct placed *heap, uint64_t address, uint64_t bytes, uint64_t *word, uint64_t *copied);
 bool tlsf_placed_has(const struct placed *heap, uint64_t address);
 uint64_t tlsf_placed_told_size(uint64_t address, uint64_t word);
 enum tlsf_status tlsf_placed_add_pool(struct placed *heap, uint64_t memory, uint64_t bytes,
@@ -210,11 +214,13 @@ static inline bool is_in_first(const struct control *control, const void *ptr)
 static inline bool read_front(const struct control *control, const void *ptr, uint64_t *word)
 {
     bool has = is_in_first(control, ptr) || tlsf_placed_has(&control->at, (uintptr_t)ptr);
-    if (has) {
-        *word = front_of(ptr);
-    }
+    *word = has ? front_of(ptr) : 0u;
     return has;
 }
+
+/* How many bytes of memory handed in are skipped. Fewer bytes than these, less these, are more than there
+ * are addresses, and so are refused. */
+static inline size_t skipped(const void *mem) { return -(uintptr_t)mem & MOST_SKIPPED; }
 
 /* Whether these bytes are none of the heap's own. */
 static inline bool is_apart(const struct control *control, uint64_t address, uint64_t bytes)
@@ -228,7 +234,8 @@ static inline bool is_apart(const struct control *control, uint64_t address, uin
 uint64_t mark_of(const struct control *control);
 
 /* How many live blocks of an entry's pool have a front that isn't what it was where the pool began at an
- * address. The others get the word of where it begins now, if that is asked for. */
-int lost_fronts(struct control *control, uint32_t entry, uint64_t began, bool moves);
+ * address. The others get the word of where it begins now, if that is asked for. *out, where it isn't null, gets
+ * the first that has not. */
+int lost_fronts(struct control *control, uint32_t entry, uint64_t began, bool moves, tlsf_fault *out);
 
 #endif

@@ -37,19 +37,20 @@ size_t tlsf_save(tlsf_t tlsf, void *image, size_t room)
 /* Gives each pool of an image the memory handed in for it, or the rest behind the table. Then each front
  * is looked at, before one is moved. */
 static int take_pools(struct control *control, const struct saved *saved, const tlsf_memory *rest,
-                      const tlsf_memory *memory)
+                      const tlsf_memory *memory, tlsf_fault *out)
 {
     int lost = 0;
     for (uint32_t k = 0; k < POOLS; k++) {
         const tlsf_memory *of = memory == NULL || memory[k].mem == NULL ? rest : &memory[k];
-        uintptr_t address = (uintptr_t)of->mem;
+        uintptr_t address = (uintptr_t)of->mem + skipped(of->mem);
+        size_t bytes = of->bytes - skipped(of->mem);
         struct pool *own = &control->at.pools[k];
         if (saved->pools[k].reach != 0u) {
             *own = saved->pools[k];
             own->control = control;
             own->number = k;
-            if (!is_apart(control, address, of->bytes)
-                || !tlsf_placed_move(&control->at, k, address, of->bytes, UINTPTR_MAX)) {
+            if (!is_apart(control, address, bytes)
+                || !tlsf_placed_move(&control->at, k, address, bytes, UINTPTR_MAX)) {
                 return TLSF_BAD_MEMORY;
             }
         }
@@ -58,12 +59,17 @@ static int take_pools(struct control *control, const struct saved *saved, const 
         return TLSF_BROKEN_ADDRESSES;
     }
     for (uint32_t k = 0; k < 2u * POOLS && lost == 0; k++) {
-        lost = lost_fronts(control, k % POOLS, saved->pools[k % POOLS].first, k >= POOLS);
+        lost = lost_fronts(control, k % POOLS, saved->pools[k % POOLS].first, k >= POOLS, out);
     }
     return lost == 0 ? 0 : TLSF_BROKEN_FRONTS;
 }
 
 int tlsf_load(void *mem, size_t bytes, const void *image, size_t length, const tlsf_memory *memory)
+{
+    return tlsf_load_at(mem, bytes, image, length, memory, NULL);
+}
+
+int tlsf_load_at(void *mem, size_t bytes, const void *image, size_t length, const tlsf_memory *memory, tlsf_fault *out)
 {
     struct control *control = (struct control *)mem;
     const unsigned char *table = (const unsigned char *)image;
@@ -84,7 +90,7 @@ int tlsf_load(void *mem, size_t bytes, const void *image, size_t length, const t
     int status = (int)tlsf_heap_load_in((void *)(uintptr_t)places.table, TLSF_HEAP_TABLE_BYTES(records),
                                    &table[sizeof saved], length - sizeof saved, &control->at.heap);
     tlsf_memory rest = {(void *)(uintptr_t)places.pool, (size_t)places.bytes};
-    status = status == 0 ? take_pools(control, &saved, &rest, memory) : status;
+    status = status == 0 ? take_pools(control, &saved, &rest, memory, out) : status;
     if (status != 0) {
         (void)memset(control, 0, sizeof *control);
         return status;

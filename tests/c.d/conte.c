@@ -572,7 +572,7 @@ static bool add_pool(struct heap *heap)
     while (k < POOLS && heap->pools[k].handle != NULL) {
         k++;
     }
-    bool right = skip % 8 == 0 && usable >= 16 && k < POOLS && !own && heap->count < heap->records;
+    bool right = skip % sizeof(void *) == 0 && usable >= 16 && k < POOLS && !own && heap->count < heap->records;
     pool_t handle = tlsf_add_pool(heap->tlsf, memory, bytes);
     if (!right) {
         pools_refused++;
@@ -618,7 +618,7 @@ static bool make(struct heap *heap, unsigned char *memory)
     size_t skip = 8 * below(3);
     memset(heap, 0, sizeof *heap);
     heap->records = 1 + below(MOST_RECORDS);
-    size_t bytes = tlsf_size() - 16 * (1024 - heap->records);
+    size_t bytes = tlsf_size_records((uint32_t)heap->records);
     heap->tlsf = tlsf_create_records(memory + skip, bytes, (uint32_t)heap->records);
     return heap->tlsf == (tlsf_t)(memory + skip) && tlsf_get_pool(heap->tlsf) == NULL;
 }

@@ -5,6 +5,7 @@
 #include <sys/mman.h>
 
 #include "cases.h"
+#include "handed_in.h"
 #include "tlsf.h"
 
 enum { RECORDS = 1024, RECORD = 16, GREATEST_POOL = 1073741808 };
@@ -15,7 +16,7 @@ static _Alignas(16) unsigned char memory[1 << 16], other_memory[1 << 16];
 /* The bytes of a heap with this number of records, at a multiple of 16. */
 static size_t control_bytes(size_t records)
 {
-    return tlsf_size() - RECORD * RECORDS + RECORD * records;
+    return tlsf_size() - MOST_SKIPPED - RECORD * RECORDS + RECORD * records;
 }
 
 struct counted {
@@ -82,8 +83,8 @@ static void creates(void)
     size_t least = control_bytes(1) + 24; /* eight fewer at a multiple of 16 */
     expect(tlsf_create(NULL) == NULL && tlsf_create_with_pool(NULL, 1 << 20) == NULL,
            "no memory, no heap");
-    expect(tlsf_create(memory + 4) == NULL && tlsf_create_with_pool(memory + 1, 1 << 15) == NULL,
-           "memory at no multiple of 8, no heap");
+    expect(tlsf_create(memory + 2) == NULL && tlsf_create_with_pool(memory + 1, 1 << 15) == NULL,
+           "memory where no pointer may begin, no heap");
     expect(tlsf_create_with_pool(memory, least - 8) != NULL
                && tlsf_create_with_pool(memory, least - 9) == NULL,
            "the least with a pool, at a multiple of 16");
@@ -99,7 +100,7 @@ static void creates(void)
     expect(tlsf != NULL && tlsf_get_pool(tlsf) == NULL
                && tlsf_create_records(memory, control_bytes(1) - 9, 1) == NULL,
            "one record, and no byte for a pool");
-    expect(tlsf_size_records(1) == control_bytes(1) && tlsf_size_records(RECORDS) == tlsf_size()
+    expect(tlsf_size_records(1) == control_bytes(1) && tlsf_size_records(RECORDS) == tlsf_size() - MOST_SKIPPED
                && tlsf_create_records(memory + 8, tlsf_size_records(1), 1) != NULL
                && tlsf_get_pool(memory + 8) == NULL,
            "tlsf_size_records: the bytes of a heap without a pool");
@@ -195,7 +196,7 @@ static void limits(void)
     }
     expect(fits && least,
            "tlsf_pool_overhead() more bytes are enough for a block, and eight less aren't");
-    expect(tlsf_pool_overhead() % 8 == 0, "a pool may begin so many bytes behind another address");
+    expect(tlsf_pool_overhead() % sizeof(void *) == 0, "a pool may begin so many bytes behind another address");
     tlsf_t tlsf = tlsf_create_with_pool(memory, sizeof memory);
     void *one = tlsf_malloc(tlsf, 1);
     expect(tlsf_block_size(one) == tlsf_block_size_min() && tlsf_block_size_min() == 8,
@@ -560,9 +561,9 @@ static void pools(void)
     expect(tlsf_add_pool(tlsf, memory + 64, 1000) == NULL
                && tlsf_add_pool(tlsf, memory + tlsf_size() - 32, 1000) == NULL,
            "that of the heap itself is refused");
-    expect(tlsf_add_pool(tlsf, area + 3004, 500) == NULL && tlsf_add_pool(tlsf, NULL, 500) == NULL
+    expect(tlsf_add_pool(tlsf, area + 3002, 500) == NULL && tlsf_add_pool(tlsf, NULL, 500) == NULL
                && tlsf_add_pool(tlsf, area + 3008, 23) == NULL,
-           "at no multiple of 8, none, or too small");
+           "where no pointer may begin, none, or too small");
     expect(tlsf_add_pool(tlsf, area + 3008, 24) != NULL && tlsf_check(tlsf) == 0, "the least pool");
     void *one = tlsf_malloc(tlsf, 500);
     size_t kept = 0;
@@ -1283,6 +1284,7 @@ static void in_large_memory(void)
 int main(void)
 {
     exact_memory();
+    handed_in();
     creates();
     records();
     capacities();

@@ -3,6 +3,7 @@
 #include <string.h>
 
 #include "cases.h"
+#include "handed_in.h"
 #include "tlsf.h"
 #include "tlsf_heap.h"
 
@@ -106,5 +107,6 @@ int main(void)
     room();
     in_little();
     by_pointer();
+    handed_in();
     return cases_end();
 }
