@@ -212,8 +212,6 @@ static void lost_pool(void)
     static unsigned char kept[sizeof memory];
     tlsf_fault fault;
     size_t table = tlsf_size_records(RECORDS) - start_bytes();
-    tlsf_remove_pool(heap, pools[2]);
-    make();
     heap = tlsf_create_records(memory, tlsf_size_records(RECORDS), RECORDS);
     pools[0] = tlsf_add_pool(heap, areas[0], POOL);
     memcpy(kept, memory + start_bytes(), table);

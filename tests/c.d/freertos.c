@@ -205,7 +205,8 @@ static void find_first(void)
     }
     parts[0].first = memory + (FIRST - 8) / UNIT * UNIT + 8 - parts[0].bytes;
     least = xPortGetFreeHeapSize();
-    expect(parts[0].bytes % UNIT == 0 && parts[0].first > memory && parts[0].bytes > FIRST / 8, "the first memory has a pool behind the table");
+    expect(parts[0].bytes % UNIT == 0 && parts[0].first > memory && parts[0].bytes > FIRST / 8,
+           "the first memory has a pool behind the table");
 }
 
 static void refusals(void)

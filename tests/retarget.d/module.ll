@@ -20,6 +20,9 @@ start:
   call void @llvm.memset.p0.i64(ptr %r1, i8 0, i64 16, i1 false)
   call void @llvm.memmove.p0.p0.i64(ptr %r1, ptr %r2, i64 %a1, i1 false)
   %r8 = call { i64, i64 } @rattle_alloc(i64 %a1, i64 8)
+  %r9 = load i32, ptr %r1, align 4
+  %r10 = call i32 @llvm.ctlz.i32(i32 %r9, i1 true)
+  %r11 = call i32 @llvm.ctlz.i32(i32 %r10, i1 false)
 ; INSIDE
   br i1 %r7, label %then.1, label %else.2
 
@@ -203,6 +206,7 @@ start:
 }
 
 declare { i64, i64 } @rattle_alloc(i64 noundef, i64 noundef) #1
+declare i32 @llvm.ctlz.i32(i32, i1 immarg) #1
 declare void @llvm.memset.p0.i64(ptr writeonly captures(none), i8, i64, i1 immarg) #2
 declare void @llvm.memmove.p0.p0.i64(ptr writeonly captures(none), ptr readonly captures(none), i64, i1 immarg) #2
 

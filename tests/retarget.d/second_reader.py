@@ -128,6 +128,9 @@ def same_line(was, now, undone):
     if was[2:] == ["alloca", "ptr", ",", "align", "8"] and now == [*was[:2], "alloca", "[", "8", "x", "i8", "]", ",", "align", "8"]:
         undone.count("room for a pointer")
         return True
+    if now[2:4] == ["call", "i32"] and now[4] == "@leading_zeros" and was[4] == "@llvm.ctlz.i32" and was[:4] == now[:4]:
+        undone.count("a count of leading zeros")
+        return was[5:8] == now[5:8] and now[8:] == [")"] and was[8:] in ([",", "i1", "true", ")"], [",", "i1", "false", ")"])
     return was == now
 
 
@@ -183,8 +186,8 @@ def parameters(head):
 class Run:
     """A function without branches, run on numbers: what it calls, what it stores, what it answers."""
 
-    def __init__(self, lines, values, answers):
-        self.values, self.answers, self.called, self.stored = dict(values), answers, None, {}
+    def __init__(self, lines, values, answers=None, table=()):
+        self.values, self.answers, self.called, self.stored, self.table = dict(values), answers, None, {}, table
         self.answer = None
         for line in lines:
             self.step(line)
@@ -195,7 +198,13 @@ class Run:
     def step(self, line):
         name, text = defined(line), " ".join(line[2:] if defined(line) else line)
         for pattern, does in ((r"extractvalue .* (\S+) , ([01])", lambda of, k: self.value(of)[int(k)]),
-                              (r"zext i32 (\S+) to i64", self.value),
+                              (r"zext (?:i1|i8|i32) (\S+) to (?:i32|i64)", self.value),
+                              (r"icmp ugt i32 (\S+) , (\d+)", lambda of, than: int(self.value(of) > int(than))),
+                              (r"lshr i32 (\S+) , (\S+)", lambda of, by: self.value(of) >> self.value(by)),
+                              (r"shl i32 (\S+) , (\d+)", lambda of, by: self.value(of) << int(by) & MOST),
+                              (r"sub i32 (\S+) , (\S+)", lambda a, b: self.value(a) - self.value(b) & MOST),
+                              (r"getelementptr i8 , ptr @\S+ , i32 (\S+)", self.value),
+                              (r"load i8 , ptr (\S+) , align 1", lambda at: self.table[self.value(at)]),
                               (r"trunc i64 (\S+) to i32", lambda of: self.value(of) & MOST),
                               (r"shl i64 (\S+) , (\d+)", lambda of, by: self.value(of) << int(by) & 2 ** 64 - 1),
                               (r"or i64 (\S+) , (\S+)", lambda a, b: self.value(a) | self.value(b)),
@@ -272,6 +281,20 @@ def run_memory(function, chance):
             raise Other(f"memory: {ran.called} for {bytes_} bytes, answered {ran.answer}, and not {answers}")
 
 
+def run_zeros(function, text, chance):
+    """The function that counts leading zeros does so, for words of each length, and for 0."""
+    told = re.search(r'^@leading_zeros_of_byte = private unnamed_addr constant \[256 x i8\] c"((?:\\[0-9A-F]{2}){256})", align 1$', text, re.M)
+    if not told:
+        raise Other("leading zeros: no table of 256 bytes")
+    table = bytes.fromhex(told[1].replace("\\", ""))
+    head, lines = function
+    (_, word), = parameters(head)
+    for number in [0, *(chance.randrange(2 ** bits, 2 ** (bits + 1)) for bits in range(32) for _ in range(ROUNDS))]:
+        answer = Run(lines, {word: number}, table=table).answer
+        if answer != 32 - number.bit_length():
+            raise Other(f"leading zeros of {number:#x}: {answer}")
+
+
 # ---- both modules
 
 def compare(before, after, headers):
@@ -291,6 +314,9 @@ def compare(before, after, headers):
                 if kind != c:
                     raise Other(f"{name} takes {kind}, and C passes {c}")
     run_memory(now.pop("rattle_alloc.wide"), chance)
+    if "leading_zeros" in now:
+        run_zeros(now.pop("leading_zeros"), after, chance)
+        after = re.sub(r"^@leading_zeros_of_byte = .*\n", "", after, flags=re.M)
     if now:
         raise Other(f"functions that x86-64 hasn't: {', '.join(now)}")
     constants = [re.findall(r"^@.*$", text, re.M) for text in (before, after)]
