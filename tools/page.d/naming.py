@@ -39,13 +39,14 @@ class Line:
 
 @dataclass(frozen=True)
 class Site:
-    """What is held by calls that are told alike: how, its bytes and blocks, the calls as text, and each call with whether it stands for
-    several of the standard library."""
+    """What is held by calls that are told alike: how, its bytes and blocks, the calls as text, each call with whether it stands for
+    several of the standard library, and the frames of one such stack."""
     kind: str
     bytes: int
     blocks: int
     told: tuple
     frames: tuple
+    stack: tuple
 
     def __str__(self):
         name = " < ".join(self.told)
@@ -89,7 +90,7 @@ class Sites:
 
     def in_order(self):
         """Each: most bytes, most blocks, no location, the text."""
-        sites = [Site(self.kind, number, blocks, tuple(calls), tuple(self.report.frames(line)))
+        sites = [Site(self.kind, number, blocks, tuple(calls), tuple(self.report.frames(line)), tuple(line.frames))
                  for told, entries in self.alike.items() for (number, blocks, line), calls in self.apart(told, entries)]
         return sorted(sites, key=lambda site: (-site.bytes, -site.blocks, " < ".join(site.told)))
 
