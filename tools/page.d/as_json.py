@@ -24,7 +24,8 @@ def frame(call, is_folded):
 
 def site(entry):
     """A site: how its memory is held, bytes, blocks, its text, and its calls."""
-    return {"kind": KINDS[entry.kind], "bytes": entry.bytes, "blocks": entry.blocks, "text": " < ".join(entry.told),
+    with_it = {"withIt": {"blocks": entry.led[0], "bytes": entry.led[1]}} if entry.led[0] else {}
+    return {"kind": KINDS[entry.kind], "bytes": entry.bytes, "blocks": entry.blocks, **with_it, "text": " < ".join(entry.told),
             "frames": [frame(*pair) for pair in entry.frames]}
 
 

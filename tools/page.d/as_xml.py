@@ -42,8 +42,10 @@ def put_error(root, number, count, process, entry):
     put(error, "tid", 1)
     put(error, "kind", kind)
     what = put(error, "xwhat")
-    put(what, "text", f"{entry.bytes:,} bytes in {entry.blocks:,} blocks are {told} in loss record {number + 1:,} of {count:,}")
-    put(what, "leakedbytes", entry.bytes)
+    led = entry.led[1]
+    sums = f"{entry.bytes + led:,} ({entry.bytes:,} direct, {led:,} indirect)" if led else f"{entry.bytes:,}"
+    put(what, "text", f"{sums} bytes in {entry.blocks:,} blocks are {told} in loss record {number + 1:,} of {count:,}")
+    put(what, "leakedbytes", entry.bytes + led)
     put(what, "leakedblocks", entry.blocks)
     stack = put(error, "stack")
     for frame in entry.stack:

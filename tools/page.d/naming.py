@@ -40,17 +40,19 @@ class Line:
 @dataclass(frozen=True)
 class Site:
     """What is held by calls that are told alike: how, its bytes and blocks, the calls as text, each call with whether it stands for
-    several of the standard library, and the frames of one such stack."""
+    several of the standard library, the frames of one such stack, and blocks and bytes that are lost with it, since only it leads there."""
     kind: str
     bytes: int
     blocks: int
     told: tuple
     frames: tuple
     stack: tuple
+    led: tuple = (0, 0)
 
     def __str__(self):
         name = " < ".join(self.told)
-        return f"{self.bytes} bytes in {self.blocks} blocks{' at ' if name else ''}{name}"
+        led = f"\n    with it {self.led[1]} bytes in {self.led[0]} blocks" if self.led[0] else ""
+        return f"{self.bytes} bytes in {self.blocks} blocks{' at ' if name else ''}{name}{led}"
 
 
 class LeftOut:
@@ -72,26 +74,26 @@ class Sites:
     """The sites of a part of a report. Those that are told alike are one, but for functions that have one name and other arguments: these
     are asked for by a line."""
 
-    def __init__(self, report, kind):
-        self.report, self.kind, self.alike = report, kind, {}
+    def __init__(self, report, kind, led):
+        self.report, self.kind, self.led, self.alike = report, kind, led, {}
 
     def add(self, line, number, blocks):
         """Adds bytes and blocks of a line."""
         self.alike.setdefault(tuple(self.report.told_of(line)), []).append((line, number, blocks))
 
     def apart(self, told, entries):
-        """The sites that are told alike: bytes, blocks, calls, and a line of each."""
-        sums = {}
+        """The sites that are told alike: bytes, blocks, what is lost with them, calls, and a line of each."""
+        sums, lines = {}, {}
         for line, number, blocks in entries:
             names = tuple(told if len(entries) == 1 else self.report.wholes(line))
-            before = sums.get(names, (0, 0, line))
-            sums[names] = before[0] + number, before[1] + blocks, before[2]
-        return zip(sums.values(), told_apart(told, list(sums)))
+            lines.setdefault(names, line)
+            sums[names] = added(sums.get(names, (0, 0, 0, 0)), (number, blocks, *self.led.get(line.location, (0, 0))))
+        return zip(sums.values(), told_apart(told, list(sums)), lines.values())
 
     def in_order(self):
         """Each: most bytes, most blocks, no location, the text."""
-        sites = [Site(self.kind, number, blocks, tuple(calls), tuple(self.report.frames(line)), tuple(line.frames))
-                 for told, entries in self.alike.items() for (number, blocks, line), calls in self.apart(told, entries)]
+        sites = [Site(self.kind, number, blocks, tuple(calls), tuple(self.report.frames(line)), tuple(line.frames), tuple(led))
+                 for told, entries in self.alike.items() for (number, blocks, *led), calls, line in self.apart(told, entries)]
         return sorted(sites, key=lambda site: (-site.bytes, -site.blocks, " < ".join(site.told)))
 
 
@@ -162,9 +164,10 @@ class Report:
                 part = [line]
         yield part
 
-    def part(self, kind, lines):
-        """What is told of the lines of a part: leaks as texts, its sites in order, and what is left out."""
-        sites, known = Sites(self, kind), LeftOut()
+    def part(self, kind, lines, led):
+        """What is told of the lines of a part: leaks as texts, its sites in order, and what is left out. By location these others are lost
+        with them."""
+        sites, known = Sites(self, kind, sums_of(led)), LeftOut()
         for line in lines:
             site = SITE.fullmatch(line.head) if self.has_stacks else None
             number = int((site or SITE.fullmatch(line.head) or LEAK.fullmatch(line.head))[1])
@@ -183,13 +186,13 @@ class Report:
         What lost blocks lead to is a part of its own."""
         for head, *lines in self.parts():
             led = [line for line in lines if line.leader]
-            sums = tuple(sum(int(SITE.fullmatch(line.head)[at]) for line in led) for at in (2, 1))
+            sums = added((0, 0), *sums_of(led).values())
             if head is not None:
                 yield without(head, sums, self) if led else self.named(head)
-            yield from self.part(kind_of(head.text) if head else HELD, [line for line in lines if not line.leader])
+            yield from self.part(kind_of(head.text) if head else HELD, [line for line in lines if not line.leader], led)
             if led:
                 yield f"{INDIRECTLY}: {sums[0]} blocks, {sums[1]} bytes."
-                yield from self.part(INDIRECT, led)
+                yield from self.part(INDIRECT, led, [])
 
     def report(self):
         """The lines with names."""
@@ -215,6 +218,20 @@ class Report:
         newer = [f"{module.path} is newer than {log}: its names may be others" for module in modules
                  if written and module.is_object and not module.is_same and os.stat(module.path).st_mtime_ns > written]
         return [*told_others(modules), *newer, *filter(None, [told_bare(modules)])]
+
+
+def added(*sums):
+    """Sums of numbers, each of its kind."""
+    return tuple(map(sum, zip(*sums)))
+
+
+def sums_of(led):
+    """Blocks and bytes of lines by the location of the first block that leads to them."""
+    sums = {}
+    for line in led:
+        found = SITE.fullmatch(line.head)
+        sums[line.leader] = added(sums.get(line.leader, (0, 0)), (int(found[2]), int(found[1])))
+    return sums
 
 
 def without(head, sums, report):
