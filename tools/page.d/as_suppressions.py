@@ -15,13 +15,14 @@ LOST_KINDS = "definite,indirect,possible"
 
 
 @cache
-def symbols(path):
-    return symbols_in(path)
+def symbols(files):
+    """The symbols of the files of a module, in order: one may be stripped."""
+    return sorted({symbol for file in files for symbol in symbols_in(file)})
 
 
 def linker_name(module, offset):
     """The linker's name of the function that a frame is in, or nothing."""
-    found = symbols(module.path) if module.is_object else []
+    found = symbols(tuple(module.files))
     address = module.base + offset - 1
     at = bisect_right(found, (address, float("inf"))) - 1
     return found[at][2] if at >= 0 and address - found[at][0] < found[at][1] else ""

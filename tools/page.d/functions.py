@@ -215,7 +215,7 @@ class Functions:
     def newer_than(self, written):
         """Those that were changed behind a time."""
         return sorted(told_text(module.path) for module in self.modules
-                      if module.is_object and not module.is_same and os.stat(module.path).st_mtime_ns > written)
+                      if module.is_object and not module.is_same and os.stat(module.file).st_mtime_ns > written)
 
     def of_others(self):
         """What is said of those that are other builds than the ones that ran."""

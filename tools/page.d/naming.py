@@ -107,8 +107,8 @@ class Report:
             self.lines.pop()
         self.asked, self.told, self.known = asked, {}, {}
         self.has_stacks = any(line.is_stack for line in self.lines)
-        self.names = Names({frame for line in self.lines for frame in [*line.frames, *line.led_by]}, known.build_ids)
-        self.suppressions = by_symbols(suppressions, [module.path for module in self.names.modules.values() if module.is_object])
+        self.names = Names({frame for line in self.lines for frame in [*line.frames, *line.led_by]}, known.build_ids, asked.places)
+        self.suppressions = by_symbols(suppressions, [module.file for module in self.names.modules.values() if module.is_object])
 
     def calls(self, line):
         """A location as it is told: its calls, innermost first."""
@@ -216,7 +216,7 @@ class Report:
         modules = self.names.modules.values()
         written = os.stat(log).st_mtime_ns if log else None
         newer = [f"{module.path} is newer than {log}: its names may be others" for module in modules
-                 if written and module.is_object and not module.is_same and os.stat(module.path).st_mtime_ns > written]
+                 if written and module.is_object and not module.is_same and os.stat(module.file).st_mtime_ns > written]
         return [*told_others(modules), *newer, *filter(None, [told_bare(modules)])]
 
 
