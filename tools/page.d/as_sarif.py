@@ -6,6 +6,7 @@ from pathlib import Path
 from urllib.parse import quote
 
 import as_json
+import baseline
 import naming
 from version import VERSION
 
@@ -43,11 +44,13 @@ def location(call):
     return {**place, "logicalLocations": [{"fullyQualifiedName": call.function}]} if call.function else place
 
 
-def result(process, entry):
-    """A site."""
+def result(run, process, entry):
+    """A site; with how it changed, where an older report is compared."""
     rule, told, level = RULES[entry.kind]
     own, text = own_call(entry), " < ".join(entry.told)
-    functions = "\0".join([os.path.basename(process.program), rule, *as_json.functions(as_json.site(entry))])
+    program, calls = baseline.key_of(process.program, as_json.site(entry))
+    functions = "\0".join([program, rule, *calls])
+    state = run.states.get((program, calls))
     return {
         "ruleId": rule, "ruleIndex": [*RULES].index(entry.kind), "level": level,
         "message": {"text": f"{entry.bytes} bytes in {entry.blocks} blocks: {told} {text}"},
@@ -55,6 +58,7 @@ def result(process, entry):
         "partialFingerprints": {"tlsfFunctions/v1": hashlib.sha256(os.fsencode(functions)).hexdigest()},
         "stacks": [{"message": {"text": "Calls, innermost first"},
                     "frames": [{"location": {**location(call), "message": {"text": name}}} for (call, _), name in zip(entry.frames, entry.told)]}],
+        **({"baselineState": state} if state else {}),
         "properties": {"bytes": entry.bytes, "blocks": entry.blocks, "process": process.number, "program": process.program},
     }
 
@@ -75,5 +79,5 @@ def text(run, processes):
     told = {"tool": {"driver": driver}, "originalUriBaseIds": {"SRCROOT": {"uri": Path.cwd().as_uri() + "/"}},
             "invocations": [{"executionSuccessful": not any(process.is_cut for process in processes),
                              "toolExecutionNotifications": notifications(run, processes)}],
-            "results": [result(process, entry) for process in processes for entry in process.sites]}
+            "results": [result(run, process, entry) for process in processes for entry in process.sites]}
     return (json.dumps({"$schema": SCHEMA, "version": "2.1.0", "runs": [told]}, indent=1) + "\n").encode()

@@ -21,38 +21,69 @@ class Sum:
             self.most, self.text = site["bytes"], site["text"]
 
 
+@dataclass(frozen=True)
+class Row:
+    """A site that one of two reports has: by what it is known, its text, and its sums in the old and in the new one."""
+    key: tuple
+    text: str
+    old: Sum
+    new: Sum
+
+    @property
+    def state(self):
+        """How it changed, in the words of SARIF."""
+        if self.grew:
+            return "updated" if self.old.blocks else "new"
+        return "unchanged" if self.is_same else "updated" if self.new.blocks else "absent"
+
+    @property
+    def grew(self):
+        """Whether it is new, or holds more bytes or blocks."""
+        return self.new.bytes > self.old.bytes or self.new.blocks > self.old.blocks
+
+    @property
+    def is_same(self):
+        return (self.new.bytes, self.new.blocks) == (self.old.bytes, self.old.blocks)
+
+
+def key_of(program, site):
+    """What a site of a process's report in JSON is known by: its program's name, and its functions."""
+    return os.path.basename(program), as_json.functions(site)
+
+
 def leaks_of(report):
     """The sums of a report by program and functions. What is still reachable is no leak, and of a log that was cut nothing is known."""
     sums = defaultdict(Sum)
     for process in report["processes"]:
         for site in process["sites"] if process["end"] != "cut" else []:
             if site["kind"] != as_json.NO_LEAK:
-                sums[os.path.basename(process["program"]), as_json.functions(site)].add(site)
+                sums[key_of(process["program"], site)].add(site)
     return sums
 
 
 def rows_of(old, new):
-    """Of each site that one of both has: its text, and bytes and blocks in the old and in the new report; those that grew most first."""
+    """The sites that one of two reports has; those that grew most first."""
     one, other = leaks_of(old), leaks_of(new)
-    rows = [((other.get(key) or one[key]).text, one.get(key, Sum()), other.get(key, Sum())) for key in {**one, **other}]
-    return sorted(rows, key=lambda row: (row[1].bytes - row[2].bytes, row[1].blocks - row[2].blocks, row[0]))
+    rows = [Row(key, (other.get(key) or one[key]).text, one.get(key, Sum()), other.get(key, Sum())) for key in {**one, **other}]
+    return sorted(rows, key=lambda row: (row.old.bytes - row.new.bytes, row.old.blocks - row.new.blocks, row.text))
 
 
 def grew(rows):
-    """Those that are new, or hold more bytes or blocks."""
-    return [row for row in rows if row[2].bytes > row[1].bytes or row[2].blocks > row[1].blocks]
+    """Those that are new, or hold more."""
+    return [row for row in rows if row.grew]
+
+
+def counted(count):
+    return f"{count} site{'' if count == 1 else 's'}"
 
 
 def told(rows, old):
     """A comparison as text: what is new or holds more, and how many sites hold less or are gone."""
     more = grew(rows)
-    less = [row for row in rows if row not in more and (row[2].bytes, row[2].blocks) != (row[1].bytes, row[1].blocks)]
-    if not more:
-        yield f"No site is new or holds more than in {old}."
-    else:
-        yield f"New or larger than in {old}: {len(more)} site{'s' if len(more) > 1 else ''}."
-    for text, before, after in more:
-        was = f"was {before.bytes} bytes in {before.blocks} blocks" if before.blocks else "new"
-        yield f"{after.bytes} bytes in {after.blocks} blocks, {was}, at {text}"
+    less = [row for row in rows if not row.grew and not row.is_same]
+    yield f"New or larger than in {old}: {counted(len(more))}." if more else f"No site is new or holds more than in {old}."
+    for row in more:
+        was = f"was {row.old.bytes} bytes in {row.old.blocks} blocks" if row.old.blocks else "new"
+        yield f"{row.new.bytes} bytes in {row.new.blocks} blocks, {was}, at {row.text}"
     if less:
-        yield f"{len(less)} site{'s' if len(less) > 1 else ''} less or smaller."
+        yield f"Less or gone: {counted(len(less))}."
