@@ -1,11 +1,11 @@
 """What tools/leaks tells for someone who reads it. It isn't proved."""
 import os
 
-from processes import KILLED
+from index import why_untraced
 from naming import LeftOut
+from processes import KILLED
 
 CUT = "the log is cut, and the process went on. What it freed later isn't known, so no leak is told."
-UNTRACED = "not traced, since it was started without LD_PRELOAD: its leaks can't be seen"
 NO_CALL = "no call was traced, so its leaks can't be seen"
 
 
@@ -42,7 +42,7 @@ def of_untraced(run, processes):
     """Those of which nothing is known. On standard error the tracer has said so."""
     if run.asked.report:
         yield from (f"{process.title}: {NO_CALL}" for process in processes if not process.is_traced)
-        yield from (f"{program}, process {number}: {UNTRACED}" for number, program in run.untraced_with(processes))
+        yield from (f"{program}, process {number}: {why_untraced(program)}" for number, program in run.untraced_with(processes))
 
 
 def text(run, processes):
