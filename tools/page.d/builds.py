@@ -39,8 +39,13 @@ def places_of(asked, build_id_of):
     return Places(asked.sysroot or "", by_build_id)
 
 
+def add_sysroot(words):
+    """Adds the option --sysroot."""
+    words.add_argument("--sysroot", metavar="DIR", help="look for programs and libraries below DIR, too, as the root of a container")
+
+
 def add_places(words):
-    """Adds the options."""
-    words.add_argument("--sysroot", metavar="DIR", help="look for programs and libraries below DIR, as the root of a container")
+    """Adds the options --sysroot and --names."""
+    add_sysroot(words)
     words.add_argument("--names", metavar="FILE", dest="names_of", action="append", default=[],
                        help="take names of FILE, an unstripped copy or debug information, by its build id; more than once")
