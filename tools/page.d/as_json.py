@@ -50,7 +50,7 @@ def document(run, processes):
     return {"format": FORMAT, "formatVersion": FORMAT_VERSION, "toolVersion": VERSION, "settings": settings(run.asked),
             "status": run.status, "processes": [process(one) for one in processes],
             "untraced": [{"process": number, "program": program} for number, program in run.untraced_with(processes)],
-            "notes": run.notes_of(processes)}
+            "notes": run.notes_of(processes), "comparison": run.comparison}
 
 
 def text(run, processes):

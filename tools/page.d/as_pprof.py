@@ -38,6 +38,7 @@ class Table:
         self.first, self.numbers = first, {}
 
     def number(self, key):
+        """The number of what is told by this key: the next, where it is new."""
         return self.numbers.setdefault(key, len(self.numbers) + self.first)
 
 

@@ -15,6 +15,7 @@ class Sum:
     most: int = -1
 
     def add(self, site):
+        """Adds a site of a report in JSON."""
         self.bytes += site["bytes"]
         self.blocks += site["blocks"]
         if site["bytes"] > self.most:
@@ -43,6 +44,7 @@ class Row:
 
     @property
     def is_same(self):
+        """Whether it holds as much."""
         return (self.new.bytes, self.new.blocks) == (self.old.bytes, self.old.blocks)
 
 
@@ -74,6 +76,7 @@ def grew(rows):
 
 
 def counted(count):
+    """A number of sites as text."""
     return f"{count} site{'' if count == 1 else 's'}"
 
 

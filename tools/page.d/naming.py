@@ -62,6 +62,7 @@ class LeftOut:
         self.sites, self.bytes = set(), 0
 
     def add(self, location, number):
+        """Adds a site by its location, and its bytes."""
         self.sites.add(location)
         self.bytes += number
 
