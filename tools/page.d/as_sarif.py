@@ -8,6 +8,7 @@ from urllib.parse import quote
 import as_json
 import baseline
 import naming
+from processes import AT_ONCE
 from version import VERSION
 
 SCHEMA = "https://json.schemastore.org/sarif-2.1.0.json"
@@ -64,9 +65,9 @@ def result(run, process, entry):
 
 
 def notifications(run, processes):
-    """What isn't known: logs that are cut, processes that were killed, and those that weren't traced."""
+    """What isn't known: logs that are cut, processes that ended at once, and those that weren't traced."""
     texts = [f"{process.title}: its log is cut" for process in processes if process.is_cut]
-    texts += [f"{process.title}" for process in processes if process.end == "killed"]
+    texts += [f"{process.title}" for process in processes if process.end == AT_ONCE]
     texts += [f"{program}, process {number}: not traced" for number, program in run.untraced_with(processes)]
     return [{"level": "warning", "message": {"text": text}} for text in [*texts, *run.notes_of(processes)]]
 

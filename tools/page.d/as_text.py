@@ -3,7 +3,7 @@ import os
 
 from index import why_untraced
 from naming import LeftOut
-from processes import KILLED
+from processes import AT_ONCE
 
 CUT = "the log is cut, and the process went on. What it freed later isn't known, so no leak is told."
 NO_CALL = "no call was traced, so its leaks can't be seen"
@@ -16,15 +16,15 @@ def of_process(process):
 
 
 def of_clean(process):
-    """That a process holds nothing, but for known sites, of which one line tells. What was killed has no end of its own."""
+    """That a process holds nothing, but for known sites, of which one line tells. What ended at once has no end of its own."""
     known = [str(entry) for entry in process.entries if isinstance(entry, LeftOut)]
-    return " ".join([f"{process.title}: {'It held no memory then.' if process.end == KILLED else 'No memory leaks.'}", *known])
+    return " ".join([f"{process.title}: {'It held no memory then.' if process.end == AT_ONCE else 'No memory leaks.'}", *known])
 
 
 def of_clean_ones(clean, has_others):
-    """The same of several processes, of which those that weren't killed are one line."""
-    yield from (of_clean(process) for process in clean if process.end == KILLED)
-    ended = [process for process in clean if process.end != KILLED]
+    """The same of several processes, of which those that have an end are one line."""
+    yield from (of_clean(process) for process in clean if process.end == AT_ONCE)
+    ended = [process for process in clean if process.end != AT_ONCE]
     if len(ended) == 1:
         yield of_clean(ended[0])
     elif ended:

@@ -13,9 +13,9 @@ NONE_HELD = AT_THE_END + b"0 blocks, 0 bytes."
 AT_THE_CUT = b"Held where the log is cut: "
 ASKED = re.compile(rb"^([0-9]+ bytes in [0-9]+) calls, [0-9]+ temporary", re.M)
 HEAD = re.compile(r"(.+): (\d+) blocks, (\d+) bytes\.", re.A)
-# How a process ended.
-WHOLE, KILLED, RUNNING, CUT = "whole", "killed", "running", "cut"
-IN_TITLE = {WHOLE: "", KILLED: ", which was killed", RUNNING: ", which still runs", CUT: ""}
+# How a process ended: at once by a signal or a system call, so that its log has no end.
+WHOLE, AT_ONCE, RUNNING, CUT = "whole", "at once", "running", "cut"
+IN_TITLE = {WHOLE: "", AT_ONCE: ", which ended at once, as by a signal", RUNNING: ", which still runs", CUT: ""}
 
 
 def has_calls(log):
@@ -27,7 +27,7 @@ def has_calls(log):
 def end_of(number, how):
     """How a process ended, by its log. A daemon is no child that anyone waits for."""
     if how == ends.ENDED:
-        return RUNNING if os.path.exists(f"/proc/{number}") else KILLED
+        return RUNNING if os.path.exists(f"/proc/{number}") else AT_ONCE
     return CUT if how == ends.LEFT else WHOLE
 
 
