@@ -1,11 +1,13 @@
-/* child.c: the calls that start a program. One whose variables don't preload the tracer is noted in the index, so
- * that nobody takes it for one without leaks.
+/* child.c: the calls that start a program. One whose variables don't preload the tracer, or that gets more rights, is
+ * noted in the index, so that nobody takes it for one without leaks.
  */
 #define _GNU_SOURCE
 #include "trace.h"
 
 #include <errno.h>
 #include <string.h>
+#include <sys/stat.h>
+#include <sys/xattr.h>
 #include <unistd.h>
 
 enum { PROGRAM_MOST = 1024 };
@@ -20,6 +22,25 @@ static bool has_tracer(char *const variables[])
         }
     }
     return false;
+}
+
+/* Whether a program gets other rights than its caller, by its file: then the dynamic linker preloads nothing. One that is
+ * looked for on the path isn't known. */
+static bool is_secure(const char *program)
+{
+    struct stat told;
+    char capabilities[64];
+    int code = errno;
+    /* A filter of system calls can end a process for a look at a file. */
+    if (strchr(program, '/') == NULL || !log_may_open() || stat(program, &told) != 0) {
+        errno = code;
+        return false;
+    }
+    bool is_other_user = (told.st_mode & S_ISUID) != 0 && told.st_uid != getuid();
+    bool is_other_group = (told.st_mode & S_ISGID) != 0 && (told.st_mode & S_IXGRP) != 0 && told.st_gid != getgid();
+    bool is_capable = getuid() != 0 && getxattr(program, "security.capability", capabilities, sizeof capabilities) > 0;
+    errno = code;
+    return is_other_user || is_other_group || is_capable;
 }
 
 /* An entry of the index: a process without a log, and its program, which is cut where it is long. */
@@ -38,7 +59,7 @@ static void note(pid_t process, const char *program)
 
 bool child_note(pid_t process, const char *program, char *const variables[])
 {
-    bool is_untraced = !has_tracer(variables) && program != NULL && program[0] != 0;
+    bool is_untraced = program != NULL && program[0] != 0 && (!has_tracer(variables) || is_secure(program));
     if (is_untraced) {
         note(process, program);
     }

@@ -331,10 +331,22 @@ enum kind kind_of(const struct module *module, uintptr_t address)
     return kind;
 }
 
-void module_begin(void)
+/* Where there is no /proc the program is told as it was started. */
+static void read_program(void)
 {
     ssize_t length = readlink("/proc/self/exe", program, sizeof program - 1);
     program[length < 0 ? 0 : length] = 0;
+    unsigned long started = getauxval(AT_EXECFN);
+    if (length < 0 && started != 0) {
+        const char *name;
+        memcpy(&name, &started, sizeof name);
+        strncat(program, name, sizeof program - 1);
+    }
+}
+
+void module_begin(void)
+{
+    read_program();
     modules[0].text = "?";
     modules[0].length = 1;
 }

@@ -163,12 +163,12 @@ def plain_site(location):
 
 
 class Functions:
-    """The sites of a log, each with its function. Names are asked of binutils, where they are wanted."""
+    """The sites of a log, each with its function. Names are asked of binutils, of files in these places, where they are wanted."""
 
-    def __init__(self, stacks, locations, named):
+    def __init__(self, stacks, locations, places):
         self.stacks = stacks
         self.lists = {location: stacks.lists.get(text) or list_of(frames_of(text)) for location in locations if (text := text_of(location))}
-        self.names = Names({frame for stack in self.lists.values() for frame in frames_in(stack)}, stacks.build_ids) if named else None
+        self.names = Names({frame for stack in self.lists.values() for frame in frames_in(stack)}, stacks.build_ids, places) if places else None
         own = cache(lambda frame: [call for call in self.names.calls(frame) if not call.is_standard])
         self.calls = {location: Calls(self.names, own, stack) for location, stack in self.lists.items() if self.is_named(stack)}
         self.function_of = cache(function_of)
@@ -215,7 +215,7 @@ class Functions:
     def newer_than(self, written):
         """Those that were changed behind a time."""
         return sorted(told_text(module.path) for module in self.modules
-                      if module.is_object and not module.is_same and os.stat(module.path).st_mtime_ns > written)
+                      if module.is_object and not module.is_same and os.stat(module.file).st_mtime_ns > written)
 
     def of_others(self):
         """What is said of those that are other builds than the ones that ran."""

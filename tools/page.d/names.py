@@ -11,6 +11,7 @@ from concurrent.futures import ThreadPoolExecutor
 from dataclasses import dataclass
 from functools import cached_property
 
+from builds import Places
 from stacks import path_of
 
 # Libraries whose frames are of the standard library, whatever they are called.
@@ -159,13 +160,12 @@ def lines_of(path, addresses, reader="addr2line"):
     return found
 
 
-def debug_file_of(path):
-    """The file of debug information that debuginfod's client has for a program or library, by its build id; or nothing. The client is
-    asked only where a server is named, as it is itself."""
-    if not os.environ.get("DEBUGINFOD_URLS") or not shutil.which("debuginfod-find"):
+def debug_file_of(build_id):
+    """The file of debug information that debuginfod's client has for a build id; or nothing. The client is asked only where a server is
+    named, as it is itself."""
+    if not build_id or not os.environ.get("DEBUGINFOD_URLS") or not shutil.which("debuginfod-find"):
         return None
-    build_id = build_id_of(path)
-    found = output_of(["debuginfod-find", "debuginfo", build_id]).strip() if build_id else ""
+    found = output_of(["debuginfod-find", "debuginfo", build_id]).strip()
     return found if os.path.isfile(found) else None
 
 
@@ -233,44 +233,68 @@ def starts_of(path):
 
 
 class Module:
-    """A program or library of a log: the calls of its frames, whether it can be read, and whether a line is known of one. Where the log
-    has another build id than the file there are no names: they would be of another build."""
+    """A program or library of a log: the calls of its frames, whether a file of it can be read, and whether a line is known of one. Where
+    the log has another build id than each file there are no names: they would be of another build."""
 
-    def __init__(self, name, offsets, build_id=""):
+    def __init__(self, name, offsets, build_id="", places=Places()):
         # A name may stand as it is, or with its odd bytes told.
-        self.path = name if os.path.isfile(name) else path_of(name).decode("utf-8", "surrogateescape")
-        base = base_of(self.path) if os.path.isfile(self.path) else None
-        now = build_id_of(self.path) if build_id and base is not None else ""
-        self.is_same, self.is_other = bool(now) and now == build_id, base is not None and now != build_id
-        base = None if self.is_other else base
-        self.is_object = base is not None
-        addresses = {} if base is None else {offset: base + offset - 1 for offset in offsets}
+        self.path = name if os.path.isfile(places.below(name)) else path_of(name).decode("utf-8", "surrogateescape")
+        self.build_id = build_id
+        self.files = self.same_files(places)
+        self.file = self.files[0] if self.files else self.path
+        self.is_object = bool(self.files)
+        self.base = base_of(self.file) if self.is_object else None
+        addresses = {offset: self.base + offset - 1 for offset in offsets} if self.is_object else {}
         lines = self.lines_at(addresses.values()) if addresses else {}
         self.has_lines = bool(lines)
         missing = [address for address in addresses.values() if address not in lines]
-        symbols = symbols_of(self.path, missing) if missing else {}
-        self.starts = starts_of(self.path) if len(symbols) < len(missing) else []
-        self.base, self.calls = base or 0, {}
+        symbols = self.symbols_at(missing) if missing else {}
+        self.starts = starts_of(self.file) if len(symbols) < len(missing) else []
+        self.base, self.calls = self.base or 0, {}
         for offset in offsets:
             address = addresses.get(offset)
             self.calls[offset] = [Call(*call, self.path, 0, whole=whole) for *call, whole in lines.get(address, [])] or [self.by_symbol(offset, address, symbols)]
+
+    def same_files(self, places):
+        """The files that are this build, or may be it where the log doesn't tell: the likely first."""
+        here = [file for file in places.candidates(self.path, self.build_id) if base_of(file) is not None]
+        same = [file for file in here if build_id_of(file) == self.build_id] if self.build_id else here[:1]
+        if self.build_id and not same and (fetched := debug_file_of(self.build_id)):
+            same = [fetched]
+        self.is_same, self.is_other = bool(self.build_id and same), bool(here and not same)
+        self.is_elsewhere = bool(self.build_id and not here and not same and self.path.startswith("/"))
+        return same
 
     @property
     def lacks_lines(self):
         """Whether it is one of the program's, and has no debug information."""
         return (self.is_object and not self.has_lines and not STANDARD_MODULE.match(os.path.basename(self.path))
-                and not has_line_table(self.path))
+                and not any(map(has_line_table, self.files)))
 
     def lines_at(self, addresses):
-        """The calls at addresses whose lines are known: by the file, by debug information that is installed for it, or by debuginfod."""
-        has_table = has_line_table(self.path)
-        # To be asked of each address takes long where no line can be found.
-        lines = lines_of(self.path, addresses) if has_table or has_debug_file(self.path) else {}
-        # Binutils can't read what `-gsplit-dwarf` has put into files of its own.
-        if has_table and not lines and shutil.which(LLVM):
-            lines = lines_of(self.path, addresses, LLVM)
-        debug_file = None if lines or has_table else debug_file_of(self.path)
-        return lines_of(debug_file, addresses) if debug_file else lines
+        """The calls at addresses whose lines are known: by a file, by debug information that is installed for it, or by debuginfod."""
+        has_table = False
+        for file in self.files:
+            is_table = has_line_table(file)
+            # To be asked of each address takes long where no line can be found.
+            lines = lines_of(file, addresses) if is_table or has_debug_file(file) else {}
+            # Binutils can't read what `-gsplit-dwarf` has put into files of its own.
+            if is_table and not lines and shutil.which(LLVM):
+                lines = lines_of(file, addresses, LLVM)
+            if lines:
+                return lines
+            has_table |= is_table
+        debug_file = None if has_table else debug_file_of(self.build_id or build_id_of(self.file))
+        return lines_of(debug_file, addresses) if debug_file else {}
+
+    def symbols_at(self, addresses):
+        """The symbols at addresses, of the first file that has them."""
+        found = {}
+        for file in self.files:
+            found = {**symbols_of(file, [address for address in addresses if address not in found]), **found}
+            if len(found) == len(addresses):
+                break
+        return found
 
     def by_symbol(self, offset, address, symbols):
         """The call at an address that has no line."""
@@ -283,12 +307,12 @@ class Module:
 class Names:
     """The calls of all frames. Each module is asked once. Build ids are those that a log tells of its modules."""
 
-    def __init__(self, frames, build_ids=None):
+    def __init__(self, frames, build_ids=None, places=Places()):
         offsets = defaultdict(set)
         for frame in frames:
             offsets[frame.module].add(frame.offset)
         with ThreadPoolExecutor(4) as pool:
-            self.modules = dict(zip(offsets, pool.map(lambda name: Module(name, sorted(offsets[name]), (build_ids or {}).get(name, "")), offsets)))
+            self.modules = dict(zip(offsets, pool.map(lambda name: Module(name, sorted(offsets[name]), (build_ids or {}).get(name, ""), places), offsets)))
 
     def calls(self, frame):
         """The calls of a frame, innermost first: at least one."""
@@ -296,8 +320,10 @@ class Names:
 
 
 def told_others(modules):
-    """What is said of each file that is another build than the one that ran."""
-    return [f"{module.path} is another build than the one that ran: its names aren't told" for module in modules if module.is_other]
+    """What is said of each file that is another build than the one that ran, and of those that aren't here."""
+    others = [f"{module.path} is another build than the one that ran: its names aren't told" for module in modules if module.is_other]
+    return others + [f"{module.path} isn't here: --sysroot can name its root, or --names a file of this build" for module in modules
+                     if module.is_elsewhere]
 
 
 def told_bare(modules):

@@ -29,6 +29,53 @@ class Refused(Exception):
     """Why a process can't be traced, or told to stop."""
 
 
+class Root:
+    """The root folder of a process: this one's, or another, as in a container. A PermissionError tells that it may not be looked into."""
+
+    def __init__(self, process):
+        self.process, self.path = process, os.readlink(f"/proc/{process}/root")
+        is_same = os.stat(f"/proc/{process}/ns/mnt").st_ino == os.stat("/proc/self/ns/mnt").st_ino
+        self.is_other = not is_same or self.path != os.readlink("/proc/self/root")
+        # Held open, so that its files are there when the process has ended.
+        self.folder = os.open(f"/proc/{process}/root", os.O_PATH | os.O_DIRECTORY) if self.is_other else None
+        self.room = f"/tmp/tlsf-trace-{process}"
+
+    def inside(self, path):
+        """A path of the kernel's list, as the process has it."""
+        is_below = self.is_other and self.path != "/" and path.startswith(self.path + "/")
+        return path[len(self.path):] if is_below else path
+
+    def outside(self, path):
+        """A path that the process has, as this one has it."""
+        return f"/proc/{os.getpid()}/fd/{self.folder}{path}" if self.is_other else path
+
+    def put(self, library):
+        """Puts the tracer where the process can load it, in a folder of its user: its path there. An OSError tells why it can't be."""
+        if not self.is_other:
+            return library
+        room, copy = self.outside(self.room), f"{self.room}/{os.path.basename(library)}"
+        told = os.stat(f"/proc/{self.process}")
+        if not os.path.isdir(room):
+            os.mkdir(room, 0o700)
+            os.chown(room, told.st_uid, told.st_gid)
+        if not os.path.exists(self.outside(copy)):
+            shutil.copyfile(library, self.outside(copy))
+            os.chmod(self.outside(copy), 0o755)
+        return copy
+
+    def log_for(self, wanted):
+        """The path of the log for the process, which is to be this one here in the end."""
+        return f"{self.room}/{os.path.basename(wanted)}" if self.is_other else wanted
+
+    def bring(self, wanted):
+        """Moves the log, what is beside it, and those of children to where they are wanted."""
+        room, name = self.outside(self.room), os.path.basename(wanted)
+        for file in os.listdir(room) if self.is_other else []:
+            if file.startswith(name):
+                shutil.copyfile(f"{room}/{file}", wanted + file[len(name):])
+                os.remove(f"{room}/{file}")
+
+
 class Mapped:
     """A file that a process has mapped: its path, where it begins, and the ranges of its code."""
 
@@ -40,6 +87,14 @@ class Mapped:
             self.base = start
         if "x" in rights:
             self.code.append((start, end))
+
+
+def other_root(process):
+    """The root folder of a process that has another than this one, or nothing, as where it may not be looked into."""
+    try:
+        return f"/proc/{process}/root" if Root(process).is_other else ""
+    except OSError:
+        return ""
 
 
 def mapped_files(process):
@@ -80,8 +135,7 @@ def check(process):
     if debugger not in ("", "0"):
         raise Refused(f"process {process} is under a debugger, process {debugger}")
     try:
-        if os.stat(f"/proc/{process}/ns/mnt").st_ino != os.stat("/proc/self/ns/mnt").st_ino:
-            raise Refused(f"process {process} has other files than this one, as in a container: run this there")
+        os.stat(f"/proc/{process}/ns/mnt")
     except PermissionError:
         raise Refused(f"process {process} may not be looked into: ptrace isn't permitted, for it has more rights or gave up some") from None
     if status_of(process, "Seccomp") not in ("", "0") and filter_of(process) != filter_of("self"):
@@ -103,35 +157,36 @@ def find_file(process, files, name):
     return None
 
 
-def addresses(file, names):
+def addresses(root, file, names):
     """Where functions of a mapped file are, by its symbols."""
-    told = subprocess.run(["nm", "-D", "--defined-only", file.path], stdout=subprocess.PIPE, stderr=subprocess.DEVNULL, check=False).stdout.decode()
+    told = subprocess.run(["nm", "-D", "--defined-only", root.outside(root.inside(file.path))], stdout=subprocess.PIPE, stderr=subprocess.DEVNULL, check=False).stdout.decode()
     found = {}
     for value, name in re.findall(r"^([0-9a-f]+) [TtWwi] ([^@\s]+)(?:@@?\S*)?$", told, re.M):
         found.setdefault(name, file.base + int(value, 16))
     return {name: found[name] for name in names if name in found}
 
 
-def orders(process, tracer, order):
+def orders(root, tracer, order):
     """What gdb is told: addresses, code that isn't to be interrupted, and the call."""
+    process = root.process
     files = mapped_files(process)
     library = find_file(process, files, r"libc(?:-2\.\d+\.so|\.so\.6)")
     loaded = find_file(process, files, r"libtlsf_trace\.so")
     linker = find_file(process, files, r"ld-(?:linux|2)[-.\w]*\.so(?:\.\d+)?")
     if library is None or linker is None:
         raise Refused(f"process {process} has no C library of glibc: it is linked statically, or to another")
-    functions = addresses(library, (*CALLS, *FUNCTIONS))
+    functions = addresses(root, library, (*CALLS, *FUNCTIONS))
     if len(functions) < len(CALLS) + len(FUNCTIONS):
         raise Refused(f"process {process} has a C library older than glibc 2.34")
     if loaded is None and order == "tlsf_trace_end":
         raise Refused(f"process {process} isn't traced")
-    calls = addresses(loaded, CALLS) if order == "tlsf_trace_end" else functions
+    calls = addresses(root, loaded, CALLS) if order == "tlsf_trace_end" else functions
     machine = os.uname().machine
     futex, waits = WAITS[machine]
     return {
         "process": process, "program": f"/proc/{process}/exe", "machine": machine, "futex": futex, "waits": waits, "functions": functions, "calls": [calls[name] for name in CALLS],
         "library": library.code, "busy": linker.code + (loaded.code if loaded else []), "order": order,
-        "tracer": loaded.path if loaded else tracer, "mode": NOW | (NO_LOAD if loaded else NOT_AGAIN),
+        "tracer": root.inside(loaded.path) if loaded else root.put(tracer), "mode": NOW | (NO_LOAD if loaded else NOT_AGAIN),
     }
 
 
@@ -164,10 +219,11 @@ def why_not(process, said):
     return f"gdb may not attach to process {process}: /proc/sys/kernel/yama/ptrace_scope is {scope}, so only root may"
 
 
-def give(process, tracer, order, log="", frames=0, reachable=False):
-    """Gives the tracer in a process an order. Returns its log."""
+def give(root, tracer, order, log="", frames=0, reachable=False):
+    """Gives the tracer in a process with this root an order. Returns its log, by the path that the process has."""
+    process = root.process
     check(process)
-    told = {**orders(process, tracer, order), "log": log, "frames": frames, "reachable": int(reachable)}
+    told = {**orders(root, tracer, order), "log": log, "frames": frames, "reachable": int(reachable)}
     # In memory, since the disk may be full.
     answer = os.memfd_create("tlsf-trace")
     try:

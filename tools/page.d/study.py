@@ -22,9 +22,9 @@ MOST_DIAGNOSTICS = 500
 
 
 class Study:
-    """One log. Its sums are those of the reports without a heap; a heap is told beside them."""
+    """One log. Its sums are those of the reports without a heap; a heap is told beside them. Names are of files in places, if any."""
 
-    def __init__(self, program, named, log, heap, count, progress):
+    def __init__(self, program, places, log, heap, count, progress):
         # A name that begins with a dash is no option, nor standard input.
         self.path = os.path.join(".", log) if log.startswith("-") else log
         self.name, self.heap = shown(os.fsencode(os.path.basename(log))), reports.heap_words(heap)
@@ -33,7 +33,7 @@ class Study:
         self.walk_at_peak = self.walk_at_end = self.first_refused = self.step = None
         before = self.state()
         try:
-            self.read(count, named)
+            self.read(count, places)
             self.agree()
         except Differs as told:
             give_up(str(told) if self.state() == before else f"{log} changed while it was read: copy it first")
@@ -54,7 +54,7 @@ class Study:
         self.running.append(Report(self.program, [*words, "-" if given else self.path], given))
         return self.running[-1]
 
-    def read(self, count, named):
+    def read(self, count, places):
         """Runs the reports, and reads the log beside them."""
         self.progress.tell("the peak is looked for")
         sums, sites = self.report("peak", "--no-heap"), self.report("sites", "--calls")
@@ -70,7 +70,7 @@ class Study:
         points = points_of(self.lines, self.peak, count)
         workers = ThreadPoolExecutor(2)
         heap = workers.submit(self.look_at_heap, on_heap, timeline, points)
-        names = workers.submit(self.look_for_names, sites, named)
+        names = workers.submit(self.look_for_names, sites, places)
         try:
             self.locations, self.changes, self.powers, requests = read_log(self.path, points, self.counted(text, end), self.progress)
         except (IndexError, KeyError, ValueError) as error:
@@ -93,10 +93,10 @@ class Study:
                 self.first_diagnostics.append((line, said))
             yield line, kind, said
 
-    def look_for_names(self, sites, named):
+    def look_for_names(self, sites, places):
         """The report of sites, and the functions of all that it names."""
         self.at_peak, self.at_end, self.by_calls = reports.read_sites(sites.text())
-        self.functions = Functions(stacks_of(self.path), list(self.by_calls), named)
+        self.functions = Functions(stacks_of(self.path), list(self.by_calls), places)
 
     @property
     def fits(self):

@@ -91,8 +91,16 @@ def first_calls(lines):
     return FirstCalls(tuple(frame_of(line) for line in frames), kinds)
 
 
-def read_suppressions(text):
-    """The suppressions of a file, of either form."""
+def read_suppressions(text, name):
+    """The suppressions of a file, of either form. Malformed tells the file's name and the line."""
+    try:
+        return suppressions_in(text)
+    except Malformed as line:
+        raise Malformed(f"{name}: no suppression: {line}") from None
+
+
+def suppressions_in(text):
+    """The suppressions of a text, of either form."""
     found, block = [], None
     for line in (line.strip() for line in text.splitlines()):
         if not line or line.startswith("#"):

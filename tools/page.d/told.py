@@ -22,9 +22,13 @@ def without_start(calls):
     return calls[:own[-1] + 1] if own else calls
 
 
-def folded(calls, whole=False):
-    """Calls of the standard library as one: that which the program called."""
-    named = next((call for call in reversed(calls) if call.function), calls[-1])
+def named_of(calls):
+    """The call that stands for calls of the standard library: that which the program called."""
+    return next((call for call in reversed(calls) if call.function), calls[-1])
+
+
+def folded(named, whole=False):
+    """Calls of the standard library as one, by the call that stands for them."""
     of_cxx, plain = IN_STD
     space = "std::" if of_cxx.match(named.file) and plain.fullmatch(named.function) else ""
     return f"{space}{whole and named.whole or named.function or named.briefly} .."
@@ -43,15 +47,20 @@ def one_call(call, paths, whole):
     return call.told(paths, whole) if paths or whole else call.briefly
 
 
-def told_calls(calls, all_frames=False, paths=False, whole=False):
-    """A stack's calls as they are told, innermost first; or with the whole name of each function."""
+def told_frames(calls, all_frames=False):
+    """The calls of a stack that are told, innermost first, each with whether it stands for several of the standard library."""
     if all_frames or all(call.is_standard for call in calls):
-        return [one_call(call, paths, whole) for call in calls]
+        return [(call, False) for call in calls]
     told = []
     for is_standard, group in groupby(without_start(without_new(calls)), lambda call: call.is_standard):
         run = list(group)
-        told += [folded(run, whole)] if is_standard and len(run) > 1 else [one_call(call, paths, whole) for call in run]
+        told += [(named_of(run), True)] if is_standard and len(run) > 1 else [(call, False) for call in run]
     return told
+
+
+def told_calls(calls, all_frames=False, paths=False, whole=False):
+    """A stack's calls as they are told, innermost first; or with the whole name of each function."""
+    return [folded(call, whole) if is_folded else one_call(call, paths, whole) for call, is_folded in told_frames(calls, all_frames)]
 
 
 def told_apart(told, wholes):
