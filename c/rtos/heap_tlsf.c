@@ -3,8 +3,9 @@
  * It is compiled with the kernel, and linked with libtlsf.a. Its calls are those of the kernel's manual, and
  * each tells its own bounds of time below. FreeRTOSConfig.h may tell
  *
- * - configTOTAL_HEAP_SIZE: the bytes of the array ucHeap. The first call makes the heap there. Where it is 0 or
- *   isn't told there is no array: vPortDefineHeapRegions comes before any other call.
+ * - configTOTAL_HEAP_SIZE: the bytes of the array ucHeap. The first call makes the heap there.
+ * - configTLSF_REGIONS: 1 where there is no array, as where its bytes aren't told. Then vPortDefineHeapRegions comes
+ *   before any other call.
  * - configAPPLICATION_ALLOCATED_HEAP: 1 where the program has the array ucHeap itself.
  * - configTLSF_RECORDS: how many records the heap has, from 1 to 65,535. Each block, live or free, takes one, of
  *   16 bytes. By default there is one for each 80 bytes.
@@ -40,7 +41,8 @@
 
 enum { POOLS = 8, MOST_RECORDS = 65535, BYTES_A_RECORD = 80 };
 
-#if defined(configTOTAL_HEAP_SIZE) && configTOTAL_HEAP_SIZE
+/* The bytes may be an expression with a cast, which #if doesn't take. */
+#if defined(configTOTAL_HEAP_SIZE) && !(defined(configTLSF_REGIONS) && configTLSF_REGIONS == 1)
 #define HAS_ARRAY 1
 #if defined(configAPPLICATION_ALLOCATED_HEAP) && configAPPLICATION_ALLOCATED_HEAP == 1
 extern uint8_t ucHeap[configTOTAL_HEAP_SIZE];

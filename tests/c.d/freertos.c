@@ -1,5 +1,5 @@
 /* c/rtos/heap_tlsf.c by the calls of FreeRTOS's manual, beside a list of what is live: the free blocks and all figures are
- * reckoned by that list. tests/c.d/rtos has the kernel's names. Built with REGIONS the heap has three regions, else ucHeap. */
+ * reckoned by that list. tests/c.d/rtos has the kernel's names. With configTLSF_REGIONS the heap has three regions, else ucHeap. */
 #include <stdlib.h>
 #include <string.h>
 
@@ -11,7 +11,7 @@
 
 enum { BLOCKS = 60, STEPS = 20000, MOST = 400, FRONT = 8, UNIT = 16 };
 
-#ifdef REGIONS
+#ifdef configTLSF_REGIONS
 enum { PARTS = 3, FIRST = 6000 };
 static _Alignas(16) uint8_t memory[24000];
 #else
@@ -180,7 +180,7 @@ static bool runs(void)
     return good && agrees();
 }
 
-#ifdef REGIONS
+#ifdef configTLSF_REGIONS
 static void define(void)
 {
     const HeapRegion_t regions[] = {{memory, FIRST}, {memory + 8008, 3000}, {memory + 16008, 4001}, {NULL, 0}};
@@ -240,7 +240,7 @@ int main(void)
     HeapStats_t stats;
     vPortGetHeapStats(&stats);
     expect(xPortGetFreeHeapSize() == 0 && stats.xNumberOfFreeBlocks == 0, "before there is a heap all figures are 0");
-#ifdef REGIONS
+#ifdef configTLSF_REGIONS
     define();
 #else
     vPortInitialiseBlocks();
