@@ -1,16 +1,20 @@
-/* child.c: the calls that start a program. One whose variables don't preload the tracer, or that gets more rights, is
- * noted in the index, so that nobody takes it for one without leaks.
+/* child.c: the calls that start a program. One whose variables don't preload the tracer, that gets more rights, or that is
+ * static, is noted in the index, so that nobody takes it for one without leaks.
  */
 #define _GNU_SOURCE
 #include "trace.h"
 
 #include <errno.h>
+#include <fcntl.h>
+#include <link.h>
 #include <string.h>
 #include <sys/stat.h>
+#include <sys/syscall.h>
 #include <sys/xattr.h>
 #include <unistd.h>
 
-enum { PROGRAM_MOST = 1024 };
+/* The most bytes of a program's path that are noted, and of its file in which its headers are looked for. */
+enum { PROGRAM_MOST = 1024, HEAD_MOST = 2048 };
 
 /* Whether variables preload this library. */
 static bool has_tracer(char *const variables[])
@@ -24,23 +28,58 @@ static bool has_tracer(char *const variables[])
     return false;
 }
 
-/* Whether a program gets other rights than its caller, by its file: then the dynamic linker preloads nothing. One that is
- * looked for on the path isn't known. */
+/* Whether a program gets other rights than its caller, by its file: then the dynamic linker preloads nothing. */
 static bool is_secure(const char *program)
 {
     struct stat told;
     char capabilities[64];
-    int code = errno;
-    /* A filter of system calls can end a process for a look at a file. */
-    if (strchr(program, '/') == NULL || !log_may_open() || stat(program, &told) != 0) {
-        errno = code;
+    if (stat(program, &told) != 0) {
         return false;
     }
     bool is_other_user = (told.st_mode & S_ISUID) != 0 && told.st_uid != getuid();
     bool is_other_group = (told.st_mode & S_ISGID) != 0 && (told.st_mode & S_IXGRP) != 0 && told.st_gid != getgid();
     bool is_capable = getuid() != 0 && getxattr(program, "security.capability", capabilities, sizeof capabilities) > 0;
-    errno = code;
     return is_other_user || is_other_group || is_capable;
+}
+
+/* Whether the first bytes of a file are those of a program that names no dynamic linker. */
+static bool has_no_linker(const char *head, size_t length)
+{
+    ElfW(Ehdr) program;
+    ElfW(Phdr) part = {0};
+    if (length < sizeof program || memcmp(head, ELFMAG, SELFMAG) != 0 || head[EI_CLASS] != ELFCLASS64) {
+        return false;
+    }
+    memcpy(&program, head, sizeof program);
+    for (size_t k = 0; k < program.e_phnum && part.p_type != PT_INTERP; k++) {
+        size_t at = program.e_phoff + k * sizeof part;
+        if (at > length - sizeof part) {
+            return false;
+        }
+        memcpy(&part, head + at, sizeof part);
+    }
+    return part.p_type != PT_INTERP;
+}
+
+static bool is_static(const char *program)
+{
+    char head[HEAD_MOST];
+    int file = (int)syscall(SYS_openat, AT_FDCWD, program, O_RDONLY | O_CLOEXEC);
+    long length = file < 0 ? 0 : syscall(SYS_read, file, head, sizeof head);
+    if (file >= 0) {
+        syscall(SYS_close, file);
+    }
+    return length > 0 && has_no_linker(head, (size_t)length);
+}
+
+/* Whether nothing is preloaded into a program, by its file. One that is looked for on the path isn't known. A filter of system
+ * calls can end a process for a look at a file. */
+static bool is_preloaded_nothing(const char *program)
+{
+    int code = errno;
+    bool is_so = strchr(program, '/') != NULL && log_may_open() && (is_secure(program) || is_static(program));
+    errno = code;
+    return is_so;
 }
 
 /* An entry of the index: a process without a log, and its program, which is cut where it is long. */
@@ -59,7 +98,7 @@ static void note(pid_t process, const char *program)
 
 bool child_note(pid_t process, const char *program, char *const variables[])
 {
-    bool is_untraced = program != NULL && program[0] != 0 && (!has_tracer(variables) || is_secure(program));
+    bool is_untraced = program != NULL && program[0] != 0 && (!has_tracer(variables) || is_preloaded_nothing(program));
     if (is_untraced) {
         note(process, program);
     }

@@ -2,13 +2,15 @@
 of tests/trace.d/reports.
 
     reports.py json FILE         reports.py sarif FILE
-    reports.py xml FILE [OTHER]  reports.py pprof TEXT
+    reports.py xml FILE [OTHER]  reports.py pprof FILE
 
-XML is compared with another file, which valgrind wrote: no element is there that it doesn't have. TEXT is a profile that protoc decoded."""
+XML is compared with another file, which valgrind wrote: no element is there that it doesn't have."""
+import gzip
 import json
 import os
 import re
 import sys
+from collections import defaultdict
 from xml.etree import ElementTree
 
 
@@ -91,30 +93,61 @@ def of_xml(name, other=None):
         yield f"{error.findtext('kind')} " + line_of(error.findtext("xwhat/leakedbytes"), error.findtext("xwhat/leakedblocks"), calls)
 
 
-def messages(text, name):
-    """The fields of each message of this name at the top, as protoc writes them."""
-    for body in re.findall(rf"^{name} {{\n(.*?)^}}", text, re.M | re.S):
-        yield {key: [int(value) for value in re.findall(rf"\b{key}: (-?\d+)", body)] for key in set(re.findall(r"\b(\w+): -?\d", body))}
+def number_at(data, at):
+    """A number of protobuf and where it ends: pieces of seven bits, the lowest first."""
+    value, shift = 0, 0
+    while True:
+        value |= (data[at] & 127) << shift
+        at, shift = at + 1, shift + 7
+        if data[at - 1] < 128:
+            return value, at
+
+
+def fields_of(data):
+    """The fields of a message, by number: numbers, and the bytes of texts, messages and numbers in a row."""
+    found, at = defaultdict(list), 0
+    while at < len(data):
+        key, at = number_at(data, at)
+        expect("kind of a field", key & 7 in (0, 2))
+        value, at = number_at(data, at)
+        if key & 7 == 2:
+            expect("length of a field", at + value <= len(data))
+            value, at = data[at:at + value], at + value
+        found[key >> 3].append(value)
+    return found
+
+
+def numbers_in(values):
+    """The numbers of a field that has several, in a row or not."""
+    for value in values:
+        at = 0
+        while isinstance(value, bytes) and at < len(value):
+            number, at = number_at(value, at)
+            yield number
+        if isinstance(value, int):
+            yield value
 
 
 def of_pprof(name):
     """As profile.proto has it: texts, functions and locations by their numbers."""
-    with open(name, encoding="utf-8") as file:
-        told = file.read()
-    texts = [json.loads(text) for text in re.findall(r'^string_table: (".*")$', told, re.M)]
+    with gzip.open(name) as file:
+        told = fields_of(file.read())
+    texts = [text.decode() for text in told[6]]
     expect("first text", texts[0] == "")
-    kinds = [(texts[kind["type"][0]], texts[kind["unit"][0]]) for kind in messages(told, "sample_type")]
+    kinds = [tuple(texts[fields_of(kind)[at][0]] for at in (1, 2)) for kind in told[1]]
     expect("kinds", kinds == [("alloc_objects", "count"), ("alloc_space", "bytes"), ("inuse_objects", "count"), ("inuse_space", "bytes")])
-    functions = {one["id"][0]: (texts[one["name"][0]], texts[one.get("filename", [0])[0]]) for one in messages(told, "function")}
-    modules = {one["id"][0] for one in messages(told, "mapping")}
+    functions = {one[1][0]: (texts[one[2][0]], texts[(one[4] or [0])[0]]) for one in map(fields_of, told[5])}
+    modules = {fields_of(one)[1][0] for one in told[3]}
     places = {}
-    for one in messages(told, "location"):
-        expect("module", one["mapping_id"][0] in modules)
-        places[one["id"][0]] = *functions[one["function_id"][0]], one.get("line", [0])[-1]
-    expect("default", texts[int(re.search(r"^default_sample_type: (\d+)$", told, re.M)[1])] == "inuse_space")
-    for sample in messages(told, "sample"):
-        expect("values", len(sample["value"]) == 4)
-        yield " ".join(map(str, sample["value"])) + " " + line_of(0, 0, [places[at] for at in sample["location_id"]])[4:]
+    for one in map(fields_of, told[4]):
+        expect("module", one[2][0] in modules)
+        line = fields_of(one[4][0])
+        places[one[1][0]] = *functions[line[1][0]], (line[2] or [0])[0]
+    expect("default", texts[told[14][0]] == "inuse_space")
+    for sample in map(fields_of, told[2]):
+        values = list(numbers_in(sample[2]))
+        expect("values", len(values) == 4)
+        yield " ".join(map(str, values)) + " " + line_of(0, 0, [places[at] for at in numbers_in(sample[1])])[4:]
 
 
 for row in sorted({"json": of_json, "sarif": of_sarif, "xml": of_xml, "pprof": of_pprof}[sys.argv[1]](*sys.argv[2:])):

@@ -1,7 +1,7 @@
 """What tools/leaks tells for someone who reads it. It isn't proved."""
 import os
 
-from index import why_untraced
+from loading import why_untraced
 from naming import LeftOut
 from processes import AT_ONCE
 
