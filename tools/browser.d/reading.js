@@ -120,7 +120,7 @@ class Locations {
   }
 }
 
-// What a request has to be served from: the lowest size of the first class whose blocks all hold it, as docs/USING.md has it.
+// What a request has to be served from: the lowest size of the first class whose blocks all hold it, as docs/LOG.md has it.
 function classSize(align, size) {
   const rounded = (number, unit) => Math.ceil(number / unit) * unit;
   const needed = rounded(Math.max(size, 1), UNIT) + Math.max(align - UNIT, 0);

@@ -1,4 +1,4 @@
-"""What the sure pool rests on: the most blocks, the most bytes, and the largest request of a log (docs/USING.md)."""
+"""What the sure pool rests on: the most blocks, the most bytes, and the largest request of a log (docs/LOG.md)."""
 from collections import namedtuple
 
 from log import NIL, parts_of
@@ -18,7 +18,7 @@ def rounded(number, unit):
 
 
 def class_size(align, size):
-    """The lowest size of the first class whose blocks all hold the request, as docs/USING.md has it."""
+    """The lowest size of the first class whose blocks all hold the request, as docs/LOG.md has it."""
     needed = rounded(max(size, 1), UNIT) + max(align - UNIT, 0)
     return rounded(needed, max(UNIT, 1 << needed.bit_length() >> 6))
 
