@@ -1,13 +1,17 @@
-"""growing.py PROGRAM TOOL: whether the processor time of each report, and of TOOL, which names locations, grows with the lines.
+"""growing.py PROGRAM TOOLS: whether the processor time of each report grows with the lines, and that of source-lines and page in TOOLS,
+which name locations and draw.
 
 For each kind of log, one with four times the lines may take MOST times as long. What looks at all that came before at each
 line takes sixteen times as long. Prints a line for each report of each kind, `KIND REPORT: as it should`, or how many times."""
+import os
 import resource
 import subprocess
 import sys
 from pathlib import Path
 
-LINES, MOST, ROUNDS, SECONDS = 40_000, 9, 3, 60
+LINES, MOST, ROUNDS, SECONDS = 40_000, 9, 2, 60
+# A page takes some thousand times as long a line as a report.
+LINES_OF_PAGE = 4_000
 REPORTS = ["leaks --no-heap", "peak --no-heap", "sites", "sites --calls", "timeline --points 10000", "fit --heaps 4",
            "leaks --records 65535", "sites --records 65535", "timeline --records 65535"]
 
@@ -66,7 +70,8 @@ def time_of(words):
     times = []
     for _ in range(ROUNDS):
         before = resource.getrusage(resource.RUSAGE_CHILDREN)
-        subprocess.run(words, stdout=subprocess.DEVNULL, stderr=subprocess.DEVNULL, timeout=SECONDS, check=False)
+        subprocess.run(words, stdout=subprocess.DEVNULL, stderr=subprocess.DEVNULL, timeout=SECONDS, check=False,
+                       env={**os.environ, "TLSF": sys.argv[1]})
         after = resource.getrusage(resource.RUSAGE_CHILDREN)
         times.append(after.ru_utime + after.ru_stime - before.ru_utime - before.ru_stime)
     return min(times)
@@ -81,14 +86,21 @@ def verdict(words):
     return "as it should" if ratio <= MOST else f"{ratio:.1f} times"
 
 
+def write_logs(kind, lines):
+    for name, count in (("small", lines), ("large", 4 * lines)):
+        Path(name).write_text("\n".join(kind(count)) + "\n")
+
+
 def main():
-    program, tool = sys.argv[1:]
+    program, tools = sys.argv[1:]
     for kind in (locations, locations_freed, long_locations, classes, freed_first, moved, findings, stacks, modules):
-        for name, lines in (("small", LINES), ("large", 4 * LINES)):
-            Path(name).write_text("\n".join(kind(lines)) + "\n")
-        named = [("source-lines", [tool])] if kind in (locations, stacks, modules) else []
-        for report, words in [(report, [program, *report.split()]) for report in REPORTS] + named:
-            print(f"{kind.__name__} {report}: {verdict(words)}", flush=True)
+        write_logs(kind, LINES)
+        for report in REPORTS:
+            print(f"{kind.__name__} {report}: {verdict([program, *report.split()])}", flush=True)
+        if kind in (locations, stacks, modules):
+            print(f"{kind.__name__} source-lines: {verdict([f'{tools}/source-lines'])}", flush=True)
+            write_logs(kind, LINES_OF_PAGE)
+            print(f"{kind.__name__} page: {verdict([f'{tools}/page'])}", flush=True)
 
 
 main()
