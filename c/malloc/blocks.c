@@ -119,26 +119,33 @@ static void count_live(struct range *range)
     }
 }
 
+/* Asks a part. A full one isn't asked again until it gets a block back. */
+static void *ask_part(struct heap *heap, size_t align, size_t bytes)
+{
+    lock_it(&heap->lock);
+    void *given = tlsf_parts_aligned_alloc(heap->part, align, bytes);
+    heap->live += given != NULL;
+    heap->refused_from = given == NULL ? 0 : heap->refused_from;
+    unlock_it(&heap->lock);
+    return given;
+}
+
 /* A block of a range's parts, the one that served last first. A full one is passed over. */
 static void *from_range(struct range *range, size_t align, size_t bytes)
 {
     unsigned last = __atomic_load_n(&range->served_last, __ATOMIC_RELAXED);
-    void *given = NULL;
-    for (unsigned k = 0; given == NULL && k < range->parts; k++) {
+    for (unsigned k = 0; k < range->parts; k++) {
         unsigned number = (last + k) % range->parts;
         struct heap *heap = &heaps[range->first + number];
-        if (__atomic_load_n(&heap->live, __ATOMIC_RELAXED) < most_blocks_of_part(range->largest)) {
-            lock_it(&heap->lock);
-            given = tlsf_parts_aligned_alloc(heap->part, align, bytes);
-            heap->live += given != NULL;
-            unlock_it(&heap->lock);
-            __atomic_store_n(&range->served_last, given == NULL ? last : number, __ATOMIC_RELAXED);
+        bool is_full = __atomic_load_n(&heap->refused_from, __ATOMIC_RELAXED) == 0;
+        void *given = is_full ? NULL : ask_part(heap, align, bytes);
+        if (given != NULL) {
+            __atomic_store_n(&range->served_last, number, __ATOMIC_RELAXED);
+            count_live(range);
+            return given;
         }
     }
-    if (given != NULL) {
-        count_live(range);
-    }
-    return given;
+    return NULL;
 }
 
 /* Else the block is spilled. */

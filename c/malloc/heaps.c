@@ -7,6 +7,8 @@
 /* All stretches together have at most these addresses. Large pages begin at a multiple of LARGE_PAGE. */
 #define ADDRESSES ((size_t)1 << 40)
 #define LARGE_PAGE ((size_t)1 << 21)
+/* A smaller stretch is for fewer than so many heaps, but not below 2^23 bytes. */
+enum { LEAST_SHIFT = 23, HEAPS_SURE = 256 };
 
 struct heap heaps[STRETCHES_MOST];
 pthread_mutex_t layout = PTHREAD_MUTEX_INITIALIZER;
@@ -106,23 +108,45 @@ static unsigned choose_length(void)
     return needed;
 }
 
-/* As many stretches as there may be, or half of these, and so on: those that the system has addresses for. */
+/* Where addresses are few, and no part or pool was told, heaps are smaller, so that there are many. */
+static void choose_pool(size_t bytes)
+{
+    bool is_told = settings.is_one_heap || settings.count > 0;
+    while (!is_told && shift > LEAST_SHIFT && bytes >> shift < HEAPS_SURE) {
+        shift--;
+    }
+    if (length_of_stretch() < bytes_of_general()) {
+        settings.pool = length_of_stretch() - tlsf_size_records(settings.records) / UNIT * UNIT - UNIT;
+    }
+}
+
+/* As many stretches as there may be, or half of these, and so on. Where the system hasn't addresses for all,
+ * half of what it has is left to the program. */
 static bool reserve(unsigned needed)
 {
-    size_t count = needed;
-    while (!settings.is_one_heap && count * 2 <= STRETCHES_MOST && count * 2 * length_of_stretch() <= ADDRESSES) {
-        count *= 2;
+    size_t bytes = needed * length_of_stretch();
+    size_t least = settings.is_one_heap || settings.count > 0 ? bytes : (size_t)1 << LEAST_SHIFT;
+    while (!settings.is_one_heap && bytes * 2 <= ADDRESSES && bytes * 2 >> shift <= STRETCHES_MOST) {
+        bytes *= 2;
     }
-    for (; count >= needed; count /= 2) {
-        void *memory = mmap(NULL, (count << shift) + LARGE_PAGE, PROT_NONE, MAP_PRIVATE | MAP_ANONYMOUS, -1, 0);
-        if (memory != MAP_FAILED) {
-            base = (unsigned char *)(((uintptr_t)memory + LARGE_PAGE - 1) / LARGE_PAGE * LARGE_PAGE);
-            stretches = (unsigned)count;
-            pages_from = stretches;
-            return true;
-        }
+    size_t most = bytes;
+    unsigned char *memory = MAP_FAILED;
+    while (bytes >= least && memory == MAP_FAILED) {
+        memory = mmap(NULL, bytes + LARGE_PAGE, PROT_NONE, MAP_PRIVATE | MAP_ANONYMOUS, -1, 0);
+        bytes = memory == MAP_FAILED ? bytes / 2 : bytes;
     }
-    return false;
+    if (memory == MAP_FAILED) {
+        return false;
+    }
+    if (bytes < most && bytes / 2 >= least) {
+        bytes /= 2;
+        (void)munmap(memory + bytes + LARGE_PAGE, bytes);
+    }
+    choose_pool(bytes);
+    base = memory + (-(uintptr_t)memory & (LARGE_PAGE - 1));
+    stretches = (unsigned)(bytes >> shift);
+    pages_from = stretches;
+    return true;
 }
 
 /* Memory for a heap. Few large pages are found sooner than many small ones. A system without them gives
@@ -174,6 +198,7 @@ static bool make_part(struct range *range, unsigned at, unsigned number)
     tlsf_parts_set_refusal_hook(part, count_refusal, &heaps[at]);
     heaps[at].part = part;
     heaps[at].range = range;
+    heaps[at].refused_from = SIZE_MAX;
     use(at, PART);
     return true;
 }

@@ -4,8 +4,8 @@
  * one byte is served, with `usable` how many bytes four blocks have. With `refused_twice` two requests
  * are refused. With `hold` it ends with blocks held; with `spoil_front` or `spoil_table` with
  * bytes changed that aren't its own. With `locks` it asks while another thread has the lock. With
- * `many` it holds 2^24 blocks, with `again` many twice, with `large` blocks above a pool. With `alone`
- * there are no threads and no forks. */
+ * `many` it holds 2^24 blocks, with `again` many twice, with `large` blocks above a pool. With `apart`
+ * threads have heaps of their own. With `alone` there are no threads and no forks. */
 #define _GNU_SOURCE
 #include <errno.h>
 #include <malloc.h>
@@ -403,6 +403,46 @@ static void spoil(bool table)
     }
 }
 
+/* A block of each of four threads, while all of them run. */
+static pthread_barrier_t all_asked;
+
+static void *ask_once(void *none)
+{
+    (void)none;
+    void *block = malloc(100);
+    pthread_barrier_wait(&all_asked);
+    return block;
+}
+
+/* Each block is in a pool of its own, of 2^29 bytes: so no thread waits for another. */
+static void apart(void)
+{
+    pthread_t threads[THREADS];
+    void *blocks[THREADS];
+    bool is_apart = true;
+    pthread_barrier_init(&all_asked, NULL, THREADS);
+    for (unsigned k = 0; k < THREADS; k++) {
+        pthread_create(&threads[k], NULL, ask_once, NULL);
+    }
+    for (unsigned k = 0; k < THREADS; k++) {
+        pthread_join(threads[k], &blocks[k]);
+        for (unsigned other = 0; other < k; other++) {
+            uintptr_t one = (uintptr_t)blocks[k], two = (uintptr_t)blocks[other];
+            is_apart = is_apart && (one > two ? one - two : two - one) >= (uintptr_t)1 << 29;
+        }
+    }
+    expect(is_apart, "four threads have heaps of their own");
+    bool good = true;
+    for (unsigned k = 0; k < THREADS; k++) {
+        good = good && malloc_usable_size(blocks[k]) >= 100;
+        blocks[k] = realloc(blocks[k], 5000);
+        good = good && malloc_usable_size(blocks[k]) >= 5000;
+        free(blocks[k]);
+        good = good && malloc_usable_size(blocks[k]) == 0;
+    }
+    expect(good, "another thread resizes their blocks, and gives them back");
+}
+
 static unsigned served(size_t bytes)
 {
     unsigned times = 0;
@@ -555,6 +595,10 @@ int main(int count, char **words)
     }
     if (count > 1 && strcmp(words[1], "refused") == 0) {
         refused();
+        return cases_end();
+    }
+    if (count > 1 && strcmp(words[1], "apart") == 0) {
+        apart();
         return cases_end();
     }
     if (count > 1 && strcmp(words[1], "locks") == 0) {
