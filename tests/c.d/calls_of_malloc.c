@@ -4,7 +4,8 @@
  * one byte is served, with `usable` how many bytes four blocks have. With `refused_twice` two requests
  * are refused. With `hold` it ends with blocks held; with `spoil_front` or `spoil_table` with
  * bytes changed that aren't its own. With `locks` it asks while another thread has the lock. With
- * `alone` there are no threads and no forks. */
+ * `many` it holds 2^24 blocks, with `again` many twice, with `large` blocks above a pool. With `apart`
+ * threads have heaps of their own. With `alone` there are no threads and no forks. */
 #define _GNU_SOURCE
 #include <errno.h>
 #include <malloc.h>
@@ -402,6 +403,46 @@ static void spoil(bool table)
     }
 }
 
+/* A block of each of four threads, while all of them run. */
+static pthread_barrier_t all_asked;
+
+static void *ask_once(void *none)
+{
+    (void)none;
+    void *block = malloc(100);
+    pthread_barrier_wait(&all_asked);
+    return block;
+}
+
+/* Each block is in a pool of its own, of 2^29 bytes: so no thread waits for another. */
+static void apart(void)
+{
+    pthread_t threads[THREADS];
+    void *blocks[THREADS];
+    bool is_apart = true;
+    pthread_barrier_init(&all_asked, NULL, THREADS);
+    for (unsigned k = 0; k < THREADS; k++) {
+        pthread_create(&threads[k], NULL, ask_once, NULL);
+    }
+    for (unsigned k = 0; k < THREADS; k++) {
+        pthread_join(threads[k], &blocks[k]);
+        for (unsigned other = 0; other < k; other++) {
+            uintptr_t one = (uintptr_t)blocks[k], two = (uintptr_t)blocks[other];
+            is_apart = is_apart && (one > two ? one - two : two - one) >= (uintptr_t)1 << 29;
+        }
+    }
+    expect(is_apart, "four threads have heaps of their own");
+    bool good = true;
+    for (unsigned k = 0; k < THREADS; k++) {
+        good = good && malloc_usable_size(blocks[k]) >= 100;
+        blocks[k] = realloc(blocks[k], 5000);
+        good = good && malloc_usable_size(blocks[k]) >= 5000;
+        free(blocks[k]);
+        good = good && malloc_usable_size(blocks[k]) == 0;
+    }
+    expect(good, "another thread resizes their blocks, and gives them back");
+}
+
 static unsigned served(size_t bytes)
 {
     unsigned times = 0;
@@ -420,9 +461,116 @@ static void usable(void)
     printf("%d\n", malloc_usable_size(aligned) >= 100 && malloc_usable_size(aligned) <= malloc_usable_size(most));
 }
 
+/* Blocks that each keep their number, in a list that doesn't come from the malloc. */
+enum { MANY = 1 << 24, FEWER = 1 << 20 };
+static unsigned *list[MANY];
+
+static bool asks_for(unsigned count, unsigned step)
+{
+    bool good = true;
+    for (unsigned k = 0; good && k < count; k += step) {
+        list[k] = malloc(sizeof k + k % 9);
+        good = is_at(list[k], 16);
+        if (good) {
+            *list[k] = k;
+        }
+    }
+    return good;
+}
+
+static bool frees(unsigned count, unsigned step)
+{
+    bool good = true;
+    for (unsigned k = 0; k < count; k += step) {
+        good = good && *list[k] == k && malloc_usable_size(list[k]) >= sizeof k;
+        free(list[k]);
+        list[k] = NULL;
+    }
+    return good;
+}
+
+static void many(void)
+{
+    expect(asks_for(MANY, 1), "2^24 blocks are served");
+    expect(frees(MANY, 1), "each has its own bytes");
+}
+
+/* The pages that the process has in memory. */
+static long resident(void)
+{
+    long all = 0, in_memory = 0;
+    FILE *told = fopen("/proc/self/statm", "r");
+    bool good = told != NULL && fscanf(told, "%ld %ld", &all, &in_memory) == 2;
+    if (told != NULL) {
+        fclose(told);
+    }
+    return good ? in_memory : 0;
+}
+
+/* What other heaps are left with serves again. Empty heaps give their memory back. */
+static void again(void)
+{
+    long before = resident();
+    bool good = asks_for(FEWER, 1);
+    long held = resident();
+    for (unsigned turn = 0; good && turn < 3; turn++) {
+        good = frees(FEWER, 3) && asks_for(FEWER, 3);
+    }
+    long later = resident();
+    expect(good && later - held < (held - before) / 4, "a third of 2^20 blocks is freed and asked for three times, in the same memory");
+    unsigned *moved = realloc(list[5], 3000);
+    expect(moved != NULL && *moved == 5, "a block of a full heap moves to another");
+    list[5] = moved;
+    void *volatile stale = list[6];
+    free(list[6]);
+    free(stale);
+    list[6] = malloc(4);
+    *list[6] = 6;
+    expect(frees(FEWER, 1), "each has its own bytes");
+    void *volatile gone = moved;
+    free(gone);
+    expect(malloc_usable_size(gone) == 0, "a pointer into a heap that is gone is refused");
+    expect(resident() - before < (held - before) / 4, "empty heaps give their memory back");
+}
+
+/* Blocks of 600,000,000 bytes and more. */
+static void large(void)
+{
+    enum { BYTES = 600000000, FAR = 2000000000 };
+    unsigned char *one = calloc(1, BYTES), *other = memalign(1 << 24, BYTES), *small = malloc(5);
+    expect(is_at(one, 16) && is_at(other, 1 << 24) && holds(one, 1000, 0) && malloc_usable_size(one) >= BYTES, "blocks of 600,000,000 bytes are served");
+    memset(one, 1, 1000);
+    one[BYTES - 1] = 2;
+    other[BYTES - 1] = 3;
+    unsigned char *more = realloc(one, FAR);
+    more[FAR - 1] = 4;
+    expect(holds(more, 1000, 1) && more[BYTES - 1] == 2 && other[BYTES - 1] == 3, "one grows to 2,000,000,000, with its bytes");
+    unsigned char *volatile inside = more + 4096;
+    free(inside);
+    unsigned char *less = realloc(more, 700000000);
+    unsigned char *least = realloc(less, 100);
+    expect(holds(least, 100, 1) && malloc_usable_size(inside) == 0, "it shrinks again, and a pointer into it is refused");
+    free(other);
+    void *volatile stale = other;
+    free(stale);
+    bool again = malloc_usable_size(stale) == 0;
+    for (int turn = 0; again && turn < 3000; turn++) {
+        void *volatile next = malloc(BYTES);
+        again = next != NULL;
+        free(next);
+    }
+    expect(again, "what is freed is refused, and its addresses serve again, 3,000 times");
+    free(least);
+    free(small);
+}
+
 int main(int count, char **words)
 {
     alarm(60);
+    if (count > 1 && (strcmp(words[1], "many") == 0 || strcmp(words[1], "again") == 0 || strcmp(words[1], "large") == 0)) {
+        *words[1] == 'm' ? many() : *words[1] == 'a' ? again() : large();
+        return cases_end();
+    }
     if (count > 1 && strcmp(words[1], "hold") == 0) {
         hold();
         return 0;
@@ -447,6 +595,10 @@ int main(int count, char **words)
     }
     if (count > 1 && strcmp(words[1], "refused") == 0) {
         refused();
+        return cases_end();
+    }
+    if (count > 1 && strcmp(words[1], "apart") == 0) {
+        apart();
         return cases_end();
     }
     if (count > 1 && strcmp(words[1], "locks") == 0) {

@@ -1,0 +1,263 @@
+/* blocks.c: which heap, part or pages a block is taken from, and how it goes back. */
+#include "blocks.h"
+
+#include <sched.h>
+#include <string.h>
+
+/* Threads have up to so many heaps a processor. */
+enum { HEAPS_A_PROCESSOR = 4 };
+
+size_t spilled_above;
+
+/* The heap that served the thread last, and 1; 0 where none did. */
+static __thread unsigned home;
+static unsigned heaps_of_threads;
+
+void count_processors(void)
+{
+    cpu_set_t processors;
+    bool told = sched_getaffinity(0, sizeof processors, &processors) == 0;
+    heaps_of_threads = HEAPS_A_PROCESSOR * (told ? (unsigned)CPU_COUNT(&processors) : 1);
+}
+
+static unsigned used(void) { return __atomic_load_n(&heaps_used, __ATOMIC_ACQUIRE); }
+
+/* The bytes that a heap looks for. */
+static size_t wanted_for(size_t align, size_t bytes)
+{
+    size_t more = align > UNIT ? align - UNIT : 0;
+    return bytes > SIZE_MAX - more ? SIZE_MAX : bytes + more;
+}
+
+/* Asks a heap of tlsf.h. Where it refuses, it isn't asked for as much until it gets a block back: where
+ * its table is full, for nothing. */
+static void *ask(unsigned number, size_t align, size_t bytes)
+{
+    struct heap *heap = &heaps[number];
+    size_t wanted = wanted_for(align, bytes);
+    lock_it(&heap->lock);
+    bool is = heap->use == GENERAL;
+    void *given = is ? tlsf_memalign(heap->general, align, bytes) : NULL;
+    heap->live += given != NULL;
+    if (is && given == NULL) {
+        size_t from = heap->refused == TLSF_REFUSED_TABLE_FULL ? 0 : wanted;
+        heap->was_full = true;
+        heap->refused_from = from < heap->refused_from ? from : heap->refused_from;
+    }
+    unlock_it(&heap->lock);
+    home = given == NULL ? home : number + 1;
+    return given;
+}
+
+/* Whether another heap may serve so many bytes: it is one, and has refused none or more. */
+static bool may_serve(const struct heap *heap, size_t wanted)
+{
+    return __atomic_load_n(&heap->use, __ATOMIC_RELAXED) == GENERAL
+           && wanted < __atomic_load_n(&heap->refused_from, __ATOMIC_RELAXED);
+}
+
+/* Gives a thread the next heap of those of threads, or makes it. */
+static void find_home(void)
+{
+    static unsigned threads;
+    unsigned seen = 0;
+    unsigned last = STRETCHES_MOST;
+    lock_it(&layout);
+    unsigned turn = threads++ % heaps_of_threads;
+    for (unsigned k = 0; k < heaps_used && seen <= turn; k++) {
+        last = heaps[k].use == GENERAL ? k : last;
+        seen += heaps[k].use == GENERAL;
+    }
+    unsigned made = seen <= turn ? make_general() : STRETCHES_MOST;
+    unlock_it(&layout);
+    last = made == STRETCHES_MOST ? last : made;
+    home = last == STRETCHES_MOST ? 0 : last + 1;
+}
+
+static void *from_another(size_t align, size_t bytes)
+{
+    lock_it(&layout);
+    unsigned made = make_general();
+    unlock_it(&layout);
+    return made == STRETCHES_MOST ? NULL : ask(made, align, bytes);
+}
+
+/* A block of the thread's heap, of another, of one that is made, or of pages. */
+static void *from_heaps(size_t align, size_t bytes)
+{
+    size_t wanted = wanted_for(align, bytes);
+    if (wanted > greatest_of_heap()) {
+        return take_pages(align, bytes);
+    }
+    if (home == 0) {
+        find_home();
+    }
+    void *given = home == 0 ? NULL : ask(home - 1, align, bytes);
+    for (unsigned k = 0; given == NULL && k < used(); k++) {
+        if (k + 1 != home && may_serve(&heaps[k], wanted)) {
+            given = ask(k, align, bytes);
+        }
+    }
+    return given != NULL ? given : from_another(align, bytes);
+}
+
+/* The first range whose size is enough, or none. */
+static struct range *range_for(size_t bytes)
+{
+    uint32_t k = 0;
+    while (k < settings.count && settings.ranges[k].largest < bytes) {
+        k++;
+    }
+    return k < settings.count ? &settings.ranges[k] : NULL;
+}
+
+static void count_live(struct range *range)
+{
+    size_t now = __atomic_add_fetch(&range->live, 1, __ATOMIC_RELAXED);
+    size_t most = __atomic_load_n(&range->most_live, __ATOMIC_RELAXED);
+    while (now > most && !__atomic_compare_exchange_n(&range->most_live, &most, now, true, __ATOMIC_RELAXED, __ATOMIC_RELAXED)) {
+    }
+}
+
+/* Asks a part. A full one isn't asked again until it gets a block back. */
+static void *ask_part(struct heap *heap, size_t align, size_t bytes)
+{
+    lock_it(&heap->lock);
+    void *given = tlsf_parts_aligned_alloc(heap->part, align, bytes);
+    heap->live += given != NULL;
+    heap->refused_from = given == NULL ? 0 : heap->refused_from;
+    unlock_it(&heap->lock);
+    return given;
+}
+
+/* A block of a range's parts, the one that served last first. A full one is passed over. */
+static void *from_range(struct range *range, size_t align, size_t bytes)
+{
+    unsigned last = __atomic_load_n(&range->served_last, __ATOMIC_RELAXED);
+    for (unsigned k = 0; k < range->parts; k++) {
+        unsigned number = (last + k) % range->parts;
+        struct heap *heap = &heaps[range->first + number];
+        bool is_full = __atomic_load_n(&heap->refused_from, __ATOMIC_RELAXED) == 0;
+        void *given = is_full ? NULL : ask_part(heap, align, bytes);
+        if (given != NULL) {
+            __atomic_store_n(&range->served_last, number, __ATOMIC_RELAXED);
+            count_live(range);
+            return given;
+        }
+    }
+    return NULL;
+}
+
+/* Else the block is spilled. */
+void *allocate(size_t align, size_t bytes)
+{
+    struct range *range = range_for(wanted_for(align, bytes));
+    void *given = range == NULL ? NULL : from_range(range, align, bytes);
+    if (given != NULL) {
+        return given;
+    }
+    given = from_heaps(align, bytes);
+    if (settings.count > 0 && given != NULL) {
+        __atomic_add_fetch(range == NULL ? &spilled_above : &range->spilled, 1, __ATOMIC_RELAXED);
+    }
+    return given;
+}
+
+/* Under the heap's lock: gives a block back, and answers whether there was one. */
+static bool free_in(struct heap *heap, void *address)
+{
+    size_t before = heap->refusals;
+    if (heap->use == GENERAL) {
+        tlsf_free(heap->general, address);
+    } else if (heap->use == PART) {
+        tlsf_parts_free(heap->part, address);
+    } else {
+        return false;
+    }
+    bool is_freed = before == heap->refusals;
+    heap->live -= is_freed;
+    heap->refused_from = is_freed ? SIZE_MAX : heap->refused_from;
+    if (is_freed && heap->use == PART) {
+        __atomic_sub_fetch(&heap->range->live, 1, __ATOMIC_RELAXED);
+    }
+    return is_freed;
+}
+
+/* A heap that was full and is empty gives its memory back, but the thread's own. */
+bool release(void *address, bool checks)
+{
+    unsigned number = heap_at(address);
+    if (number == STRETCHES_MOST) {
+        return false;
+    }
+    struct heap *heap = &heaps[number];
+    lock_it(&heap->lock);
+    bool is_pages = heap->use == PAGES;
+    bool is_freed = free_in(heap, address);
+    bool is_left = is_freed && heap->use == GENERAL && heap->live == 0 && heap->was_full;
+    unlock_it(&heap->lock);
+    if (is_left && home != number + 1) {
+        give_back_if_empty(heap, checks);
+    }
+    return is_pages ? free_pages(heap, address) : is_freed;
+}
+
+/* Under the heap's lock: the bytes of a live block, else 0. */
+static size_t room_in(struct heap *heap, const void *address)
+{
+    switch (heap->use) {
+    case GENERAL: return tlsf_live_size(heap->general, address);
+    case PART: return tlsf_parts_live_size(heap->part, address);
+    case PAGES: return room_of_pages(heap, address);
+    default: return 0;
+    }
+}
+
+/* Under the heap's lock: room for so many bytes in the same heap, or a null pointer. Where no live block
+ * begins at the address it is refused. */
+static void *resize_in(struct heap *heap, void *address, size_t bytes)
+{
+    if (heap->use == GENERAL) {
+        void *now = tlsf_realloc(heap->general, address, bytes);
+        heap->refused_from = now == NULL ? heap->refused_from : SIZE_MAX;
+        return now;
+    }
+    if (heap->use == PART) {
+        return range_for(bytes) == heap->range ? tlsf_parts_realloc(heap->part, address, bytes) : NULL;
+    }
+    return room_in(heap, address) != 0 && resize_pages(heap, bytes) ? address : NULL;
+}
+
+void *resize(void *address, size_t bytes, bool checks)
+{
+    unsigned number = heap_at(address);
+    if (number == STRETCHES_MOST) {
+        return NULL;
+    }
+    struct heap *heap = &heaps[number];
+    lock_it(&heap->lock);
+    void *now = resize_in(heap, address, bytes);
+    size_t room = now == NULL ? room_in(heap, address) : 0;
+    unlock_it(&heap->lock);
+    if (room == 0) {
+        return now;
+    }
+    now = allocate(UNIT, bytes);
+    if (now != NULL) {
+        (void)memcpy(now, address, room < bytes ? room : bytes);
+        (void)release(address, checks);
+    }
+    return now;
+}
+
+size_t room_of(const void *address)
+{
+    unsigned number = heap_at(address);
+    if (number == STRETCHES_MOST) {
+        return 0;
+    }
+    lock_it(&heaps[number].lock);
+    size_t room = room_in(&heaps[number], address);
+    unlock_it(&heaps[number].lock);
+    return room;
+}
