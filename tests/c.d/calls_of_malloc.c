@@ -36,6 +36,12 @@ static bool is_at(const void *address, size_t align)
 }
 
 /* More than any block has; the compiler isn't to know. */
+/* After so many seconds a program is ended that waits for ever. QEMU is slow where threads contend. */
+#ifdef __aarch64__
+enum { SECONDS = 480 };
+#else
+enum { SECONDS = 60 };
+#endif
 static volatile size_t huge = (size_t)1 << 40, half = (size_t)1 << 63, zero = 0;
 
 static void plain(void)
@@ -315,7 +321,7 @@ static bool forks_again(int generations)
     }
     pid_t child = fork();
     if (child == 0) {
-        alarm(20);
+        alarm(SECONDS / 3);
         _exit(forks_again(generations - 1) ? 0 : 1);
     }
     return right && child > 0 && waitpid(child, &status, 0) == child && status == 0;
@@ -332,7 +338,7 @@ static void forks(void)
         int status = 1;
         pid_t child = fork();
         if (child == 0) {
-            alarm(20);
+            alarm(SECONDS / 3);
             _exit(forks_again(k % 10 == 0 ? 2 : 0) ? 0 : 1);
         }
         good = good && child > 0 && waitpid(child, &status, 0) == child && status == 0;
@@ -566,7 +572,7 @@ static void large(void)
 
 int main(int count, char **words)
 {
-    alarm(60);
+    alarm(SECONDS);
     if (count > 1 && (strcmp(words[1], "many") == 0 || strcmp(words[1], "again") == 0 || strcmp(words[1], "large") == 0)) {
         *words[1] == 'm' ? many() : *words[1] == 'a' ? again() : large();
         return cases_end();
