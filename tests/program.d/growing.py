@@ -12,6 +12,8 @@ from pathlib import Path
 LINES, MOST, ROUNDS, SECONDS = 40_000, 9, 2, 60
 # A page takes some thousand times as long a line as a report.
 LINES_OF_PAGE = 4_000
+# Less isn't measured well.
+LEAST_SECONDS = 0.01
 REPORTS = ["leaks --no-heap", "peak --no-heap", "sites", "sites --calls", "timeline --points 10000", "fit --heaps 4",
            "leaks --records 65535", "sites --records 65535", "timeline --records 65535"]
 
@@ -80,7 +82,7 @@ def time_of(words):
 def verdict(words):
     """How many times as long the larger log takes, where that is too much."""
     try:
-        ratio = time_of([*words, "large"]) / max(time_of([*words, "small"]), 0.002)
+        ratio = time_of([*words, "large"]) / max(time_of([*words, "small"]), LEAST_SECONDS)
     except subprocess.TimeoutExpired:
         return f"more than {SECONDS} seconds"
     return "as it should" if ratio <= MOST else f"{ratio:.1f} times"
