@@ -4,12 +4,14 @@ which name locations and draw.
 For each kind of log, one with four times the lines may take MOST times as long. What looks at all that came before at each
 line takes sixteen times as long. Prints a line for each report of each kind, `KIND REPORT: as it should`, or how many times."""
 import os
-import resource
 import subprocess
 import sys
 from pathlib import Path
 
-LINES, MOST, ROUNDS, SECONDS = 40_000, 9, 2, 60
+sys.dont_write_bytecode = True
+from measured import MOST_SECONDS, least_time  # noqa: E402
+
+LINES, MOST, ROUNDS = 40_000, 9, 2
 # A page takes some thousand times as long a line as a report.
 LINES_OF_PAGE = 4_000
 # Less isn't measured well.
@@ -68,15 +70,7 @@ def modules(lines):
 
 
 def time_of(words):
-    """The least processor time of some runs, in seconds."""
-    times = []
-    for _ in range(ROUNDS):
-        before = resource.getrusage(resource.RUSAGE_CHILDREN)
-        subprocess.run(words, stdout=subprocess.DEVNULL, stderr=subprocess.DEVNULL, timeout=SECONDS, check=False,
-                       env={**os.environ, "TLSF": sys.argv[1]})
-        after = resource.getrusage(resource.RUSAGE_CHILDREN)
-        times.append(after.ru_utime + after.ru_stime - before.ru_utime - before.ru_stime)
-    return min(times)
+    return least_time(words, rounds=ROUNDS, stderr=subprocess.DEVNULL, env={**os.environ, "TLSF": sys.argv[1]})
 
 
 def verdict(words):
@@ -84,7 +78,7 @@ def verdict(words):
     try:
         ratio = time_of([*words, "large"]) / max(time_of([*words, "small"]), LEAST_SECONDS)
     except subprocess.TimeoutExpired:
-        return f"more than {SECONDS} seconds"
+        return f"more than {MOST_SECONDS} seconds"
     return "as it should" if ratio <= MOST else f"{ratio:.1f} times"
 
 

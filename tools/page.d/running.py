@@ -49,19 +49,33 @@ class Root:
         """A path that the process has, as this one has it."""
         return f"/proc/{os.getpid()}/fd/{self.folder}{path}" if self.is_other else path
 
+    def open_room(self, makes=False):
+        """The tracer's folder in the other root, open. Its process could put links there, which lead into this root: so none is followed."""
+        folder = os.O_RDONLY | os.O_DIRECTORY | os.O_NOFOLLOW
+        name, temporary = os.path.basename(self.room), os.open("tmp", folder, dir_fd=self.folder)
+        try:
+            if makes and name not in os.listdir(temporary):
+                told = os.stat(f"/proc/{self.process}")
+                os.mkdir(name, 0o700, dir_fd=temporary)
+                os.chown(name, told.st_uid, told.st_gid, dir_fd=temporary, follow_symlinks=False)
+            return os.open(name, folder, dir_fd=temporary)
+        finally:
+            os.close(temporary)
+
     def put(self, library):
         """Puts the tracer where the process can load it, in a folder of its user: its path there. An OSError tells why it can't be."""
         if not self.is_other:
             return library
-        room, copy = self.outside(self.room), f"{self.room}/{os.path.basename(library)}"
-        told = os.stat(f"/proc/{self.process}")
-        if not os.path.isdir(room):
-            os.mkdir(room, 0o700)
-            os.chown(room, told.st_uid, told.st_gid)
-        if not os.path.exists(self.outside(copy)):
-            shutil.copyfile(library, self.outside(copy))
-            os.chmod(self.outside(copy), 0o755)
-        return copy
+        room, name = self.open_room(makes=True), os.path.basename(library)
+        try:
+            if name not in os.listdir(room):
+                to = os.open(name, os.O_WRONLY | os.O_CREAT | os.O_EXCL | os.O_NOFOLLOW, 0o755, dir_fd=room)
+                with open(library, "rb") as source, os.fdopen(to, "wb") as copy:
+                    os.fchmod(to, 0o755)
+                    shutil.copyfileobj(source, copy)
+        finally:
+            os.close(room)
+        return f"{self.room}/{name}"
 
     def log_for(self, wanted):
         """The path of the log for the process, which is to be this one here in the end."""
@@ -69,11 +83,17 @@ class Root:
 
     def bring(self, wanted):
         """Moves the log, what is beside it, and those of children to where they are wanted."""
-        room, name = self.outside(self.room), os.path.basename(wanted)
-        for file in os.listdir(room) if self.is_other else []:
-            if file.startswith(name):
-                shutil.copyfile(f"{room}/{file}", wanted + file[len(name):])
-                os.remove(f"{room}/{file}")
+        if not self.is_other:
+            return
+        room, name = self.open_room(), os.path.basename(wanted)
+        try:
+            for file in (file for file in os.listdir(room) if file.startswith(name)):
+                source = os.open(file, os.O_RDONLY | os.O_NOFOLLOW | os.O_NONBLOCK, dir_fd=room)
+                with os.fdopen(source, "rb") as read, open(wanted + file[len(name):], "wb") as copy:
+                    shutil.copyfileobj(read, copy)
+                os.remove(file, dir_fd=room)
+        finally:
+            os.close(room)
 
 
 class Mapped:
