@@ -10,6 +10,9 @@ pub mod EntryOrder
 pub mod LedgerLemmas
 pub mod LedgerPeak
 pub mod LocationsLemmas
+pub mod MarkLemmas
 pub mod ServedLemmas
 pub mod ServedRunLemmas
 pub mod ServedTimelineLemmas
+pub mod SnapshotLemmas
+pub mod SnapshotRows

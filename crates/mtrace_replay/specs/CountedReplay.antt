@@ -9,7 +9,7 @@ use Rattle.mtrace_replay.specs.Totals.{is_served}
 use Rattle.mtrace_replay.specs.Asked.{class_asked}
 use Rattle.mtrace_replay.specs.Served.{served_moment, served_moments, StandsWithoutHeap, served_noted}
 use Rattle.mtrace_replay.specs.Spans.{released_by, address_asked, AreCountedOf, AreFew}
-use Rattle.mtrace_replay.specs.LineReplay.{LineRules}
+use Rattle.mtrace_replay.specs.LineReplay.{LineRules, Notes}
 
 -- what the line behind these does, and whether it is served
 pub record IsChangeOf (change : Change) (served : Bool) (line : ReadLine) (past : List ReadLine) : Type 0 where
@@ -33,6 +33,7 @@ counted_rules = record {
   Start = Unit {0};
   Stands = λ start replay past. StandsWithoutHeap replay.ledger past × AreCountedOf past replay.spans;
   noted = λ start past. served_noted past;
+  Tells = λ start. Notes served_noted;
   lines = λ replay. replay.ledger.lines;
   IsReady = λ replay. AreFew replay.ledger.lines replay.spans;
   fixed = λ replay. 0;

@@ -55,3 +55,5 @@ pub mod Cuts
 pub mod RunParts
 pub mod PartsText
 pub mod OneSize
+pub mod Marks
+pub mod Snapshots

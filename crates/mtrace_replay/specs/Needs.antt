@@ -14,7 +14,7 @@ use Rattle.mtrace_replay.specs.Moment.{ReadLine, Given, rounded_bytes}
 use Rattle.mtrace_replay.specs.History.{moments}
 use Rattle.mtrace_replay.specs.Totals.{blocks_in, rounded_bytes_in, Measures, IsMost}
 use Rattle.mtrace_replay.specs.Asked.{greatest_class}
-use Rattle.mtrace_replay.specs.LineReplay.{LineRules}
+use Rattle.mtrace_replay.specs.LineReplay.{LineRules, Notes}
 use Rattle.mtrace_replay.specs.Replay.{heap_notes, StandsFor}
 use Rattle.mtrace_replay.specs.Run.{EndsAt}
 
@@ -54,6 +54,7 @@ needs_rules = record {
   Start = Settings;
   Stands = λ settings replay past. StandsFor replay.replay settings past × AreNeeds (started settings) past replay.needs;
   noted = heap_notes;
+  Tells = λ settings. Notes (heap_notes settings);
   lines = λ replay. replay.replay.totals.lines;
   IsReady = λ replay. Unit {0};
   fixed = λ replay. replay.replay.content.records;

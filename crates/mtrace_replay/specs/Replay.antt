@@ -12,7 +12,7 @@ use Rattle.mtrace_replay.specs.Step.{held_given}
 use Rattle.mtrace_replay.specs.Totals.{AreTotals}
 use Rattle.mtrace_replay.specs.Moment.{ReadLine, Given, plan, acts, half}
 use Rattle.mtrace_replay.specs.History.{AreHeld, next_moment, moments, notes, content_after, pending, entries_of}
-use Rattle.mtrace_replay.specs.LineReplay.{LineRules}
+use Rattle.mtrace_replay.specs.LineReplay.{LineRules, Notes}
 
 -- a replay: the heap's content, how often it was touched, how many addresses were compared, and the totals. `given`
 -- is what is held, in order of address. `pending` is the address of the last line where that is `<`; `out_of_memory`,
@@ -85,6 +85,7 @@ heap_rules = record {
   Start = Settings;
   Stands = λ settings replay past. StandsFor replay settings past;
   noted = heap_notes;
+  Tells = λ settings. Notes (heap_notes settings);
   lines = λ replay. replay.totals.lines;
   IsReady = λ replay. Unit {0};
   fixed = λ replay. replay.content.records;

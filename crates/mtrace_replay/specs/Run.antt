@@ -16,7 +16,7 @@ use Rattle.mtrace_replay.specs.Totals.{AreTotals}
 use Rattle.mtrace_replay.specs.Moment.{ReadLine, Given}
 use Rattle.mtrace_replay.specs.History.{moments, history, diagnostics, AreHeld, entries_of, content_after}
 use Rattle.mtrace_replay.specs.Replay.{Replayed, StandsFor, heap_notes}
-use Rattle.mtrace_replay.specs.Following.{HasReadUpTo, RunsToEnd, RunsToRead, RunsToWrite}
+use Rattle.mtrace_replay.specs.Following.{Notes, HasReadUpTo, RunsToEnd, RunsToRead, RunsToWrite}
 use Rattle.mtrace_replay.specs.Reporting.{Reports, StopsAtWrite}
 use Rattle.mtrace_replay.specs.Texts.{diagnostics_text, report_text}
 use Rattle.mtrace_log.specs.Output.{Puts}
@@ -57,7 +57,7 @@ NothingDone reader writer = (reader.new ≡ reader.old) × (writer.new ≡ write
 -- how a run ended, by what it answers, which is never `Image`
 abbrev pub RunEnds : {R W : Type 0} → Report → Settings → Result Status RunFault → Course R ReaderState → Course W WriterState → Type 0
 RunEnds report settings (Ok status) reader writer = RunsToEnd (ReportsOnHeap report settings status (shown_before reader) (shown_after reader) (shown_before writer) (shown_after writer)) (shown_before reader) (shown_after reader) (shown_before writer) (shown_after writer)
-RunEnds report settings (Err Read) reader writer = RunsToRead (heap_notes settings) (shown_before reader) (shown_after reader) (shown_before writer) (shown_after writer)
+RunEnds report settings (Err Read) reader writer = RunsToRead (Notes (heap_notes settings)) (shown_before reader) (shown_after reader) (shown_before writer) (shown_after writer)
 RunEnds report settings (Err Write) reader writer = RunsToWrite (StopsAtWrite HasReadUpTo (moments (started settings)) (TellsReport report settings) (shown_before reader) (shown_after reader) (shown_before writer) (shown_after writer)) (shown_before reader) (shown_after reader) (shown_before writer) (shown_after writer)
 RunEnds report settings (Err OutOfMemory) reader writer = NothingDone reader writer
 RunEnds report settings (Err BadSettings) reader writer = NothingDone reader writer

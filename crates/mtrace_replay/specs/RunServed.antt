@@ -17,7 +17,7 @@ use Rattle.mtrace_replay.specs.declared.held.count.Count.{Count}
 use Rattle.mtrace_replay.specs.Calls.{Caller}
 use Rattle.mtrace_replay.specs.Callers.{calls_in, temporary_in, AreCallers, all_of}
 use Rattle.mtrace_replay.specs.Served.{served_moments, served_history, served_diagnostics, served_noted, Standing, StandsWithoutHeap}
-use Rattle.mtrace_replay.specs.Following.{HasReadThese, RunsToEnd, RunsToRead, RunsToWrite, RunsToMemory}
+use Rattle.mtrace_replay.specs.Following.{Notes, HasReadThese, RunsToEnd, RunsToRead, RunsToWrite, RunsToMemory}
 use Rattle.mtrace_replay.specs.Reporting.{Reports, StopsAtWrite}
 use Rattle.mtrace_replay.specs.Again.{RunsFirst}
 use Rattle.mtrace_replay.specs.Course.{Course, shown_before, shown_after}
@@ -83,9 +83,9 @@ ReportsServed report = Reports served_moments (TellsServed report)
 -- how a run ended, by what it answers, which is never `BadSettings` or `Image`
 abbrev pub ServedEnds : LedgerReport → Result Status RunFault → (reader_old reader_new : ReaderState) (writer_old writer_new : WriterState) → Type 0
 ServedEnds report (Ok status) reader_old reader_new writer_old writer_new = RunsToEnd (ReportsServed report status reader_old reader_new writer_old writer_new) reader_old reader_new writer_old writer_new
-ServedEnds report (Err Read) reader_old reader_new writer_old writer_new = RunsToRead served_noted reader_old reader_new writer_old writer_new
+ServedEnds report (Err Read) reader_old reader_new writer_old writer_new = RunsToRead (Notes served_noted) reader_old reader_new writer_old writer_new
 ServedEnds report (Err Write) reader_old reader_new writer_old writer_new = RunsToWrite (StopsAtWrite HasReadThese served_moments (TellsServed report) reader_old reader_new writer_old writer_new) reader_old reader_new writer_old writer_new
-ServedEnds report (Err OutOfMemory) reader_old reader_new writer_old writer_new = RunsToMemory served_noted reader_old reader_new writer_old writer_new
+ServedEnds report (Err OutOfMemory) reader_old reader_new writer_old writer_new = RunsToMemory (Notes served_noted) reader_old reader_new writer_old writer_new
 ServedEnds report (Err _) reader_old reader_new writer_old writer_new = ⊥
 
 -- What a run without a heap leaves. The reader has the same bytes in whole.

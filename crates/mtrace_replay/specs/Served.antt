@@ -15,7 +15,7 @@ use Rattle.mtrace_replay.specs.Sites.{Site, AreTallied}
 use Rattle.mtrace_replay.specs.Calls.{Called, CountsMore, CountsReleased}
 use Rattle.mtrace_replay.specs.Callers.{calls_in, temporary_in, AreCounted}
 use Rattle.mtrace_replay.specs.Ledger.{entry_under, LedgerState, KeepsPeak}
-use Rattle.mtrace_replay.specs.LineReplay.{LineRules}
+use Rattle.mtrace_replay.specs.LineReplay.{LineRules, Notes}
 
 -- what stands in each moment in the place of a heap
 abbrev pub no_heap : Bare
@@ -154,6 +154,7 @@ ledger_rules = record {
   Start = Unit {0};
   Stands = λ start replay past. StandsWithoutHeap replay past;
   noted = λ start past. served_noted past;
+  Tells = λ start. Notes served_noted;
   lines = λ replay. replay.lines;
   IsReady = λ replay. Unit {0};
   fixed = λ replay. 0;

@@ -11,6 +11,7 @@ pub mod half;
 pub mod line_text;
 pub mod lines;
 pub mod location_text;
+pub mod mark;
 pub mod sections;
 pub mod site;
 pub mod told;

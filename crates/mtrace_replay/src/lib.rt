@@ -17,6 +17,7 @@ pub use crate::held::diagnostic::{Diagnostic, Kind, Note};
 pub use crate::held::entry::Entry;
 pub use crate::no_heap::report::LedgerReport;
 pub use crate::no_heap::run::run_ledger;
+pub use crate::no_heap::snapshots::run_ledger_snapshots;
 pub use crate::no_heap::timeline::run_ledger_timeline;
 pub use crate::parts::run::run_fit_heaps;
 pub use crate::runs::fit::run_fit;

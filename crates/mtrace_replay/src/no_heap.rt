@@ -1,5 +1,6 @@
 //! A log replayed without a heap: what is held, of any number of blocks.
 
+mod clock;
 mod gathered;
 pub(crate) mod ledger;
 mod line;
@@ -11,4 +12,5 @@ pub(crate) mod replay;
 pub(crate) mod report;
 pub(crate) mod run;
 pub(crate) mod shares;
+pub(crate) mod snapshots;
 pub(crate) mod timeline;

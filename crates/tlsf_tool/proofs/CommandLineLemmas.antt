@@ -111,11 +111,11 @@ no_such one text none some = let e : None ≡ Some text = sym none ∙ some in c
 -- the subcommand of a command
 abbrev subcommand_text : Command → Text
 subcommand_text (Report name settings log) = name_text name
-subcommand_text (Ledger Held log) = codes "leaks"
-subcommand_text (Ledger Sums log) = codes "peak"
-subcommand_text (Ledger ledger.Sites log) = codes "sites"
-subcommand_text (Ledger Callers log) = codes "sites"
-subcommand_text (Ledger Nothing log) = []
+subcommand_text (Ledger Held every log) = codes "leaks"
+subcommand_text (Ledger Sums every log) = codes "peak"
+subcommand_text (Ledger ledger.Sites every log) = codes "sites"
+subcommand_text (Ledger Callers every log) = codes "sites"
+subcommand_text (Ledger Nothing every log) = []
 subcommand_text (Parts heaps log) = codes "fit"
 subcommand_text (Reread (Sites settings) log) = codes "sites"
 subcommand_text (Reread (Timeline heap parts) log) = codes "timeline"
@@ -127,11 +127,11 @@ subcommand_text (Check image) = codes "check"
 
 asked_under : (found : Text × List Row) (command : Command) → MatchesAskFor (Some found) command → found.0 ≡ subcommand_text command
 asked_under found (Report name settings log) asks = asks.0
-asked_under found (Ledger Held log) asks = asks.0.0
-asked_under found (Ledger Sums log) asks = asks.0.0
-asked_under found (Ledger ledger.Sites log) asks = asks.0.0
-asked_under found (Ledger Callers log) asks = asks.0.0
-asked_under found (Ledger Nothing log) asks = absurd asks.0.0
+asked_under found (Ledger Held every log) asks = asks.0.0
+asked_under found (Ledger Sums every log) asks = asks.0.0
+asked_under found (Ledger ledger.Sites every log) asks = asks.0.0
+asked_under found (Ledger Callers every log) asks = asks.0.0
+asked_under found (Ledger Nothing every log) asks = absurd asks.0.0
 asked_under found (Parts heaps log) asks = asks.0
 asked_under found (Reread (Sites settings) log) asks = asks.0
 asked_under found (Reread (Timeline heap parts) log) asks = asks.0
@@ -151,13 +151,17 @@ module _ (rows : List Row) where
   abbrev HasBoth : Type 0
   HasBoth = ((heaps : ℕ) × HasNumber rows (codes "heaps") 32 heaps) × ((step : ℕ) × HasNumber rows (codes "step") 64 step)
 
-  -- no heap is asked for, and there is a setting of one beside that
-  abbrev HasTooMuch : Type 0
-  HasTooMuch = HasNoHeap rows × (HasSettings rows default_settings → ⊥)
+  -- snapshots are asked for
+  abbrev HasEvery : Type 0
+  HasEvery = (every : ℕ) × HasNumber rows (codes "every") 64 every
 
-  -- who asks is asked for, and there is a setting of a heap beside that
+  -- no heap is asked for, and there is a setting of one beside that; or a heap is, and there are snapshots beside that
+  abbrev HasTooMuch : Type 0
+  HasTooMuch = (HasNoHeap rows × (HasSettings rows default_settings → ⊥)) ⊎ ((HasNoHeap rows → ⊥) × HasEvery)
+
+  -- who asks is asked for, or snapshots are, and there is a setting of a heap beside that
   abbrev pub HasCallsOnHeap : Type 0
-  HasCallsOnHeap = HasCalls rows × (HasNoSetting rows → ⊥)
+  HasCallsOnHeap = (HasCalls rows ⊎ HasEvery) × (HasNoSetting rows → ⊥)
 
   -- there are no bounds of a program without heaps by size, and no such heaps without bounds
   abbrev pub HasNoSize : Type 0
@@ -171,7 +175,7 @@ module _ (rows : List Row) where
       (MatchBool (bytes_eq text (codes "timeline")) (HasNoParts ⊎ (first_of (codes "LOG") rows ≡ None))
       (MatchBool (bytes_eq text (codes "save")) (HasNoLog rows ⊎ (first_of (codes "IMAGE") rows ≡ None))
       (MatchBool (bytes_eq text (codes "sites")) ((first_of (codes "LOG") rows ≡ None) ⊎ HasCallsOnHeap)
-      (MatchBool (bytes_eq text (codes "walk")) (HasNoLog rows ⊎ HasNoHeap rows) (HasNoLog rows ⊎ HasTooMuch)))))))
+      (MatchBool (bytes_eq text (codes "walk")) (HasNoLog rows ⊎ (HasNoHeap rows ⊎ ((HasNoHeap rows → ⊥) × HasEvery))) (HasNoLog rows ⊎ HasTooMuch)))))))
 
   no_log : (settings : Settings) (log : String Global) → HasNoLog rows → HasSettings rows settings → first_of (codes "LOG") rows ≡ Some (string_bytes log) → ⊥
   no_log settings log (inl never) has is = never settings has
@@ -179,24 +183,30 @@ module _ (rows : List Row) where
 
   has_all : (text : Text) (command : Command) → MatchesAskFor (Some (text, rows)) command → IsMissing (subcommand_text command) → ⊥
   has_all text (Report Leaks settings log) asks (inl missing) = no_log settings log missing asks.2 asks.3
-  has_all text (Report Leaks settings log) asks (inr much) = asks.1 much.0
+  has_all text (Report Leaks settings log) asks (inr (inl much)) = asks.1 much.0
+  has_all text (Report Leaks settings log) asks (inr (inr much)) = asks.4 much.1.0 much.1.1
   has_all text (Report Peak settings log) asks (inl missing) = no_log settings log missing asks.2 asks.3
-  has_all text (Report Peak settings log) asks (inr much) = asks.1 much.0
+  has_all text (Report Peak settings log) asks (inr (inl much)) = asks.1 much.0
+  has_all text (Report Peak settings log) asks (inr (inr much)) = asks.4 much.1.0 much.1.1
   has_all text (Report Walk settings log) asks (inl missing) = no_log settings log missing asks.2 asks.3
-  has_all text (Report Walk settings log) asks (inr without) = asks.1 without
-  has_all text (Ledger Held log) asks (inl missing) = no_log default_settings log missing asks.0.2 asks.1
-  has_all text (Ledger Held log) asks (inr much) = much.1 asks.0.2
-  has_all text (Ledger Sums log) asks (inl missing) = no_log default_settings log missing asks.0.2 asks.1
-  has_all text (Ledger Sums log) asks (inr much) = much.1 asks.0.2
-  has_all text (Ledger ledger.Sites log) asks (inl none) = no_such (first_of (codes "LOG") rows) (string_bytes log) none asks.1
-  has_all text (Ledger ledger.Sites log) asks (inr much) = asks.0.2 much.0
-  has_all text (Ledger Callers log) asks (inl none) = no_such (first_of (codes "LOG") rows) (string_bytes log) none asks.1
-  has_all text (Ledger Callers log) asks (inr much) = much.1 asks.0.1
-  has_all text (Ledger Nothing log) asks missing = asks.0.0
+  has_all text (Report Walk settings log) asks (inr (inl without)) = asks.1 without
+  has_all text (Report Walk settings log) asks (inr (inr much)) = asks.4 much.1.0 much.1.1
+  has_all text (Ledger Held every log) asks (inl missing) = no_log default_settings log missing asks.0.2 asks.1
+  has_all text (Ledger Held every log) asks (inr (inl much)) = much.1 asks.0.2
+  has_all text (Ledger Held every log) asks (inr (inr much)) = much.0 asks.0.1
+  has_all text (Ledger Sums every log) asks (inl missing) = no_log default_settings log missing asks.0.2 asks.1
+  has_all text (Ledger Sums every log) asks (inr (inl much)) = much.1 asks.0.2
+  has_all text (Ledger Sums every log) asks (inr (inr much)) = much.0 asks.0.1
+  has_all text (Ledger ledger.Sites every log) asks (inl none) = no_such (first_of (codes "LOG") rows) (string_bytes log) none asks.1
+  has_all text (Ledger ledger.Sites every log) asks (inr much) = much.1 asks.0.1
+  has_all text (Ledger Callers every log) asks (inl none) = no_such (first_of (codes "LOG") rows) (string_bytes log) none asks.1
+  has_all text (Ledger Callers every log) asks (inr much) = much.1 asks.0.1
+  has_all text (Ledger Nothing every log) asks missing = asks.0.0
   has_all text (Parts heaps log) asks (inl none) = no_such (first_of (codes "LOG") rows) (string_bytes log) none asks.3
   has_all text (Parts heaps log) asks (inr both) = asks.2 both.1.0 both.1.1
   has_all text (Reread (Sites settings) log) asks (inl none) = no_such (first_of (codes "LOG") rows) (string_bytes log) none asks.3
-  has_all text (Reread (Sites settings) log) asks (inr much) = asks.2 much.0
+  has_all text (Reread (Sites settings) log) asks (inr (inl calls, some)) = asks.2 calls
+  has_all text (Reread (Sites settings) log) asks (inr (inr every, some)) = asks.4 every.0 every.1
   has_all text (Reread (Timeline heap parts) log) asks (inl never) = never parts asks.2
   has_all text (Reread (Timeline heap parts) log) asks (inr none) = no_such (first_of (codes "LOG") rows) (string_bytes log) none asks.3
   has_all text (Reread (Fit step) log) asks (inl none) = no_such (first_of (codes "LOG") rows) (string_bytes log) none asks.3
@@ -236,9 +246,14 @@ module _ (rows : List Row) where
 
   pub follow_asks_nothing : (name : HeapReport) (settings : Settings) → HasNoHeap rows → HasSettings rows settings → (settings ≡ default_settings → ⊥)
       → AsksNothing (Some (name_text name, rows))
-  follow_asks_nothing Leaks settings without has other = text_asks_nothing (codes "leaks") (inr (without, λ default. other (one_heap settings default_settings has default)))
-  follow_asks_nothing Peak settings without has other = text_asks_nothing (codes "peak") (inr (without, λ default. other (one_heap settings default_settings has default)))
-  follow_asks_nothing Walk settings without has other = text_asks_nothing (codes "walk") (inr without)
+  follow_asks_nothing Leaks settings without has other = text_asks_nothing (codes "leaks") (inr (inl (without, λ default. other (one_heap settings default_settings has default))))
+  follow_asks_nothing Peak settings without has other = text_asks_nothing (codes "peak") (inr (inl (without, λ default. other (one_heap settings default_settings has default))))
+  follow_asks_nothing Walk settings without has other = text_asks_nothing (codes "walk") (inr (inl without))
+
+  pub every_asks_nothing : (name : HeapReport) → (HasNoHeap rows → ⊥) → HasEvery → AsksNothing (Some (name_text name, rows))
+  every_asks_nothing Leaks on_heap every = text_asks_nothing (codes "leaks") (inr (inr (on_heap, every)))
+  every_asks_nothing Peak on_heap every = text_asks_nothing (codes "peak") (inr (inr (on_heap, every)))
+  every_asks_nothing Walk on_heap every = text_asks_nothing (codes "walk") (inr (inr (on_heap, every)))
 
   pub flag_read : (id text : Text) (result : Bool) → first_of id rows ≡ Some text → result ≡ bytes_eq text (codes "true")
       → MatchBool result (HasFlag id rows) (HasFlag id rows → ⊥)
@@ -252,7 +267,7 @@ module _ (rows : List Row) where
   flag_missing id none has = no_such (first_of id rows) (codes "true") none has
 
   pub walk_asks_nothing : HasNoHeap rows → AsksNothing (Some (codes "walk", rows))
-  walk_asks_nothing without = text_asks_nothing (codes "walk") (inr without)
+  walk_asks_nothing without = text_asks_nothing (codes "walk") (inr (inl without))
 
   pub sites_asks_nothing : (first_of (codes "LOG") rows ≡ None) ⊎ HasCallsOnHeap → AsksNothing (Some (codes "sites", rows))
   sites_asks_nothing missing = text_asks_nothing (codes "sites") missing

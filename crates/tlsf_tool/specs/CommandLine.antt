@@ -71,9 +71,13 @@ abbrev pub report_line : Text → App
 report_line = heap_line (codes "16777216") (codes "8192")
 
 -- the default heap of these is the greatest
+-- the milliseconds between snapshots
+abbrev pub every_rule : Rule
+every_rule = given_rule (codes "every") (parser.Unsigned 1 4294967295)
+
 -- a report's subcommand that needs no heap
 abbrev pub ledger_line : Text → App
-ledger_line name = with_rule (report_line name) (flag_rule (codes "no-heap"))
+ledger_line name = with_rule (with_rule (report_line name) (flag_rule (codes "no-heap"))) every_rule
 
 -- a subcommand that takes a log, and a heap's settings where one is asked for
 abbrev pub choice_line : Text → App
@@ -86,7 +90,7 @@ choice_line name =
 
 -- who holds the memory, and who asks for it where the option says so
 abbrev pub sites_line : App
-sites_line = with_rule (choice_line (codes "sites")) (flag_rule (codes "calls"))
+sites_line = with_rule (with_rule (choice_line (codes "sites")) (flag_rule (codes "calls"))) every_rule
 
 abbrev pub timeline_line : App
 timeline_line = with_rule (choice_line (codes "timeline")) (option_rule (codes "points") (codes "100") (parser.Signed (pos 1) (pos 10000)))
@@ -245,10 +249,11 @@ HasNoLog rows = ((settings : Settings) → HasSettings rows settings → ⊥) �
 abbrev pub MatchesAskFor : Option (Text × List Row) → Command → Type 0
 MatchesAskFor None command = ⊥
 MatchesAskFor (Some found) (Report name settings log) = (found.0 ≡ name_text name) × (HasNoHeap found.1 → ⊥)
-    × HasSettings found.1 settings × (first_of (codes "LOG") found.1 ≡ Some (string_bytes log))
-MatchesAskFor (Some found) (Ledger report log) = AskForLedger report found × (first_of (codes "LOG") found.1 ≡ Some (string_bytes log))
+    × HasSettings found.1 settings × (first_of (codes "LOG") found.1 ≡ Some (string_bytes log)) × HasNone found.1 (codes "every") 64
+MatchesAskFor (Some found) (Ledger report every log) = AskForLedger report found × (first_of (codes "LOG") found.1 ≡ Some (string_bytes log))
+    × HasGiven found.1 (codes "every") every
 MatchesAskFor (Some found) (Reread (Sites settings) log) = (found.0 ≡ codes "sites")
-    × HasHeap found.1 (Some settings) × (HasCalls found.1 → ⊥) × (first_of (codes "LOG") found.1 ≡ Some (string_bytes log))
+    × HasHeap found.1 (Some settings) × (HasCalls found.1 → ⊥) × (first_of (codes "LOG") found.1 ≡ Some (string_bytes log)) × HasNone found.1 (codes "every") 64
 MatchesAskFor (Some found) (Reread (Timeline heap parts) log) = (found.0 ≡ codes "timeline")
     × HasHeap found.1 heap × HasNumber found.1 (codes "points") 32 parts × (first_of (codes "LOG") found.1 ≡ Some (string_bytes log))
 MatchesAskFor (Some found) (Reread (Fit step) log) = (found.0 ≡ codes "fit") × HasGiven found.1 (codes "step") step × HasNone found.1 (codes "heaps") 32

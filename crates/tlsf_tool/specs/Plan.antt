@@ -1,5 +1,5 @@
 -- What the program does for what it is asked.
-use Rattle.std.specs.Prelude.{◌≡◌, ◌⊎◌, ◌&&◌, Bool, true, false, not, List, Result, Err, String, IfOk, IfErr, codes, string_bytes, bytes_eq}
+use Rattle.std.specs.Prelude.{◌≡◌, ◌⊎◌, ◌&&◌, Bool, true, false, not, List, None, Result, Err, String, IfOk, IfErr, codes, string_bytes, bytes_eq}
 use Rattle.std.specs.declared.alloc.Global.{Global}
 use Rattle.tlsf_tool.specs.declared.asked.Command.{Command}
 use Rattle.tlsf_tool.specs.declared.asked.Command.TheVariants.{Report, Ledger, Parts, Reread, Save}
@@ -18,10 +18,10 @@ is_dash name = bytes_eq (string_bytes name) (codes "-")
 abbrev pub is_told_of : Streams → String Global → Bool
 is_told_of streams log = streams.shown && not (streams.typed && is_dash log)
 
--- It is told how far a run is where a log is read.
+-- It is told how far a run is where a log is read, and no snapshots come meanwhile.
 abbrev pub is_told : Streams → Command → Bool
 is_told streams (Report name settings log) = is_told_of streams log
-is_told streams (Ledger report log) = is_told_of streams log
+is_told streams (Ledger report None log) = is_told_of streams log
 is_told streams (Parts heaps log) = is_told_of streams log
 is_told streams (Reread what log) = streams.shown
 is_told streams (Save settings log image) = is_told_of streams log

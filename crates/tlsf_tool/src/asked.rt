@@ -52,6 +52,8 @@ pub enum Command {
     Ledger {
         /// Which report.
         report: LedgerReport,
+        /// How many milliseconds apart its snapshots are, where some are asked for.
+        every: Option<u64>,
         /// The log's name, `-` for standard input.
         log: String,
     },

@@ -50,7 +50,8 @@ const LEAKS: Help = Help {
     examples: "Examples:
   tlsf leaks a.log                                   what is not freed at the end of a.log
   tlsf leaks --records 65535 --pool 1073741808 a.log the same, where it holds more than 8192 blocks
-  tlsf leaks --no-heap a.log                         the same, where it holds more than 65535",
+  tlsf leaks --no-heap a.log                         the same, where it holds more than 65535
+  tlsf leaks --no-heap --every 60000 a.log           and what was not freed yet, minute by minute",
 };
 
 const PEAK: Help = Help {
@@ -73,7 +74,8 @@ const SITES: Help = Help {
     examples: "Examples:
   tlsf sites a.log                              who holds the memory of a.log
   tlsf sites --calls a.log                      the same, and who asks how often
-  xz -dc a.log.xz | tlsf sites -                the same of a compressed log
+  tlsf sites --every 60000 a.log                the same, and who held it minute by minute
+  xz -dc a.log.xz | tlsf sites -                who holds the memory of a log that is compressed
   tlsf sites --pool 65536 --records 500 a.log   the same on a heap that has no more",
 };
 
@@ -129,6 +131,9 @@ const CHOSEN_POOLS: &str =
 
 const CHOSEN_RECORDS: &str =
     "On a heap: number of records, one for each block, from the number of pools to 65535, else 65535";
+
+const EVERY: &str =
+    "Also put the report so far, about so many milliseconds apart, by the times that the log tells; from 1 to 4294967295, not on a heap";
 
 /// The option of this id, whose value the parser takes.
 fn option<'a>(
@@ -230,6 +235,13 @@ fn records_option<'a>(alloc: Global, help: &'a str) -> Arg<'a>
     option(alloc, "records", "N", count(65_535), help)
 }
 
+/// The option of the milliseconds between snapshots.
+fn every_option<'a>(alloc: Global) -> Arg<'a>
+    ensures { IsArgOf (given_rule (codes "every") (Unsigned 1 4294967295)) result }
+{
+    option(alloc, "every", "MS", bytes(1, u32::MAX), EVERY)
+}
+
 /// A subcommand that takes a heap's settings and a log, with these defaults of a pool's bytes and of the records.
 fn heap_command<'a>(
     alloc: Global,
@@ -270,8 +282,10 @@ fn ledger_command<'a>(alloc: Global, name: &'a str, help: Help) -> Result<Comman
     ensures { IfOk result (IsCommandOf (ledger_line name.entry.now)) }
 {
     let no_heap =
-        "Give each block that is asked for, of any size and any number of them; with no other option";
-    report_command(alloc, name, help)?.arg(flag(alloc, "no-heap", no_heap))
+        "Give each block that is asked for, of any size and any number of them; with no option of a heap";
+    report_command(alloc, name, help)?
+        .arg(flag(alloc, "no-heap", no_heap))?
+        .arg(every_option(alloc))
 }
 
 /// The subcommand that tells who holds the memory.
@@ -279,8 +293,10 @@ fn sites_command<'a>(alloc: Global) -> Result<Command<'a>, AllocError>
     ensures { IfOk result (IsCommandOf sites_line) }
 {
     let calls =
-        "Also tell who asks, over the whole log: calls, bytes, and how many blocks the very next line frees; with no other option";
-    choice_command(alloc, "sites", SITES)?.arg(flag(alloc, "calls", calls))
+        "Also tell who asks, over the whole log: calls, bytes, and how many blocks the very next line frees; with no option of a heap";
+    choice_command(alloc, "sites", SITES)?
+        .arg(flag(alloc, "calls", calls))?
+        .arg(every_option(alloc))
 }
 
 /// The subcommand that tells what is held over the lines.

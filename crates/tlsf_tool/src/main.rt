@@ -32,7 +32,7 @@ use crate::plan::{Streams, is_standard, planned};
 use crate::run::Run;
 use crate::service::{
     serve, serve_again, serve_help, serve_ledger, serve_parts, serve_save, serve_size,
-    serve_size_parts,
+    serve_size_parts, serve_snapshots,
 };
 use crate::setting_faults::{BAD_SETTINGS, tell_bad_bounds, tell_bad_heap, tell_bad_reading};
 use mtrace_replay::{Bounds, LedgerReport, PartBounds, RunFault, Settings};
@@ -151,6 +151,41 @@ fn follow<R: Read + Drop>(
         &mut errors,
     );
     Ok(run.end(status, log.name.as_str(), ""))
+}
+
+/// Makes a report of a log that is open, without a heap, with snapshots meanwhile. Each is put at once.
+fn follow_snapshots<R: Read + Drop>(
+    run: &Run<'_>,
+    report: LedgerReport,
+    every: u64,
+    log: Input<R>,
+) -> Result<u8, ToolFault> {
+    let mut reader = run.reader(log.file);
+    let mut errors = run.errors();
+    let mut writer = run.unbuffered();
+    let status = serve_snapshots(
+        run.rt.alloc(),
+        run.seed()?,
+        report,
+        every,
+        &mut reader,
+        &mut writer,
+        &mut errors,
+    );
+    Ok(run.end(status, log.name.as_str(), ""))
+}
+
+/// Makes a report of a log that is open, without a heap, and snapshots of it where they are asked for.
+fn follow_by<R: Read + Drop>(
+    run: &Run<'_>,
+    report: LedgerReport,
+    every: Option<u64>,
+    log: Input<R>,
+) -> Result<u8, ToolFault> {
+    match every {
+        Some(every) => follow_snapshots(run, report, every, log),
+        None => follow(run, report, log),
+    }
 }
 
 /// Tells which heaps by size serve a log that is open.
@@ -282,11 +317,16 @@ fn report_log(
 }
 
 /// Makes a report of a log without a heap. The log is opened first where it is a file.
-fn follow_log(run: &Run<'_>, report: LedgerReport, log: String) -> Result<u8, ToolFault> {
+fn follow_log(
+    run: &Run<'_>,
+    report: LedgerReport,
+    every: Option<u64>,
+    log: String,
+) -> Result<u8, ToolFault> {
     if is_standard(&log) {
-        return follow(run, report, standard_input(run, log)?);
+        return follow_by(run, report, every, standard_input(run, log)?);
     }
-    follow(run, report, open_path(run, log, false)?)
+    follow_by(run, report, every, open_path(run, log, false)?)
 }
 
 /// Tells which heaps by size serve a log, which is opened first where it is a file.
@@ -318,7 +358,7 @@ fn act(run: &Run<'_>, command: Command) -> Result<u8, ToolFault> {
             settings,
             log,
         } => report_log(run, name, settings, log),
-        Command::Ledger { report, log } => follow_log(run, report, log),
+        Command::Ledger { report, every, log } => follow_log(run, report, every, log),
         Command::Parts { heaps, log } => parts_log(run, heaps, log),
         Command::Reread { what, log } => reread(run, what, log),
         Command::Save {

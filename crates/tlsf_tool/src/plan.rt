@@ -41,11 +41,18 @@ fn is_told(streams: Streams, command: &Command) -> bool
 {
     match command {
         Command::Report { log, .. }
-        | Command::Ledger { log, .. }
+        | Command::Ledger {
+            every: None,
+            log,
+            ..
+        }
         | Command::Parts { log, .. }
         | Command::Save { log, .. } => streams.shown && !(streams.typed && is_standard(log)),
         Command::Reread { .. } => streams.shown,
-        Command::Size { .. } | Command::SizeParts { .. } | Command::Check { .. } => false,
+        Command::Ledger { every: Some(_), .. }
+        | Command::Size { .. }
+        | Command::SizeParts { .. }
+        | Command::Check { .. } => false,
     }
 }
 

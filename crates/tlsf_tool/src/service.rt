@@ -4,6 +4,7 @@ ghost use Rattle.std.specs.Prelude.{◌≡◌};
 ghost use Rattle.mtrace_replay.specs.Course.{course};
 ghost use Rattle.mtrace_replay.specs.Run.{Runs};
 ghost use Rattle.mtrace_replay.specs.RunServed.{RunsServed};
+ghost use Rattle.mtrace_replay.specs.Snapshots.{RunsSnapshots};
 ghost use Rattle.mtrace_replay.specs.RunParts.{RunsParts};
 ghost use Rattle.mtrace_replay.specs.Size.{RunsSize};
 ghost use Rattle.mtrace_replay.specs.SizeParts.{RunsSizeParts};
@@ -17,8 +18,8 @@ use arrayvec::ArrayString;
 use mtrace_log::{Again, Failed, Sink, Source, put_all};
 use mtrace_replay::{
     Bounds, LedgerReport, PartBounds, RunFault, Settings, Status, Watch, run_fit, run_fit_heaps,
-    run_leaks, run_ledger, run_ledger_timeline, run_peak, run_save, run_sites, run_size,
-    run_size_parts, run_timeline, run_walk,
+    run_leaks, run_ledger, run_ledger_snapshots, run_ledger_timeline, run_peak, run_save,
+    run_sites, run_size, run_size_parts, run_timeline, run_walk,
 };
 use std::alloc::Global;
 use std::fmt::Write;
@@ -118,6 +119,27 @@ pub fn serve_ledger<R: Source, W: Sink, E: Sink>(
         result errors.old errors.new }
 {
     end_run(errors, run_ledger(alloc, seed, reader, writer, report))
+}
+
+/// Makes a report of what the reader has left, without a heap, with snapshots each `every` milliseconds of the log. Puts the line of a
+/// fault to `errors`, whose own fault doesn't matter. Answers the status that the program ends with. It is 0 where nothing was found,
+/// 1 where something was, and 2 where `every` is 0. It is 3 where the reader or the writer failed, and 4 where memory was refused.
+pub fn serve_snapshots<R: Source, W: Sink, E: Sink>(
+    alloc: Global,
+    seed: RandomState,
+    report: LedgerReport,
+    every: u64,
+    reader: &mut R,
+    writer: &mut W,
+    errors: &mut E,
+) -> u8
+    ensures { EndsAs (λ outcome. RunsSnapshots every report outcome (R.shown reader.old) (R.shown reader.new) (W.shown writer.old) (W.shown writer.new))
+        result errors.old errors.new }
+{
+    end_run(
+        errors,
+        run_ledger_snapshots(alloc, seed, reader, writer, report, every),
+    )
 }
 
 /// Makes what reads its log more than once, of the log that the reader has left.

@@ -23,6 +23,7 @@ mod rows;
 mod sites;
 mod size;
 mod size_parts;
+mod snapshots;
 mod store;
 mod timeline;
 mod words;

@@ -20,7 +20,7 @@ struct NumberOption {
 /// The commands with the options of a heap.
 const OF_A_HEAP: &str = "leaks, peak, walk, sites, timeline and save";
 
-static OPTIONS: [NumberOption; 10] = [
+static OPTIONS: [NumberOption; 11] = [
     NumberOption {
         name: "--pool",
         shown: "--pool <BYTES>",
@@ -56,6 +56,12 @@ static OPTIONS: [NumberOption; 10] = [
         shown: "--heaps <K>",
         commands: "fit",
         takes: Some(("a whole number from 1 to 8", "4")),
+    },
+    NumberOption {
+        name: "--every",
+        shown: "--every <MS>",
+        commands: "leaks, peak and sites",
+        takes: Some(("a whole number from 1 to 4294967295", "60000")),
     },
     NumberOption {
         name: "--blocks",

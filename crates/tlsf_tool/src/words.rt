@@ -26,6 +26,10 @@ const NO_SETTINGS: &str =
 const NO_CALLS: &str =
     "error: --calls takes no option beside it: --pool, --pools and --records are of a heap\n\nFor more information, try '--help'.\n";
 
+/// The text where snapshots are asked of a report on a heap.
+const NO_EVERY: &str =
+    "error: --every is of a report without a heap: leaks and peak take --no-heap beside it, sites none of --pool, --pools and --records\n\nFor more information, try '--help'.\n";
+
 /// The text where the step between sizes stands beside the number of heaps.
 const NO_STEP: &str =
     "error: --heaps takes no option beside it: --step is of one heap\n\nFor more information, try '--help'.\n";
@@ -36,16 +40,20 @@ fn asked_sites(alloc: Global, matches: &ArgMatches<'_>) -> Result<Command, ToolF
 {
     let log = word_of(alloc, matches, "LOG")?;
     let has_calls = has_flag(matches, "calls");
+    let every = size_of(matches, "every");
     let Some(settings) = heap_of(matches) else {
         let report = if has_calls {
             LedgerReport::Callers
         } else {
             LedgerReport::Sites
         };
-        return Ok(Command::Ledger { report, log });
+        return Ok(Command::Ledger { report, every, log });
     };
     if has_calls {
         return Err(ToolFault::usage(alloc, NO_CALLS));
+    }
+    if let Some(_every) = every {
+        return Err(ToolFault::usage(alloc, NO_EVERY));
     }
     let what = Rereading::Sites(settings);
     Ok(Command::Reread { what, log })
@@ -135,7 +143,8 @@ fn asked_ledger(
     if settings != Settings::DEFAULT {
         return Err(ToolFault::usage(alloc, NO_SETTINGS));
     }
-    Ok(Command::Ledger { report, log })
+    let every = size_of(matches, "every");
+    Ok(Command::Ledger { report, every, log })
 }
 
 /// What the matches of the subcommand ask for of a report on a heap.
@@ -148,6 +157,9 @@ fn asked_on_heap(
     ensures { MatchesGive (Some (name_text name, rows_of (found_of matches.now))) result }
 {
     let (settings, log) = log_of(alloc, matches)?;
+    if let Some(_every) = size_of(matches, "every") {
+        return Err(ToolFault::usage(alloc, NO_EVERY));
+    }
     Ok(Command::Report {
         name,
         settings,

@@ -10,7 +10,7 @@ use Rattle.mtrace_replay.specs.declared.no_heap.prepared.Prepared.{Prepared}
 use Rattle.mtrace_replay.specs.declared.parts.replay.CountedReplay.{CountedReplay}
 use Rattle.mtrace_replay.specs.Prepared.{IsOf, HasNamed, prepared_text}
 use Rattle.mtrace_replay.specs.Moment.{half}
-use Rattle.mtrace_replay.specs.Following.{has_some, HasFollowed}
+use Rattle.mtrace_replay.specs.Following.{Notes, has_some, HasFollowed}
 use Rattle.mtrace_replay.specs.RunParts.{EndsCounted}
 use Rattle.mtrace_replay.specs.Served.{served_noted, StandsWithoutHeap}
 use Rattle.mtrace_replay.specs.CountedReplay.{counted_rules}
@@ -19,14 +19,14 @@ use Rattle.mtrace_replay.proofs.Running.RunLemmas.{followed_also}
 
 -- the counts aside, the ledger alone followed the lines
 abbrev pub alone : (replay : CountedReplay) (has_diagnostics : Bool) (reader_old reader_new : ReaderState) (writer_old writer_new : WriterState)
-    → HasFollowed (counted_rules.Stands tt replay) served_noted has_diagnostics reader_old reader_new writer_old writer_new
-    → HasFollowed (λ past. StandsWithoutHeap replay.ledger past) served_noted has_diagnostics reader_old reader_new writer_old writer_new
+    → HasFollowed (counted_rules.Stands tt replay) served_noted (Notes served_noted) has_diagnostics reader_old reader_new writer_old writer_new
+    → HasFollowed (λ past. StandsWithoutHeap replay.ledger past) served_noted (Notes served_noted) has_diagnostics reader_old reader_new writer_old writer_new
 alone replay has_diagnostics reader_old reader_new writer_old writer_new done =
-    followed_also (counted_rules.Stands tt replay) (λ past. StandsWithoutHeap replay.ledger past) served_noted has_diagnostics reader_old reader_new writer_old writer_new (λ past both. both.0) done
+    followed_also (counted_rules.Stands tt replay) (λ past. StandsWithoutHeap replay.ledger past) served_noted (Notes served_noted) has_diagnostics reader_old reader_new writer_old writer_new (λ past both. both.0) done
 
 -- all was written
 pub counted_all : (replay : CountedReplay) (has_diagnostics : Bool) (reader_old reader_new : ReaderState) (writer_old writer_middle writer_new : WriterState)
-    (done : HasFollowed (counted_rules.Stands tt replay) served_noted has_diagnostics reader_old reader_new writer_old writer_middle) (prepared : Prepared) (is_of : IsOf report.Nothing prepared) (named : HasNamed replay.ledger prepared) (status : Status)
+    (done : HasFollowed (counted_rules.Stands tt replay) served_noted (Notes served_noted) has_diagnostics reader_old reader_new writer_old writer_middle) (prepared : Prepared) (is_of : IsOf report.Nothing prepared) (named : HasNamed replay.ledger prepared) (status : Status)
     → Wrote writer_middle writer_new (served_end replay.ledger (prepared_text replay.ledger prepared))
     → status ≡ (if has_diagnostics || (has_some (half replay.ledger.lines replay.ledger.pending) || has_some replay.ledger.all) then Found else Clean)
     → EndsCounted status replay reader_old reader_new writer_old writer_new

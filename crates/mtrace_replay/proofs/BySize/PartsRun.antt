@@ -1,6 +1,6 @@
 -- The text that a run puts tells the parts of its log.
 use Rattle.std.proofs.Common.{cond, Bool, true, false, Option, Ok, Err, ◌≡◌, ℕ, zero, suc, ◌<◌, ◌≤◌, rules, List, [], ◌∷◌, ◌++◌, length, slice_index_or, reverse, refl, sym, ap, ◌∙◌, subst, arith}
-use Rattle.std.specs.Prelude.{◌==◌, ◌&&◌, is_some, if◌then◌else◌, Result, IfOk, IfErr}
+use Rattle.std.specs.Prelude.{◌==◌, ◌&&◌, is_some, if◌then◌else◌, Result, IfErr}
 use Rattle.std.specs.List.{Contains, list_all}
 use Rattle.std.proofs.lemmas.Bool.{false≢true, eqb-true, eq-eqb, ne_eqb}
 use Rattle.std.proofs.lemmas.List.{get_or_default}

@@ -23,7 +23,7 @@ use Rattle.tlsf_heap.proofs.Content.MemalignCases.{memalign_given}
 use Rattle.mtrace_replay.specs.declared.held.diagnostic.Diagnostic.{Diagnostic}
 use Rattle.mtrace_replay.specs.declared.held.diagnostic.Kind.TheVariants.{Refused}
 use Rattle.mtrace_replay.specs.Started.{Bare, left_by}
-use Rattle.mtrace_replay.specs.History.{held, pending}
+use Rattle.mtrace_replay.specs.History.{pending}
 use Rattle.mtrace_replay.specs.Moment.{ReadLine, Given, Moment, unserved, after_diagnostics, without, outcome, asked_size, rounded_bytes, asked_block, moment, is_new, half, Act, idle, give, take, move, plan, answered, moved, done}
 use Rattle.mtrace_replay.specs.Entry.{Entry}
 use Rattle.mtrace_replay.proofs.OnHeap.AskedBlock.{asked_records, asked_sized}

@@ -17,7 +17,7 @@ use Rattle.mtrace_replay.specs.History.{next_moment, moments, held, pending, con
 use Rattle.mtrace_replay.specs.Totals.{blocks_in, asked_bytes_in, rounded_bytes_in, is_served, Measures, IsMost}
 use Rattle.mtrace_replay.specs.Asked.{bytes_asked, class_asked, greater_class}
 use Rattle.mtrace_replay.specs.Replay.{Replayed, StandsFor, entries, heap_notes}
-use Rattle.mtrace_replay.specs.Following.{has_some, HasFollowed}
+use Rattle.mtrace_replay.specs.Following.{Notes, has_some, HasFollowed}
 use Rattle.mtrace_replay.specs.Needs.{of_one, bytes_of_block, Exchanges, BehindExchange, AreNeeds, needs_rules, EndsWithNeeds}
 use Rattle.mtrace_replay.proofs.History.TotalsLemmas.{measure_is_one, none_measured, most_none, most_goes_on}
 use Rattle.mtrace_replay.proofs.OnHeap.HeldFew.{rounded_few}
@@ -112,14 +112,14 @@ module _ (old new : Replayed) (settings : Settings) (past : List ReadLine) (line
 
 -- the needs aside, the replay alone followed the lines
 abbrev pub alone : (settings : Settings) (replay : NeedsReplay) (has_diagnostics : Bool) (reader_old reader_new : ReaderState) (writer_old writer_new : WriterState)
-    → HasFollowed (needs_rules.Stands settings replay) (heap_notes settings) has_diagnostics reader_old reader_new writer_old writer_new
-    → HasFollowed (λ past. StandsFor replay.replay settings past) (heap_notes settings) has_diagnostics reader_old reader_new writer_old writer_new
+    → HasFollowed (needs_rules.Stands settings replay) (heap_notes settings) (Notes (heap_notes settings)) has_diagnostics reader_old reader_new writer_old writer_new
+    → HasFollowed (λ past. StandsFor replay.replay settings past) (heap_notes settings) (Notes (heap_notes settings)) has_diagnostics reader_old reader_new writer_old writer_new
 alone settings replay has_diagnostics reader_old reader_new writer_old writer_new done =
-    followed_also (needs_rules.Stands settings replay) (λ past. StandsFor replay.replay settings past) (heap_notes settings) has_diagnostics reader_old reader_new writer_old writer_new (λ past both. both.0) done
+    followed_also (needs_rules.Stands settings replay) (λ past. StandsFor replay.replay settings past) (heap_notes settings) (Notes (heap_notes settings)) has_diagnostics reader_old reader_new writer_old writer_new (λ past both. both.0) done
 
 -- all was written of a run without a report
 pub ends_with_needs : (settings : Settings) (replay : NeedsReplay) (end : Replayed) (has_diagnostics : Bool) (status : Status) (reader_old reader_new : ReaderState) (writer_old writer_middle writer_new : WriterState)
-    → HasFollowed (needs_rules.Stands settings replay) (heap_notes settings) has_diagnostics reader_old reader_new writer_old writer_middle
+    → HasFollowed (needs_rules.Stands settings replay) (heap_notes settings) (Notes (heap_notes settings)) has_diagnostics reader_old reader_new writer_old writer_middle
     → Wrote writer_middle writer_new (end_text Nothing replay.replay)
     → status ≡ (if has_diagnostics || (has_some (half replay.replay.totals.lines replay.replay.pending) || has_some (entries replay.replay)) then Found else Clean)
     → end ≡ replay.replay → replay.replay.content.records ≡ settings.records → EndsWithNeeds settings status (record { replay = end; needs = replay.needs }) reader_old reader_new writer_old writer_new

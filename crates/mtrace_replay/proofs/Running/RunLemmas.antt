@@ -23,8 +23,7 @@ use Rattle.mtrace_log.specs.Output.{Wrote, Begins}
 use Rattle.mtrace_replay.specs.Replay.{Replayed, StandsFor, entries, added_diagnostics, heap_notes}
 use Rattle.mtrace_replay.specs.declared.runs.report.Report.{Report}
 use Rattle.mtrace_replay.specs.declared.runs.report.Report.TheVariants.{Nothing}
-use Rattle.mtrace_replay.specs.declared.heap.totals.Totals.{Totals}
-use Rattle.mtrace_replay.specs.Following.{HasReadUpTo, has_some, noted_text, HasFollowed, StopsWriting, ReadEnds}
+use Rattle.mtrace_replay.specs.Following.{Notes, HasReadUpTo, has_some, noted_text, HasFollowed, StopsWriting, ReadEnds}
 use Rattle.mtrace_replay.specs.Reporting.{all_diagnostics, Reports, StopsAtWrite}
 use Rattle.mtrace_replay.specs.Run.{TellsReport, ReportsOnHeap, Runs, HoldsAtEnd, EndsAt}
 use Rattle.mtrace_replay.specs.Course.{Course, shown_before, shown_after}
@@ -61,35 +60,42 @@ pub some_held : {A : Type 0} (held : List A) (n : ℕ) → n ≡ length held →
 some_held [] n is = le-ltb 0 n (omega (arith, is))
 some_held (one ∷ more) n is = lt-ltb 0 n (omega (arith, is))
 
+-- the status, by whether a line had a diagnostic
+pub status_whole : (first last : List Diagnostic) (all : List Entry) (has_diagnostics : Bool) (status : Status) → has_diagnostics ≡ has_some first
+    → status ≡ (if has_diagnostics || (has_some last || has_some all) then Found else Clean) → status ≡ clean_or_found (first ++ last) all
+status_whole first last all has_diagnostics status has is = is ∙ ap (λ b. if b || (has_some last || has_some all) then Found else Clean) has ∙ status-is first last all
+
 -- all lines were followed, and then come the diagnostics of the end, and a text
 module _ (Stands : List ReadLine → Type 0) (noted : List ReadLine → List Diagnostic) (has_diagnostics : Bool) (reader_old reader_new : ReaderState) (writer_old writer_middle writer_new : WriterState)
-    (done : HasFollowed Stands noted has_diagnostics reader_old reader_new writer_old writer_middle) (last : List Diagnostic) where
+    (done : HasFollowed Stands noted (Notes noted) has_diagnostics reader_old reader_new writer_old writer_middle) (last : List Diagnostic) where
+  wrote_notes : Wrote writer_old writer_middle (noted_text noted done.lines)
+  wrote_notes = subst (λ (all : List ℕ). Wrote writer_old writer_middle all) done.told done.wrote
+
   pub wrote_whole : (text : List ℕ) → Wrote writer_middle writer_new (diagnostics_text last ++ text) → Wrote writer_old writer_new (diagnostics_text (noted (reverse done.lines) ++ last) ++ text)
   wrote_whole text wrote = subst (λ (all : List ℕ). Wrote writer_old writer_new all) (sym (text_is (noted (reverse done.lines)) last text))
-      (Wrote-append writer_old writer_middle writer_new (noted_text noted done.lines) (diagnostics_text last ++ text) done.wrote wrote)
+      (Wrote-append writer_old writer_middle writer_new (noted_text noted done.lines) (diagnostics_text last ++ text) wrote_notes wrote)
 
   pub begun_whole : (text : List ℕ) → Begins writer_middle writer_new (diagnostics_text last ++ text) → Begins writer_old writer_new (diagnostics_text (noted (reverse done.lines) ++ last) ++ text)
   begun_whole text begun = subst (λ (all : List ℕ). Begins writer_old writer_new all) (sym (text_is (noted (reverse done.lines)) last text))
-      (Begins-after writer_old writer_middle writer_new (noted_text noted done.lines) (diagnostics_text last ++ text) done.wrote begun)
-
-  pub status_whole : (all : List Entry) (status : Status) → status ≡ (if has_diagnostics || (has_some last || has_some all) then Found else Clean) → status ≡ clean_or_found (noted (reverse done.lines) ++ last) all
-  status_whole all status is = is ∙ ap (λ b. if b || (has_some last || has_some all) then Found else Clean) done.has_diagnostics_is ∙ status-is (noted (reverse done.lines)) last all
+      (Begins-after writer_old writer_middle writer_new (noted_text noted done.lines) (diagnostics_text last ++ text) wrote_notes begun)
 
 -- what stands for lines stands for less
-abbrev pub followed_also : (Stood Stands : List ReadLine → Type 0) (noted : List ReadLine → List Diagnostic) (has_diagnostics : Bool) (reader_old reader_new : ReaderState) (writer_old writer_new : WriterState)
+abbrev pub followed_also : (Stood Stands : List ReadLine → Type 0) (noted : List ReadLine → List Diagnostic) (Tells : List ReadLine → List ℕ → Type 0) (has_diagnostics : Bool) (reader_old reader_new : ReaderState) (writer_old writer_new : WriterState)
     → ((past : List ReadLine) → Stood past → Stands past)
-    → HasFollowed Stood noted has_diagnostics reader_old reader_new writer_old writer_new → HasFollowed Stands noted has_diagnostics reader_old reader_new writer_old writer_new
-followed_also Stood Stands noted has_diagnostics reader_old reader_new writer_old writer_new also done = record {
+    → HasFollowed Stood noted Tells has_diagnostics reader_old reader_new writer_old writer_new → HasFollowed Stands noted Tells has_diagnostics reader_old reader_new writer_old writer_new
+followed_also Stood Stands noted Tells has_diagnostics reader_old reader_new writer_old writer_new also done = record {
   lines = done.lines;
   read = done.read;
   stands = also (reverse done.lines) done.stands;
+  text = done.text;
+  told = done.told;
   wrote = done.wrote;
   has_diagnostics_is = done.has_diagnostics_is;
 }
 
 -- all lines were followed, and these are the diagnostics at the end, and the text of the report
 module _ (Stands : List ReadLine → Type 0) (moments : List ReadLine → List Moment) (Tells : List ReadLine → List ℕ → Type 0) (has_diagnostics : Bool)
-    (reader_old reader_new : ReaderState) (writer_old writer_middle writer_new : WriterState) (done : HasFollowed Stands (λ past. notes (moments past)) has_diagnostics reader_old reader_new writer_old writer_middle)
+    (reader_old reader_new : ReaderState) (writer_old writer_middle writer_new : WriterState) (done : HasFollowed Stands (λ past. notes (moments past)) (Notes (λ past. notes (moments past))) has_diagnostics reader_old reader_new writer_old writer_middle)
     (last : List Diagnostic) (last_is : last ≡ half (length done.lines) (pending (reverse done.lines))) (text : List ℕ) (tells : Tells done.lines text) where
   pub whole_is : diagnostics_text (notes (moments (reverse done.lines)) ++ last) ++ text ≡ diagnostics_text (all_diagnostics moments done.lines) ++ text
   whole_is = ap (λ (end : List Diagnostic). diagnostics_text (notes (moments (reverse done.lines)) ++ end) ++ text) last_is
@@ -122,7 +128,7 @@ module _ (Stands : List ReadLine → Type 0) (moments : List ReadLine → List M
         (wrote_whole Stands (λ past. notes (moments past)) has_diagnostics reader_old reader_new writer_old writer_middle writer_new done last text wrote);
     all = all;
     held = are_held;
-    status_is = status_whole Stands (λ past. notes (moments past)) has_diagnostics reader_old reader_new writer_old writer_middle writer_new done last held status is
+    status_is = status_whole (notes (moments (reverse done.lines))) last held has_diagnostics status done.has_diagnostics_is is
         ∙ ap (λ (end : List Diagnostic). clean_or_found (notes (moments (reverse done.lines)) ++ end) held) last_is
         ∙ ap (clean_or_found (all_diagnostics moments done.lines)) same;
   }
@@ -159,7 +165,7 @@ notes_more settings line past = ap notes (moments-line (started settings) line p
 
 -- the writer failed at a line's diagnostics
 pub stops_at_write : (report : Report) (settings : Settings) (Stands : List ReadLine → Type 0) (replay : Replayed) (reader_old reader_new : ReaderState) (writer_old writer_new : WriterState)
-    → ((past : List ReadLine) → Stands past → StandsFor replay settings past) → StopsWriting Stands (heap_notes settings) reader_old reader_new writer_old writer_new
+    → ((past : List ReadLine) → Stands past → StandsFor replay settings past) → StopsWriting Stands (Notes (heap_notes settings)) reader_old reader_new writer_old writer_new
     → StopsAtWrite HasReadUpTo (moments (started settings)) (TellsReport report settings) reader_old reader_new writer_old writer_new
 stops_at_write report settings Stands replay reader_old reader_new writer_old writer_new also stops =
     let lines = stops.lines in
@@ -167,16 +173,17 @@ stops_at_write report settings Stands replay reader_old reader_new writer_old wr
     let notes = heap_notes settings (reverse lines) in
     let last = half (length lines) (pending (reverse lines)) in
     let told = report_text report (entries replay) replay.totals replay.content in
+    let begun = subst (λ (text : List ℕ). Begins writer_old writer_new text) stops.told stops.begun in
     record {
       lines = lines;
       unused = stops.unused;
       begun = elim stops.read [
-        | inl reading ↦ inl (reading, stops.begun)
+        | inl reading ↦ inl (reading, begun)
         | inr all ↦ inr (record {
           read = all;
           text = told;
           tells = report_tells report settings replay lines stands;
-          begun = subst (λ (text : List ℕ). Begins writer_old writer_new text) (sym (text_is notes last told)) (Begins-longer writer_old writer_new (diagnostics_text notes) (diagnostics_text last ++ told) stops.begun);
+          begun = subst (λ (text : List ℕ). Begins writer_old writer_new text) (sym (text_is notes last told)) (Begins-longer writer_old writer_new (diagnostics_text notes) (diagnostics_text last ++ told) begun);
         })
       ];
     }
@@ -184,7 +191,7 @@ stops_at_write report settings Stands replay reader_old reader_new writer_old wr
 -- the lines weren't all followed, and the run ended so
 pub run_stops : {A B : Type 0} (report : Report) (settings : Settings) (Stands : List ReadLine → Type 0) (replay : Replayed) → ((past : List ReadLine) → Stands past → StandsFor replay settings past)
     → (stop : RunFault) (reader : Course A ReaderState) (writer : Course B WriterState) → IsErrOf {T = Status} (Err fault.Read) fault.BadSettings ↔ IsTrue (are_bad settings)
-    → ReadEnds Stands (heap_notes settings) ⊥ (Err stop) (shown_before reader) (shown_after reader) (shown_before writer) (shown_after writer)
+    → ReadEnds Stands (heap_notes settings) (Notes (heap_notes settings)) ⊥ (Err stop) (shown_before reader) (shown_after reader) (shown_before writer) (shown_after writer)
     → (shown_after reader).whole ≡ (shown_before reader).whole → Runs report settings (Err stop) reader writer
 run_stops report settings Stands replay also fault.Read reader writer bad ends whole = record { ends = ends; bad_settings = bad; whole = whole }
 run_stops report settings Stands replay also fault.Write reader writer bad ends whole = record {
@@ -201,7 +208,7 @@ run_stops report settings Stands replay also fault.BadSettings reader writer bad
 run_stops report settings Stands replay also fault.Image reader writer bad ends whole = absurd ends
 
 module _ (report : Report) (settings : Settings) (replay : Replayed) (has_diagnostics : Bool) (reader_old reader_new : ReaderState) (writer_old writer_middle writer_new : WriterState)
-    (done : HasFollowed (λ past. StandsFor replay settings past) (heap_notes settings) has_diagnostics reader_old reader_new writer_old writer_middle) where
+    (done : HasFollowed (λ past. StandsFor replay settings past) (heap_notes settings) (Notes (heap_notes settings)) has_diagnostics reader_old reader_new writer_old writer_middle) where
   abbrev its_last : List Diagnostic
   its_last = half replay.totals.lines replay.pending
 
@@ -226,7 +233,7 @@ module _ (report : Report) (settings : Settings) (replay : Replayed) (has_diagno
 
 -- all was written of a run that makes no report, and the replay in the end
 unfoldable pub ends_at : (settings : Settings) (replay end : Replayed) (has_diagnostics : Bool) (status : Status) (reader_old reader_new : ReaderState) (writer_old writer_middle writer_new : WriterState)
-    → HasFollowed (λ past. StandsFor replay settings past) (heap_notes settings) has_diagnostics reader_old reader_new writer_old writer_middle
+    → HasFollowed (λ past. StandsFor replay settings past) (heap_notes settings) (Notes (heap_notes settings)) has_diagnostics reader_old reader_new writer_old writer_middle
     → Wrote writer_middle writer_new (end_text Nothing replay)
     → status ≡ (if has_diagnostics || (has_some (half replay.totals.lines replay.pending) || has_some (entries replay)) then Found else Clean)
     → end ≡ replay → replay.content.records ≡ settings.records

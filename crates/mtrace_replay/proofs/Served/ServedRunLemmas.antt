@@ -1,9 +1,8 @@
 -- A run without a heap under way, and how it goes on and ends.
-use Rattle.std.proofs.Common.{◌≡◌, ℕ, Bool, ◌||◌, List, [], ◌∷◌, ◌++◌, length, map, refl, sym, ap, ◌∙◌, subst, reverse, inl, inr, append_assoc, if◌then◌else◌}
+use Rattle.std.proofs.Common.{◌≡◌, ℕ, Bool, ◌||◌, List, [], ◌++◌, length, map, refl, sym, ap, ◌∙◌, subst, reverse, inl, inr, if◌then◌else◌}
 use Rattle.std.specs.Prelude.{Err}
 use Rattle.std.proofs.lemmas.List.{length-reverse, length-map}
-use Rattle.mtrace_log.specs.Shown.{Bytes, ReaderState, WriterState}
-use Rattle.mtrace_log.specs.HasRead.{HasReadAll}
+use Rattle.mtrace_log.specs.Shown.{ReaderState, WriterState}
 use Rattle.mtrace_log.specs.Output.{Wrote, Begins}
 use Rattle.mtrace_replay.specs.declared.runs.status.Status.{Status}
 use Rattle.mtrace_replay.specs.declared.runs.status.Status.TheVariants.{Clean, Found}
@@ -19,13 +18,12 @@ use Rattle.mtrace_replay.specs.Sites.{Site, AreSites}
 use Rattle.mtrace_replay.specs.Totals.{asked_bytes_in, first_moments}
 use Rattle.mtrace_replay.proofs.History.TotalsLemmas.{measure_is_one}
 use Rattle.mtrace_replay.specs.Moment.{ReadLine, Given, half}
-use Rattle.mtrace_replay.specs.History.{held, pending, entries_of}
-use Rattle.mtrace_replay.specs.Texts.{diagnostics_text, leaks_report, both_sections, clean_or_found, total_size}
-use Rattle.mtrace_replay.specs.Served.{unplaced, served_moments, served_history, served_noted, served_diagnostics, Standing, StandsWithoutHeap, totals_of}
+use Rattle.mtrace_replay.specs.History.{pending, entries_of}
+use Rattle.mtrace_replay.specs.Texts.{diagnostics_text, leaks_report, both_sections, total_size}
+use Rattle.mtrace_replay.specs.Served.{unplaced, served_moments, served_history, served_noted, Standing, StandsWithoutHeap, totals_of}
 use Rattle.mtrace_replay.specs.RunServed.{AreServedTotals, TellsServedSites, TellsServed, ReportsServed, ServedEnds, EndsServed}
-use Rattle.mtrace_replay.specs.Following.{HasReadThese, has_some, HasFollowed, StopsWanting, ReadEnds}
+use Rattle.mtrace_replay.specs.Following.{Notes, HasReadThese, has_some, HasFollowed, StopsWanting, ReadEnds}
 use Rattle.mtrace_replay.specs.Reporting.{StopsAtWrite}
-use Rattle.mtrace_replay.proofs.Running.ReplayingLemmas.{prepend_nothing}
 use Rattle.mtrace_replay.proofs.Running.RunLemmas.{begins_report, reports_all}
 use Rattle.mtrace_replay.proofs.Served.ServedLemmas.{length-served, entries_unplaced}
 
@@ -36,11 +34,11 @@ no_notes = refl
 
 -- the lines weren't all followed, and the run ended so
 pub served_stops : (report : LedgerReport) (Stands : List ReadLine → Type 0) (Lacks : Type 0) (fault : RunFault) (reader_old reader_new : ReaderState) (writer_old writer_new : WriterState)
-    → ReadEnds Stands served_noted Lacks (Err fault) reader_old reader_new writer_old writer_new → ServedEnds report (Err fault) reader_old reader_new writer_old writer_new
+    → ReadEnds Stands served_noted (Notes served_noted) Lacks (Err fault) reader_old reader_new writer_old writer_new → ServedEnds report (Err fault) reader_old reader_new writer_old writer_new
 served_stops report Stands Lacks fault.Read reader_old reader_new writer_old writer_new ends = ends
 served_stops report Stands Lacks fault.Write reader_old reader_new writer_old writer_new ends =
     let stops = ends.write_fault in
-    record { write_fault = record { lines = stops.lines; unused = stops.unused; begun = inl (stops.read, stops.begun) }; writer_failed = ends.writer_failed; reader_not_failed = ends.reader_not_failed }
+    record { write_fault = record { lines = stops.lines; unused = stops.unused; begun = inl (stops.read, subst (λ (text : List ℕ). Begins writer_old writer_new text) stops.told stops.begun) }; writer_failed = ends.writer_failed; reader_not_failed = ends.reader_not_failed }
 served_stops report Stands Lacks fault.OutOfMemory reader_old reader_new writer_old writer_new ends = ends.0
 served_stops report Stands Lacks fault.BadSettings reader_old reader_new writer_old writer_new ends = ends
 served_stops report Stands Lacks fault.Image reader_old reader_new writer_old writer_new ends = ends
@@ -108,7 +106,7 @@ abbrev pub served_end : Standing → List ℕ → List ℕ
 served_end replay text = diagnostics_text (half replay.lines replay.pending) ++ text
 
 module _ (report : LedgerReport) (replay : Standing) (has_diagnostics : Bool) (reader_old reader_new : ReaderState) (writer_old writer_middle writer_new : WriterState)
-    (done : HasFollowed (λ past. StandsWithoutHeap replay past) served_noted has_diagnostics reader_old reader_new writer_old writer_middle) (prepared : Prepared) (is_of : IsOf report prepared) (named : HasNamed replay prepared) where
+    (done : HasFollowed (λ past. StandsWithoutHeap replay past) served_noted (Notes served_noted) has_diagnostics reader_old reader_new writer_old writer_middle) (prepared : Prepared) (is_of : IsOf report prepared) (named : HasNamed replay prepared) where
   abbrev its_text : List ℕ
   its_text = prepared_text replay prepared
 
@@ -129,7 +127,7 @@ module _ (report : LedgerReport) (replay : Standing) (has_diagnostics : Bool) (r
 
 -- a run without a report has ended, with this replay
 pub served_nothing : (replay : Standing) (has_diagnostics : Bool) (reader_old reader_new : ReaderState) (writer_old writer_middle writer_new : WriterState)
-    (done : HasFollowed (λ past. StandsWithoutHeap replay past) served_noted has_diagnostics reader_old reader_new writer_old writer_middle) (prepared : Prepared) (is_of : IsOf report.Nothing prepared) (named : HasNamed replay prepared) (status : Status)
+    (done : HasFollowed (λ past. StandsWithoutHeap replay past) served_noted (Notes served_noted) has_diagnostics reader_old reader_new writer_old writer_middle) (prepared : Prepared) (is_of : IsOf report.Nothing prepared) (named : HasNamed replay prepared) (status : Status)
     → Wrote writer_middle writer_new (served_end replay (prepared_text replay prepared))
     → status ≡ (if has_diagnostics || (has_some (half replay.lines replay.pending) || has_some replay.all) then Found else Clean)
     → EndsServed status replay reader_old reader_new writer_old writer_new
@@ -141,5 +139,5 @@ served_nothing replay has_diagnostics reader_old reader_new writer_old writer_mi
 
 -- memory was refused behind the last line
 pub served_memory : (replay : Standing) (has_diagnostics : Bool) (reader_old reader_new : ReaderState) (writer_old writer_middle : WriterState)
-    → HasFollowed (λ past. StandsWithoutHeap replay past) served_noted has_diagnostics reader_old reader_new writer_old writer_middle → StopsWanting served_noted reader_old reader_new writer_old writer_middle
-served_memory replay has_diagnostics reader_old reader_new writer_old writer_middle done = record { lines = done.lines; unused = []; reason = inr done.read; wrote = done.wrote }
+    → HasFollowed (λ past. StandsWithoutHeap replay past) served_noted (Notes served_noted) has_diagnostics reader_old reader_new writer_old writer_middle → StopsWanting (Notes served_noted) reader_old reader_new writer_old writer_middle
+served_memory replay has_diagnostics reader_old reader_new writer_old writer_middle done = record { lines = done.lines; unused = []; reason = inr done.read; text = done.text; told = done.told; wrote = done.wrote }

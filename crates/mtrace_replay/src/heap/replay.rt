@@ -12,7 +12,8 @@ use crate::heap::walk::put_walk;
 use crate::held::diagnostic::Note;
 use crate::held::findings::Findings;
 use crate::held::half::{half_before, half_diagnostic, old_address, put_half};
-use crate::runs::line_replay::LineReplay;
+use crate::runs::following::tell_found;
+use crate::runs::line_replay::{LineReplay, TellFault};
 use mtrace_log::{Addr, Event, Failed, LentLocation, Line, LineFault, Sink};
 use std::alloc::{AllocError, Global};
 use std::marker::Model;
@@ -240,6 +241,15 @@ impl LineReplay for Replay<Heap> {
             unreachable!();
         };
         Ok(())
+    }
+
+    #[inline(always)]
+    fn tell_line<W: Sink>(
+        &self,
+        writer: &mut W,
+        findings: &mut Findings,
+    ) -> Result<bool, TellFault> {
+        tell_found(writer, findings)
     }
 }
 

@@ -11,8 +11,9 @@ use crate::held::amount::Amount;
 use crate::held::diagnostic::Note;
 use crate::held::findings::Findings;
 use crate::held::half::{half_before, half_diagnostic, old_address, put_half};
-use crate::runs::line_replay::LineReplay;
-use mtrace_log::{Addr, Event, LentLocation, LineFault};
+use crate::runs::following::tell_found;
+use crate::runs::line_replay::{LineReplay, TellFault};
+use mtrace_log::{Addr, Event, LentLocation, LineFault, Sink};
 use std::alloc::{AllocError, Global};
 use std::hash::RandomState;
 use std::marker::Model;
@@ -205,5 +206,14 @@ impl LineReplay for LedgerReplay {
         findings: &mut Findings,
     ) -> Result<(), AllocError> {
         self.feed_lent(number, event, findings)
+    }
+
+    #[inline(always)]
+    fn tell_line<W: Sink>(
+        &self,
+        writer: &mut W,
+        findings: &mut Findings,
+    ) -> Result<bool, TellFault> {
+        tell_found(writer, findings)
     }
 }

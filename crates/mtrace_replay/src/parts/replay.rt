@@ -11,8 +11,9 @@ use super::change::Change;
 use super::spans::Spans;
 use crate::held::findings::Findings;
 use crate::no_heap::replay::LedgerReplay;
-use crate::runs::line_replay::LineReplay;
-use mtrace_log::{Event, LentLocation, LineFault};
+use crate::runs::following::tell_found;
+use crate::runs::line_replay::{LineReplay, TellFault};
+use mtrace_log::{Event, LentLocation, LineFault, Sink};
 use std::alloc::{AllocError, Global};
 use std::hash::RandomState;
 
@@ -124,5 +125,14 @@ impl LineReplay for CountedReplay {
         findings: &mut Findings,
     ) -> Result<(), AllocError> {
         self.feed_lent(number, event, findings)
+    }
+
+    #[inline(always)]
+    fn tell_line<W: Sink>(
+        &self,
+        writer: &mut W,
+        findings: &mut Findings,
+    ) -> Result<bool, TellFault> {
+        tell_found(writer, findings)
     }
 }

@@ -1,15 +1,24 @@
 //! What every replay of a log's lines does.
 
 ghost use Rattle.std.specs.Prelude.{◌≡◌, ◌+◌, []};
-ghost use Rattle.mtrace_replay.specs.LineReplay.{LineRules, TakesLine};
+ghost use Rattle.mtrace_replay.specs.LineReplay.{LineRules, TakesLine, AddsTo, TellsLine};
 
 use crate::held::findings::Findings;
-use mtrace_log::{Event, LentLocation, LineFault};
+use mtrace_log::{Event, LentLocation, LineFault, Sink};
 use std::alloc::AllocError;
+
+/// Why what is told of a line wasn't put.
+#[derive(Clone, Copy, Debug, PartialEq, Eq)]
+pub(crate) enum TellFault {
+    /// The writer failed.
+    Write,
+    /// Memory was refused, and nothing was put.
+    OutOfMemory,
+}
 
 /// A replay that takes the lines of a log, one after the other.
 pub(crate) trait LineReplay {
-    // For which lines it stands, and what each adds to the diagnostics.
+    // For which lines it stands, what each adds to the diagnostics, and the text of them.
     ghost rules: { LineRules Self };
 
     /// How many lines it took.
@@ -31,4 +40,13 @@ pub(crate) trait LineReplay {
         requires none { findings.old ≡ [] }
         requires ready { rules.IsReady self.old }
         ensures { TakesLine rules number event.entry findings.new result self.old self.new };
+
+    /// Puts what is told of the line that was taken last: what is wrong with it, and then nothing is wrong any more. Answers whether
+    /// anything was.
+    ///
+    /// # Errors
+    ///
+    /// `Write` where the writer failed, and `OutOfMemory` where memory is refused: then nothing is put.
+    fn tell_line<W: Sink>(&self, writer: &mut W, findings: &mut Findings) -> Result<bool, TellFault>
+        ensures { TellsLine (AddsTo rules self.now findings.old) rules.Lacks result findings.old findings.new (W.shown writer.old) (W.shown writer.new) };
 }

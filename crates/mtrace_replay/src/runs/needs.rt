@@ -15,8 +15,8 @@ use crate::heap::settings::Settings;
 use crate::heap::totals::Totals;
 use crate::held::asked::{Asked, rounded_bytes};
 use crate::held::findings::Findings;
-use crate::runs::following::read_log;
-use crate::runs::line_replay::LineReplay;
+use crate::runs::following::{read_log, tell_found};
+use crate::runs::line_replay::{LineReplay, TellFault};
 use crate::runs::report::Report;
 use crate::runs::run::finish;
 use crate::runs::status::{RunFault, Status};
@@ -123,6 +123,15 @@ impl LineReplay for NeedsReplay {
         self.replay.take_line(number, event, findings)?;
         self.needs = self.needs.after(asked, old, self.replay.totals());
         Ok(())
+    }
+
+    #[inline(always)]
+    fn tell_line<W: Sink>(
+        &self,
+        writer: &mut W,
+        findings: &mut Findings,
+    ) -> Result<bool, TellFault> {
+        tell_found(writer, findings)
     }
 }
 

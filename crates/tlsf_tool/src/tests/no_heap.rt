@@ -223,11 +223,17 @@ fn writer_that_fails_without_a_heap(rt: HostRuntime) {
     }
 }
 
-/// The report without a heap that the words ask for, and its log.
+/// The report without a heap that the words ask for, and its log; where they ask for no snapshots.
 fn asked(alloc: Global, words: &[&str]) -> Result<Option<(LedgerReport, String)>, AllocError> {
     let words = strings(alloc, words)?;
     match command(alloc, words.as_slice()) {
-        Ok(Command::Ledger { report, log }) => Ok(Some((report, log))),
+        Ok(
+            Command::Ledger {
+                report,
+                every: None,
+                log,
+            },
+        ) => Ok(Some((report, log))),
         _ => Ok(None),
     }
 }

@@ -45,7 +45,7 @@ returns-in_default-clause-ran g c =
     let done = c.in-Ok.ensures.ends tt c.new-replay.ensures no_notes in
     record {
       ends = record {
-        memory = record { lines = done.0.lines; unused = []; reason = inr done.0.read; wrote = c.flush.ensures.kept ∙ done.0.wrote };
+        memory = record { lines = done.0.lines; unused = []; reason = inr done.0.read; text = done.0.text; told = done.0.told; wrote = c.flush.ensures.kept ∙ done.0.wrote };
         flush_asked = flush_asked c.flush.result _ _ _ done.2 c.flush.ensures.told;
         reader_not_failed = inr done.1;
       };

@@ -1,8 +1,8 @@
 use Rattle.std.specs.List.{All}
-use Rattle.std.proofs.Common.{Err, Vec, Global, ◌≡◌, ◌+◌, ◌≤◌, ℕ, suc, List, [], ◌∷◌, ◌++◌, map, take, sym, ap, subst, ◌∙◌, arith, inl, inr, refl, reverse}
+use Rattle.std.proofs.Common.{◌≡◌, ◌+◌, ◌≤◌, ℕ, suc, List, [], ◌∷◌, ◌++◌, map, take, sym, ap, subst, ◌∙◌, arith, inl, inr, refl, reverse}
 use Rattle.std.proofs.Math.ListN.{get_or}
 use Rattle.std.proofs.lemmas.List.{take_all}
-use Rattle.mtrace_log.specs.Progress.{Progress, greatest_number}
+use Rattle.mtrace_log.specs.Progress.{Progress}
 use Rattle.mtrace_log.specs.Trace.{HasNotFailed}
 use Rattle.mtrace_log.specs.declared.call.Call.{Call}
 use Rattle.mtrace_log.specs.declared.call.Call.TheVariants.{Gave}

@@ -12,7 +12,7 @@ invariant-loop-number g l =
     let rules = g.P.LineReplay.rules in
     record {
       under_way : (start : rules.Start) → rules.Stands start l.initial.replay [] → rules.noted start [] ≡ []
-          → IsFollowing (rules.Stands start l.replay) (rules.noted start) l.lines l.has_diagnostics (reads l.initial.reader) (reads l.reader) (writes l.initial.writer) (writes l.writer);
+          → IsFollowing (rules.Stands start l.replay) (rules.noted start) (rules.Tells start) l.lines l.has_diagnostics (reads l.initial.reader) (reads l.reader) (writes l.initial.writer) (writes l.writer);
       counted : rules.lines l.replay ≡ l.lines.count;
       ready : rules.IsReady l.replay;
       none : l.findings ≡ [];
