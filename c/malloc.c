@@ -15,7 +15,9 @@
  *
  * A call is one of a proved heap, under that heap's lock. Locks are held over a fork. The proof is
  * about a heap that one thread calls; here each thread calls it, under the lock. A call that no heap
- * serves gives a null pointer, and ENOMEM.
+ * serves gives a null pointer, and ENOMEM. A lock leans to the thread that has it most (malloc/lock.h):
+ * for that thread it is a store, and no atomic operation. Freed blocks that a thread keeps in front
+ * of its heap, as glibc's do, would save more. There are none: a call they serve is none of a proved heap.
  */
 #include "malloc/blocks.h"
 #include "malloc/report.h"
@@ -39,6 +41,7 @@ static void make(void)
     bool reports = asked != NULL && strcmp(asked, "1") == 0;
     read_settings();
     count_processors();
+    begin_locks();
     if (!reserve_heaps() || (settings.count == 0 && make_general() == STRETCHES_MOST)) {
         say(STDERR_FILENO, "there is no memory for the pool and the table: each call is refused\n");
         return;
@@ -48,15 +51,23 @@ static void make(void)
     if (reports && report_to < 0) {
         say(STDERR_FILENO, "no report at the end: no descriptor from 100 on\n");
     }
+    settings.reports = report_to >= 0;
     pthread_atfork(lock_all, unlock_all, unlock_all);
     __atomic_store_n(&is_made, true, __ATOMIC_RELEASE);
 }
 
-/* The first call of all makes the heap. */
-static void begin(void)
+__attribute__((noinline)) static void begin_once(void)
 {
-    if (!__atomic_load_n(&is_made, __ATOMIC_ACQUIRE)) {
-        pthread_once(&once, make);
+    int before = errno;
+    pthread_once(&once, make);
+    errno = before;
+}
+
+/* The first call of all makes the heap. */
+static inline void begin(void)
+{
+    if (__builtin_expect(!__atomic_load_n(&is_made, __ATOMIC_ACQUIRE), false)) {
+        begin_once();
     }
 }
 
@@ -71,41 +82,55 @@ static void tell_refusal(size_t bytes)
 
 static void count_refused(void) { (void)__atomic_add_fetch(&refused, 1, __ATOMIC_RELAXED); }
 
-/* Without an address: a new block, of one byte at least. With one: room for the bytes in its block. */
-static void *serve(void *address, size_t align, size_t bytes)
+__attribute__((noinline)) static void *refuse(size_t bytes)
 {
-    size_t wanted = address == NULL && bytes == 0 ? 1 : bytes;
-    begin();
-    void *given = address == NULL ? allocate(align, wanted) : resize(address, wanted, report_to >= 0);
-    if (given == NULL) {
-        count_refused();
-        tell_refusal(wanted);
-        errno = ENOMEM;
-    }
-    return given;
+    count_refused();
+    tell_refusal(bytes);
+    errno = ENOMEM;
+    return NULL;
 }
 
-EXPORT void *malloc(size_t bytes) { return serve(NULL, UNIT, bytes); }
-EXPORT void *valloc(size_t bytes) { return serve(NULL, PAGE, bytes); }
+/* A block has one byte at least. */
+static inline void *serve(size_t bytes)
+{
+    size_t wanted = bytes + (bytes == 0);
+    begin();
+    void *given = allocate(wanted);
+    return given != NULL ? given : refuse(wanted);
+}
+
+static void *serve_at(size_t align, size_t bytes)
+{
+    size_t wanted = bytes + (bytes == 0);
+    begin();
+    void *given = allocate_at(align, wanted);
+    return given != NULL ? given : refuse(wanted);
+}
+
+EXPORT void *malloc(size_t bytes) { return serve(bytes); }
+EXPORT void *valloc(size_t bytes) { return serve_at(PAGE, bytes); }
 
 EXPORT void free(void *address)
 {
-    int before = errno;
     begin();
-    if (address != NULL && !release(address, report_to >= 0)) {
+    if (address != NULL && !release(address)) {
         count_refused();
     }
-    errno = before;
 }
 
 /* No bytes give the block back. */
 static void *serve_again(void *address, size_t bytes)
 {
-    if (address != NULL && bytes == 0) {
+    if (address == NULL) {
+        return serve(bytes);
+    }
+    if (bytes == 0) {
         free(address);
         return NULL;
     }
-    return serve(address, UNIT, bytes);
+    begin();
+    void *given = resize(address, bytes);
+    return given != NULL ? given : refuse(bytes);
 }
 
 EXPORT void *realloc(void *address, size_t bytes) { return serve_again(address, bytes); }
@@ -118,7 +143,7 @@ static size_t product(size_t count, size_t size)
 
 EXPORT void *calloc(size_t count, size_t size)
 {
-    void *address = serve(NULL, UNIT, product(count, size));
+    void *address = serve(product(count, size));
     return address == NULL ? NULL : memset(address, 0, count * size);
 }
 
@@ -129,14 +154,14 @@ EXPORT void *reallocarray(void *address, size_t count, size_t size)
 
 EXPORT void *pvalloc(size_t bytes)
 {
-    return serve(NULL, PAGE, product(bytes / PAGE + (bytes % PAGE != 0), PAGE));
+    return serve_at(PAGE, product(bytes / PAGE + (bytes % PAGE != 0), PAGE));
 }
 
 EXPORT void *memalign(size_t align, size_t bytes)
 {
     bool good = align != 0 && (align & (align - 1)) == 0;
     errno = good ? errno : EINVAL;
-    return good ? serve(NULL, align, bytes) : NULL;
+    return good ? serve_at(align, bytes) : NULL;
 }
 
 EXPORT void *aligned_alloc(size_t align, size_t bytes) { return memalign(align, bytes); }

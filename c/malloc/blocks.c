@@ -1,6 +1,7 @@
 /* blocks.c: which heap, part or pages a block is taken from, and how it goes back. */
 #include "blocks.h"
 
+#include <errno.h>
 #include <sched.h>
 #include <string.h>
 
@@ -9,8 +10,8 @@ enum { HEAPS_A_PROCESSOR = 4 };
 
 size_t spilled_above;
 
-/* The heap that served the thread last, and 1; 0 where none did. */
-static __thread unsigned home;
+/* The heap that served the thread last, or a null pointer. */
+static __thread struct heap *home;
 static unsigned heaps_of_threads;
 
 void count_processors(void)
@@ -29,23 +30,28 @@ static size_t wanted_for(size_t align, size_t bytes)
     return bytes > SIZE_MAX - more ? SIZE_MAX : bytes + more;
 }
 
-/* Asks a heap of tlsf.h. Where it refuses, it isn't asked for as much until it gets a block back: where
- * its table is full, for nothing. */
-static void *ask(unsigned number, size_t align, size_t bytes)
+/* A heap that refused isn't asked for as much until it gets a block back: where its table is full, for
+ * nothing. */
+__attribute__((noinline)) static void note_full(struct heap *heap, size_t wanted)
 {
-    struct heap *heap = &heaps[number];
-    size_t wanted = wanted_for(align, bytes);
-    lock_it(&heap->lock);
-    bool is = heap->use == GENERAL;
-    void *given = is ? tlsf_memalign(heap->general, align, bytes) : NULL;
-    heap->live += given != NULL;
-    if (is && given == NULL) {
-        size_t from = heap->refused == TLSF_REFUSED_TABLE_FULL ? 0 : wanted;
-        heap->was_full = true;
-        heap->refused_from = from < heap->refused_from ? from : heap->refused_from;
+    size_t from = heap->refused == TLSF_REFUSED_TABLE_FULL ? 0 : wanted;
+    heap->was_full = true;
+    heap->refused_from = from < heap->refused_from ? from : heap->refused_from;
+}
+
+/* Asks a heap of tlsf.h. */
+static inline void *ask(struct heap *heap, size_t align, size_t bytes)
+{
+    void *given = NULL;
+    struct seat *seat = lock_it(&heap->lock);
+    if (heap->use == GENERAL) {
+        given = align == UNIT ? tlsf_malloc(heap->general, bytes) : tlsf_memalign(heap->general, align, bytes);
+        heap->live += given != NULL;
+        if (given == NULL) {
+            note_full(heap, wanted_for(align, bytes));
+        }
     }
-    unlock_it(&heap->lock);
-    home = given == NULL ? home : number + 1;
+    unlock_it(&heap->lock, seat);
     return given;
 }
 
@@ -62,43 +68,60 @@ static void find_home(void)
     static unsigned threads;
     unsigned seen = 0;
     unsigned last = STRETCHES_MOST;
-    lock_it(&layout);
+    struct seat *of_layout = lock_it(&layout);
     unsigned turn = threads++ % heaps_of_threads;
     for (unsigned k = 0; k < heaps_used && seen <= turn; k++) {
         last = heaps[k].use == GENERAL ? k : last;
         seen += heaps[k].use == GENERAL;
     }
     unsigned made = seen <= turn ? make_general() : STRETCHES_MOST;
-    unlock_it(&layout);
+    unlock_it(&layout, of_layout);
     last = made == STRETCHES_MOST ? last : made;
-    home = last == STRETCHES_MOST ? 0 : last + 1;
+    home = last == STRETCHES_MOST ? NULL : &heaps[last];
 }
 
-static void *from_another(size_t align, size_t bytes)
+/* A heap that serves becomes the thread's. */
+static void *ask_another(struct heap *heap, size_t align, size_t bytes)
 {
-    lock_it(&layout);
-    unsigned made = make_general();
-    unlock_it(&layout);
-    return made == STRETCHES_MOST ? NULL : ask(made, align, bytes);
+    void *given = ask(heap, align, bytes);
+    home = given == NULL ? home : heap;
+    return given;
 }
 
-/* A block of the thread's heap, of another, of one that is made, or of pages. */
-static void *from_heaps(size_t align, size_t bytes)
+static void *from_new(size_t align, size_t bytes)
+{
+    struct seat *of_layout = lock_it(&layout);
+    unsigned made = make_general();
+    unlock_it(&layout, of_layout);
+    return made == STRETCHES_MOST ? NULL : ask_another(&heaps[made], align, bytes);
+}
+
+/* A block of a heap that isn't the thread's, of one that is made, or of pages. */
+__attribute__((noinline)) static void *from_others(size_t align, size_t bytes)
 {
     size_t wanted = wanted_for(align, bytes);
-    if (wanted > greatest_of_heap()) {
+    void *given = NULL;
+    if (wanted > settings.greatest) {
         return take_pages(align, bytes);
     }
-    if (home == 0) {
+    if (home == NULL) {
         find_home();
+        given = home == NULL ? NULL : ask(home, align, bytes);
     }
-    void *given = home == 0 ? NULL : ask(home - 1, align, bytes);
     for (unsigned k = 0; given == NULL && k < used(); k++) {
-        if (k + 1 != home && may_serve(&heaps[k], wanted)) {
-            given = ask(k, align, bytes);
+        if (&heaps[k] != home && may_serve(&heaps[k], wanted)) {
+            given = ask_another(&heaps[k], align, bytes);
         }
     }
-    return given != NULL ? given : from_another(align, bytes);
+    return given != NULL ? given : from_new(align, bytes);
+}
+
+/* A block of the thread's heap, or of another. */
+static inline void *from_heaps(size_t align, size_t bytes)
+{
+    bool may = home != NULL && wanted_for(align, bytes) <= settings.greatest;
+    void *given = may ? ask(home, align, bytes) : NULL;
+    return given != NULL ? given : from_others(align, bytes);
 }
 
 /* The first range whose size is enough, or none. */
@@ -122,11 +145,11 @@ static void count_live(struct range *range)
 /* Asks a part. A full one isn't asked again until it gets a block back. */
 static void *ask_part(struct heap *heap, size_t align, size_t bytes)
 {
-    lock_it(&heap->lock);
+    struct seat *seat = lock_it(&heap->lock);
     void *given = tlsf_parts_aligned_alloc(heap->part, align, bytes);
     heap->live += given != NULL;
     heap->refused_from = given == NULL ? 0 : heap->refused_from;
-    unlock_it(&heap->lock);
+    unlock_it(&heap->lock, seat);
     return given;
 }
 
@@ -148,8 +171,8 @@ static void *from_range(struct range *range, size_t align, size_t bytes)
     return NULL;
 }
 
-/* Else the block is spilled. */
-void *allocate(size_t align, size_t bytes)
+/* A block of the parts, or else one that is spilled. */
+static void *from_parts(size_t align, size_t bytes)
 {
     struct range *range = range_for(wanted_for(align, bytes));
     void *given = range == NULL ? NULL : from_range(range, align, bytes);
@@ -157,49 +180,83 @@ void *allocate(size_t align, size_t bytes)
         return given;
     }
     given = from_heaps(align, bytes);
-    if (settings.count > 0 && given != NULL) {
+    if (given != NULL) {
         __atomic_add_fetch(range == NULL ? &spilled_above : &range->spilled, 1, __ATOMIC_RELAXED);
     }
     return given;
 }
 
-/* Under the heap's lock: gives a block back, and answers whether there was one. */
-static bool free_in(struct heap *heap, void *address)
+void *allocate(size_t bytes) { return settings.count > 0 ? from_parts(UNIT, bytes) : from_heaps(UNIT, bytes); }
+
+void *allocate_at(size_t align, size_t bytes)
 {
-    size_t before = heap->refusals;
-    if (heap->use == GENERAL) {
-        tlsf_free(heap->general, address);
-    } else if (heap->use == PART) {
-        tlsf_parts_free(heap->part, address);
-    } else {
-        return false;
-    }
-    bool is_freed = before == heap->refusals;
+    return settings.count > 0 ? from_parts(align, bytes) : from_heaps(align, bytes);
+}
+
+/* Under the heap's lock: counts that a block was given back, and answers whether one was. */
+static inline bool count_freed(struct heap *heap, size_t refusals_before)
+{
+    bool is_freed = refusals_before == heap->refusals;
     heap->live -= is_freed;
     heap->refused_from = is_freed ? SIZE_MAX : heap->refused_from;
-    if (is_freed && heap->use == PART) {
-        __atomic_sub_fetch(&heap->range->live, 1, __ATOMIC_RELAXED);
+    return is_freed;
+}
+
+/* What asks the system leaves errno, as a free has to. */
+__attribute__((noinline)) static bool release_pages(struct heap *heap, const void *address)
+{
+    int before = errno;
+    bool is_freed = free_pages(heap, address);
+    errno = before;
+    return is_freed;
+}
+
+__attribute__((noinline)) static void release_heap(struct heap *heap)
+{
+    int before = errno;
+    give_back_if_empty(heap);
+    errno = before;
+}
+
+/* The same in a part, or of pages. */
+__attribute__((noinline)) static bool release_other(struct heap *heap, void *address)
+{
+    struct seat *seat = lock_it(&heap->lock);
+    bool is_pages = heap->use == PAGES;
+    bool is_freed = false;
+    if (heap->use == PART) {
+        size_t before = heap->refusals;
+        tlsf_parts_free(heap->part, address);
+        is_freed = count_freed(heap, before);
+        __atomic_sub_fetch(&heap->range->live, is_freed, __ATOMIC_RELAXED);
+    }
+    unlock_it(&heap->lock, seat);
+    return is_pages ? release_pages(heap, address) : is_freed;
+}
+
+/* A heap of tlsf.h that was full and is empty gives its memory back, but the thread's own. */
+static bool release_in(struct heap *heap, void *address)
+{
+    struct seat *seat = lock_it(&heap->lock);
+    if (__builtin_expect(heap->use != GENERAL, false)) {
+        unlock_it(&heap->lock, seat);
+        return release_other(heap, address);
+    }
+    size_t before = heap->refusals;
+    tlsf_free(heap->general, address);
+    bool is_freed = count_freed(heap, before);
+    bool is_left = heap->live == 0 && heap->was_full && is_freed;
+    unlock_it(&heap->lock, seat);
+    if (__builtin_expect(is_left, false) && home != heap) {
+        release_heap(heap);
     }
     return is_freed;
 }
 
-/* A heap that was full and is empty gives its memory back, but the thread's own. */
-bool release(void *address, bool checks)
+bool release(void *address)
 {
-    unsigned number = heap_at(address);
-    if (number == STRETCHES_MOST) {
-        return false;
-    }
-    struct heap *heap = &heaps[number];
-    lock_it(&heap->lock);
-    bool is_pages = heap->use == PAGES;
-    bool is_freed = free_in(heap, address);
-    bool is_left = is_freed && heap->use == GENERAL && heap->live == 0 && heap->was_full;
-    unlock_it(&heap->lock);
-    if (is_left && home != number + 1) {
-        give_back_if_empty(heap, checks);
-    }
-    return is_pages ? free_pages(heap, address) : is_freed;
+    struct heap *heap = heap_at(address);
+    return heap != NULL && release_in(heap, address);
 }
 
 /* Under the heap's lock: the bytes of a live block, else 0. */
@@ -228,36 +285,35 @@ static void *resize_in(struct heap *heap, void *address, size_t bytes)
     return room_in(heap, address) != 0 && resize_pages(heap, bytes) ? address : NULL;
 }
 
-void *resize(void *address, size_t bytes, bool checks)
+void *resize(void *address, size_t bytes)
 {
-    unsigned number = heap_at(address);
-    if (number == STRETCHES_MOST) {
+    struct heap *heap = heap_at(address);
+    if (heap == NULL) {
         return NULL;
     }
-    struct heap *heap = &heaps[number];
-    lock_it(&heap->lock);
+    struct seat *seat = lock_it(&heap->lock);
     void *now = resize_in(heap, address, bytes);
     size_t room = now == NULL ? room_in(heap, address) : 0;
-    unlock_it(&heap->lock);
+    unlock_it(&heap->lock, seat);
     if (room == 0) {
         return now;
     }
-    now = allocate(UNIT, bytes);
+    now = allocate(bytes);
     if (now != NULL) {
         (void)memcpy(now, address, room < bytes ? room : bytes);
-        (void)release(address, checks);
+        (void)release(address);
     }
     return now;
 }
 
 size_t room_of(const void *address)
 {
-    unsigned number = heap_at(address);
-    if (number == STRETCHES_MOST) {
+    struct heap *heap = heap_at(address);
+    if (heap == NULL) {
         return 0;
     }
-    lock_it(&heaps[number].lock);
-    size_t room = room_in(&heaps[number], address);
-    unlock_it(&heaps[number].lock);
+    struct seat *seat = lock_it(&heap->lock);
+    size_t room = room_in(heap, address);
+    unlock_it(&heap->lock, seat);
     return room;
 }

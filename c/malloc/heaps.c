@@ -7,75 +7,52 @@
 /* All stretches together have at most these addresses. Large pages begin at a multiple of LARGE_PAGE. */
 #define ADDRESSES ((size_t)1 << 40)
 #define LARGE_PAGE ((size_t)1 << 21)
+/* So much more is reserved, to begin at such a multiple. Bytes that are none are put right below what was mapped
+ * before. Else there would be a gap, and the program's own next mapping in it, far from its others. */
+#define MORE (LARGE_PAGE + PAGE)
 /* A smaller stretch is for fewer than so many heaps, but not below 2^23 bytes. */
 enum { LEAST_SHIFT = 23, HEAPS_SURE = 256 };
 
 struct heap heaps[STRETCHES_MOST];
-pthread_mutex_t layout = PTHREAD_MUTEX_INITIALIZER;
+struct reserved reserved;
+struct lock layout;
 unsigned heaps_used;
 size_t blocks_of_pages, bytes_of_pages, most_bytes_of_pages;
 unsigned general_heaps, most_general_heaps;
 bool was_broken;
 
-static unsigned char *base;
-static unsigned shift;
-static unsigned stretches;
 /* Blocks of pages are in the stretches from here on, at the end. */
 static unsigned pages_from;
-static __thread bool forks;
 static unsigned locked, locked_from;
 
-static size_t length_of_stretch(void) { return (size_t)1 << shift; }
-static unsigned char *start_of(unsigned number) { return base + ((size_t)number << shift); }
-
-void lock_it(pthread_mutex_t *lock)
-{
-    if (!forks) {
-        pthread_mutex_lock(lock);
-    }
-}
-
-void unlock_it(pthread_mutex_t *lock)
-{
-    if (!forks) {
-        pthread_mutex_unlock(lock);
-    }
-}
+static size_t length_of_stretch(void) { return (size_t)1 << reserved.shift; }
+static unsigned char *start_of(unsigned number) { return reserved.base + ((size_t)number << reserved.shift); }
 
 /* While a thread forks it has the locks, and may still call: the program's own handlers of a fork
  * run between these two, and may ask for memory. A heap that they make isn't locked. */
 void lock_all(void)
 {
-    pthread_mutex_lock(&layout);
+    hold_for_fork(&layout);
     locked = heaps_used;
     locked_from = pages_from > locked ? pages_from : locked;
-    for (unsigned k = 0; k < stretches; k++) {
+    for (unsigned k = 0; k < reserved.stretches; k++) {
         if (k < locked || k >= locked_from) {
-            pthread_mutex_lock(&heaps[k].lock);
+            hold_for_fork(&heaps[k].lock);
         }
     }
-    forks = true;
+    begin_fork();
 }
 
 void unlock_all(void)
 {
-    forks = false;
-    for (unsigned k = 0; k < stretches; k++) {
+    end_fork();
+    for (unsigned k = 0; k < reserved.stretches; k++) {
         if (k < locked || k >= locked_from) {
-            pthread_mutex_unlock(&heaps[k].lock);
+            leave_after_fork(&heaps[k].lock);
         }
     }
-    pthread_mutex_unlock(&layout);
+    leave_after_fork(&layout);
 }
-
-unsigned heap_at(const void *address)
-{
-    size_t number = ((uintptr_t)address - (uintptr_t)base) >> shift;
-    return number < stretches ? (unsigned)number : STRETCHES_MOST;
-}
-
-/* One heap is asked for all. Else half of a pool is surely free in a new one, wherever it has to begin. */
-size_t greatest_of_heap(void) { return settings.is_one_heap ? SIZE_MAX : settings.pool / 2; }
 
 /* The bytes of a part with so many blocks. */
 static size_t bytes_of_part(uint32_t largest, uint32_t blocks)
@@ -103,7 +80,7 @@ static unsigned choose_length(void)
         most = bytes > most ? bytes : most;
         needed += settings.ranges[k].parts;
     }
-    for (shift = 12; length_of_stretch() < most; shift++) {
+    for (reserved.shift = 12; length_of_stretch() < most; reserved.shift++) {
     }
     return needed;
 }
@@ -112,8 +89,8 @@ static unsigned choose_length(void)
 static void choose_pool(size_t bytes)
 {
     bool is_told = settings.is_one_heap || settings.count > 0;
-    while (!is_told && shift > LEAST_SHIFT && bytes >> shift < HEAPS_SURE) {
-        shift--;
+    while (!is_told && reserved.shift > LEAST_SHIFT && bytes >> reserved.shift < HEAPS_SURE) {
+        reserved.shift--;
     }
     if (length_of_stretch() < bytes_of_general()) {
         settings.pool = length_of_stretch() - tlsf_size_records(settings.records) / UNIT * UNIT - UNIT;
@@ -126,13 +103,13 @@ static bool reserve(unsigned needed)
 {
     size_t bytes = needed * length_of_stretch();
     size_t least = settings.is_one_heap || settings.count > 0 ? bytes : (size_t)1 << LEAST_SHIFT;
-    while (!settings.is_one_heap && bytes * 2 <= ADDRESSES && bytes * 2 >> shift <= STRETCHES_MOST) {
+    while (!settings.is_one_heap && bytes * 2 <= ADDRESSES && bytes * 2 >> reserved.shift <= STRETCHES_MOST) {
         bytes *= 2;
     }
     size_t most = bytes;
     unsigned char *memory = MAP_FAILED;
     while (bytes >= least && memory == MAP_FAILED) {
-        memory = mmap(NULL, bytes + LARGE_PAGE, PROT_NONE, MAP_PRIVATE | MAP_ANONYMOUS, -1, 0);
+        memory = mmap(NULL, bytes + MORE, PROT_NONE, MAP_PRIVATE | MAP_ANONYMOUS, -1, 0);
         bytes = memory == MAP_FAILED ? bytes / 2 : bytes;
     }
     if (memory == MAP_FAILED) {
@@ -140,12 +117,14 @@ static bool reserve(unsigned needed)
     }
     if (bytes < most && bytes / 2 >= least) {
         bytes /= 2;
-        (void)munmap(memory + bytes + LARGE_PAGE, bytes);
+        (void)munmap(memory + bytes + MORE, bytes);
     }
     choose_pool(bytes);
-    base = memory + (-(uintptr_t)memory & (LARGE_PAGE - 1));
-    stretches = (unsigned)(bytes >> shift);
-    pages_from = stretches;
+    /* One heap is asked for all. Else half of a pool is surely free in a new one, wherever it has to begin. */
+    settings.greatest = settings.is_one_heap ? SIZE_MAX : settings.pool / 2;
+    reserved.base = memory + (-(uintptr_t)memory & (LARGE_PAGE - 1));
+    reserved.stretches = (unsigned)(bytes >> reserved.shift);
+    pages_from = reserved.stretches;
     return true;
 }
 
@@ -224,8 +203,8 @@ bool reserve_heaps(void) { return reserve(choose_length()) && make_parts(); }
 static unsigned vacant(unsigned count, bool is_high)
 {
     unsigned row = 0;
-    for (unsigned k = 0; k < stretches; k++) {
-        unsigned number = is_high ? stretches - 1 - k : k;
+    for (unsigned k = 0; k < reserved.stretches; k++) {
+        unsigned number = is_high ? reserved.stretches - 1 - k : k;
         row = heaps[number].use == VACANT ? row + 1 : 0;
         if (row == count) {
             return is_high ? number : number + 1 - count;
@@ -245,33 +224,33 @@ unsigned make_general(void)
     }
     struct heap *heap = &heaps[number];
     tlsf_set_refusal_hook(made, count_refusal, heap);
-    lock_it(&heap->lock);
+    struct seat *seat = lock_it(&heap->lock);
     heap->general = made;
     heap->live = 0;
     heap->was_full = false;
     heap->refused_from = SIZE_MAX;
     use(number, GENERAL);
-    unlock_it(&heap->lock);
+    unlock_it(&heap->lock, seat);
     general_heaps++;
     most_general_heaps = general_heaps > most_general_heaps ? general_heaps : most_general_heaps;
     return number;
 }
 
-void give_back_if_empty(struct heap *heap, bool checks)
+void give_back_if_empty(struct heap *heap)
 {
-    lock_it(&layout);
-    lock_it(&heap->lock);
+    struct seat *of_layout = lock_it(&layout);
+    struct seat *seat = lock_it(&heap->lock);
     if (heap->use == GENERAL && heap->live == 0 && general_heaps > 1) {
         tlsf_figures told = {0};
-        was_broken = was_broken || (checks && tlsf_check(heap->general) != 0);
+        was_broken = was_broken || (settings.reports && tlsf_check(heap->general) != 0);
         (void)tlsf_stats(heap->general, &told);
         heap->most_before = told.most_bytes_live > heap->most_before ? told.most_bytes_live : heap->most_before;
         use((unsigned)(heap - heaps), VACANT);
         leave((unsigned)(heap - heaps), bytes_of_general());
         general_heaps--;
     }
-    unlock_it(&heap->lock);
-    unlock_it(&layout);
+    unlock_it(&heap->lock, seat);
+    unlock_it(&layout, of_layout);
 }
 
 /* Whole pages, and 0 for more than there are. */
@@ -296,14 +275,14 @@ static void *begin_pages(unsigned first, unsigned count, size_t align, size_t by
     if (mprotect((void *)start, bytes, PROT_READ | PROT_WRITE) != 0) {
         return NULL;
     }
-    lock_it(&heap->lock);
+    struct seat *seat = lock_it(&heap->lock);
     heap->pages = (void *)((start + align - 1) / align * align);
     heap->bytes = bytes;
     heap->stretches = count;
     for (unsigned k = count; k > 0; k--) {
         use(first + k - 1, k == 1 ? PAGES : BEHIND);
     }
-    unlock_it(&heap->lock);
+    unlock_it(&heap->lock, seat);
     blocks_of_pages++;
     count_pages(bytes);
     return heap->pages;
@@ -312,14 +291,14 @@ static void *begin_pages(unsigned first, unsigned count, size_t align, size_t by
 void *take_pages(size_t align, size_t bytes)
 {
     size_t whole = whole_pages(bytes, align > LARGE_PAGE ? align : 0);
-    size_t count = (whole + length_of_stretch() - 1) >> shift;
-    if (whole == 0 || count > stretches) {
+    size_t count = (whole + length_of_stretch() - 1) >> reserved.shift;
+    if (whole == 0 || count > reserved.stretches) {
         return NULL;
     }
-    lock_it(&layout);
+    struct seat *of_layout = lock_it(&layout);
     unsigned first = vacant((unsigned)count, true);
     void *given = first == STRETCHES_MOST ? NULL : begin_pages(first, (unsigned)count, align, whole);
-    unlock_it(&layout);
+    unlock_it(&layout, of_layout);
     return given;
 }
 
@@ -348,8 +327,8 @@ bool resize_pages(struct heap *heap, size_t bytes)
 bool free_pages(struct heap *heap, const void *address)
 {
     unsigned first = (unsigned)(heap - heaps);
-    lock_it(&layout);
-    lock_it(&heap->lock);
+    struct seat *of_layout = lock_it(&layout);
+    struct seat *seat = lock_it(&heap->lock);
     bool has = heap->use == PAGES && heap->pages == address;
     if (has) {
         for (unsigned k = 0; k < heap->stretches; k++) {
@@ -360,7 +339,7 @@ bool free_pages(struct heap *heap, const void *address)
         blocks_of_pages--;
         heap->pages = NULL;
     }
-    unlock_it(&heap->lock);
-    unlock_it(&layout);
+    unlock_it(&heap->lock, seat);
+    unlock_it(&layout, of_layout);
     return has;
 }

@@ -12,6 +12,7 @@
 #include <pthread.h>
 #include <stdlib.h>
 
+#include "lock.h"
 #include "tlsf.h"
 #include "tlsf_heap.h"
 #include "tlsf_parts.h"
@@ -21,22 +22,29 @@ enum { UNIT = TLSF_HEAP_UNIT, PAGE = 4096, STRETCHES_MOST = 1024 };
 /* What a stretch is used for. BEHIND is of the block of pages that begins in a stretch before. */
 enum use { VACANT, GENERAL, PART, PAGES, BEHIND };
 
+/* What each call needs stands in the first line of a processor's cache, or two. */
 struct heap {
-    pthread_mutex_t lock;
+    struct lock lock;
     enum use use;
-    unsigned stretches; /* of a block of pages */
+    bool was_full;        /* something was refused */
     tlsf_t general;
+    size_t live;          /* blocks */
+    size_t refusals;      /* of the heap, counted by its hook, and the last kind */
+    size_t refused_from;  /* the fewest bytes that were refused since a block was given back */
+    enum tlsf_refusal refused;
+    unsigned stretches;   /* of a block of pages */
     tlsf_parts *part;
     struct range *range;  /* that the part serves */
     void *pages;          /* the block's pointer */
     size_t bytes;         /* of pages, from the stretch's start on */
-    size_t live;          /* blocks */
-    size_t refused_from;  /* the fewest bytes that were refused since a block was given back */
-    bool was_full;        /* something was refused */
-    size_t refusals;      /* of the heap, counted by its hook, and the last kind */
-    enum tlsf_refusal refused;
     size_t most_before;   /* the most bytes held by heaps that were here */
-} __attribute__((aligned(64)));
+} __attribute__((aligned(128)));
+
+/* The addresses of all stretches. */
+struct reserved {
+    unsigned char *base;
+    unsigned shift, stretches;
+};
 
 /* Requests of up to `largest` bytes, which the parts from `first` on serve. */
 struct range {
@@ -50,15 +58,18 @@ struct range {
 /* What the environment tells. */
 struct settings {
     size_t pool;
+    size_t greatest; /* bytes, with those for an alignment, that a heap of tlsf.h is asked for */
     uint32_t records;
     bool is_one_heap; /* the pool or the records were told */
+    bool reports;     /* a report is asked for, and has a descriptor */
     struct range ranges[TLSF_PARTS_MOST];
     uint32_t count;
 };
 
 extern struct heap heaps[STRETCHES_MOST];
+extern struct reserved reserved;
 extern struct settings settings;
-extern pthread_mutex_t layout;
+extern struct lock layout;
 /* Those up to the last that ever was a heap or a part. Blocks of pages are behind them. */
 extern unsigned heaps_used;
 extern size_t blocks_of_pages, bytes_of_pages, most_bytes_of_pages;
@@ -75,20 +86,20 @@ uint32_t most_blocks_of_part(uint32_t largest);
 
 /* Reserves the stretches, and makes the parts. Answers false where there is no memory for one heap. */
 bool reserve_heaps(void);
-/* Locks, but in a thread that forks and so has all. */
-void lock_it(pthread_mutex_t *lock);
-void unlock_it(pthread_mutex_t *lock);
+/* What a thread does that forks. */
 void lock_all(void);
 void unlock_all(void);
 
 /* Makes a heap, and answers its number; STRETCHES_MOST where there can be no other. Under `layout`. */
 unsigned make_general(void);
-/* Gives the memory of an empty heap back. `checks` has its table checked first. */
-void give_back_if_empty(struct heap *heap, bool checks);
-/* The number of the stretch that an address lies in, or STRETCHES_MOST. */
-unsigned heap_at(const void *address);
-/* The most bytes, with those for an alignment, that a heap of tlsf.h is asked for. */
-size_t greatest_of_heap(void);
+/* Gives the memory of an empty heap back. Where a report is asked for its table is checked first. */
+void give_back_if_empty(struct heap *heap);
+/* The heap of the stretch that an address lies in, or a null pointer. */
+static inline struct heap *heap_at(const void *address)
+{
+    size_t number = ((uintptr_t)address - (uintptr_t)reserved.base) >> reserved.shift;
+    return number < reserved.stretches ? &heaps[number] : NULL;
+}
 
 /* A block of the system's pages, or a null pointer. */
 void *take_pages(size_t align, size_t bytes);

@@ -25,13 +25,13 @@ static struct held add_all(void)
 {
     struct held held = {blocks_of_pages, bytes_of_pages, most_bytes_of_pages, was_broken};
     for (unsigned k = 0; k < heaps_used; k++) {
-        lock_it(&heaps[k].lock);
+        struct seat *seat = lock_it(&heaps[k].lock);
         add_general(&heaps[k], &held);
         if (heaps[k].use == PART) {
             held.blocks += heaps[k].live;
             held.is_broken = held.is_broken || tlsf_parts_check(heaps[k].part) != 0;
         }
-        unlock_it(&heaps[k].lock);
+        unlock_it(&heaps[k].lock, seat);
     }
     return held;
 }

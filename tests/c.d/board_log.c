@@ -5,7 +5,7 @@
 #include "console.h"
 #include "tlsf_log.h"
 
-static _Alignas(16) unsigned char memory[16384];
+static _Alignas(16) unsigned char memory[8192];
 static tlsf_t heap;
 
 static void put(const char *text, size_t bytes, void *user)

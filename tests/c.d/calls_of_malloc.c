@@ -5,7 +5,8 @@
  * are refused. With `hold` it ends with blocks held; with `spoil_front` or `spoil_table` with
  * bytes changed that aren't its own. With `locks` it asks while another thread has the lock. With
  * `many` it holds 2^24 blocks, with `again` many twice, with `large` blocks above a pool. With `apart`
- * threads have heaps of their own. With `alone` there are no threads and no forks. */
+ * threads have heaps of their own. With `handed` threads free, resize and ask about each other's blocks,
+ * now and then. With `alone` there are no threads and no forks. */
 #define _GNU_SOURCE
 #include <errno.h>
 #include <malloc.h>
@@ -449,6 +450,74 @@ static void apart(void)
     expect(good, "another thread resizes their blocks, and gives them back");
 }
 
+/* Blocks that a thread hands to whoever comes. Between two of them each works in its own heap, so
+ * often that the heap's lock leans to it, and the next hand takes that away. */
+enum { HANDED = 8, HANDS = 10000, BETWEEN_HANDS = 150 };
+static unsigned char *handed_over[HANDED];
+
+static unsigned char *filled(unsigned char *block, size_t bytes)
+{
+    return block == NULL ? NULL : memset(block, (int)(bytes & 0xff), bytes);
+}
+
+/* Puts a block where another's was, and looks at that. Of each three one is resized. */
+static bool hand_over(unsigned turn)
+{
+    size_t bytes = 16 + turn % 200, had = 0;
+    unsigned char *block = filled(malloc(bytes + 1), bytes);
+    unsigned char *other = __atomic_exchange_n(&handed_over[turn % HANDED], block, __ATOMIC_ACQ_REL);
+    if (other == NULL) {
+        return block != NULL;
+    }
+    had = *other;
+    bool good = block != NULL && malloc_usable_size(other) > had && holds(other, had, (unsigned char)had);
+    if (turn % 3 == 0) {
+        other = realloc(other, 3 * had);
+        good = good && other != NULL && holds(other, had, (unsigned char)had);
+    }
+    free(other);
+    return good;
+}
+
+static void *hand(void *name)
+{
+    unsigned char *held[HELD] = {0};
+    unsigned state = (unsigned)(uintptr_t)name;
+    bool good = true;
+    for (unsigned turn = 0; turn < HANDS; turn++) {
+        for (unsigned step = 0; step < BETWEEN_HANDS; step++) {
+            state = state * 1664525u + 1013904223u;
+            unsigned k = (state >> 8) % HELD;
+            good = good && (held[k] == NULL || holds(held[k], *held[k], *held[k]));
+            free(held[k]);
+            held[k] = filled(malloc(200), 1 + (state >> 16) % 100);
+        }
+        good = hand_over(turn + state % 7) && good;
+    }
+    for (unsigned k = 0; k < HELD; k++) {
+        free(held[k]);
+    }
+    return good ? name : NULL;
+}
+
+static void handed(void)
+{
+    pthread_t threads[THREADS];
+    bool good = true;
+    for (uintptr_t k = 0; k < THREADS; k++) {
+        pthread_create(&threads[k], NULL, hand, (void *)(k + 1));
+    }
+    for (unsigned k = 0; k < THREADS; k++) {
+        void *answer = NULL;
+        pthread_join(threads[k], &answer);
+        good = good && answer != NULL;
+    }
+    for (unsigned k = 0; k < HANDED; k++) {
+        free(handed_over[k]);
+    }
+    expect(good, "threads free, resize and ask about each other's blocks, and each keeps its bytes");
+}
+
 static unsigned served(size_t bytes)
 {
     unsigned times = 0;
@@ -601,6 +670,10 @@ int main(int count, char **words)
     }
     if (count > 1 && strcmp(words[1], "refused") == 0) {
         refused();
+        return cases_end();
+    }
+    if (count > 1 && strcmp(words[1], "handed") == 0) {
+        handed();
         return cases_end();
     }
     if (count > 1 && strcmp(words[1], "apart") == 0) {
