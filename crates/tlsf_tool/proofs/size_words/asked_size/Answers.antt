@@ -1,4 +1,4 @@
-use Rattle.std.proofs.Common.{List, map, Option, refl, sym, ap, ◌∙◌, codes, Bor}
+use Rattle.std.proofs.Common.{List, Option, refl, sym, ap, ◌∙◌, codes, Bor}
 use Rattle.std.specs.Prelude.{option_map}
 use Rattle.clap.specs.Words.{Text, found_of, rows_of}
 use Rattle.clap.proofs.WalkLemmas.{raw_values-rows}
