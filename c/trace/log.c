@@ -38,7 +38,7 @@
 #endif
 
 /* A piece is as much as the disk promises at once. What is mapped ahead is a multiple of it. */
-enum { PIECE = 1 << 20, AHEAD = 1 << 30, NAMES_MOST = 1000, LOOK_EACH = 100, TELL_EACH = 10000 };
+enum { PIECE = 1 << 20, AHEAD = 1 << 30, NAMES_MOST = 1000, TELL_EACH = 100 };
 
 static const char end_line[] = "= End\n", cut_line[] = "@ cut ! (nil) 0\n";
 enum { END_BYTES = sizeof end_line - 1, CUT_BYTES = sizeof cut_line - 1 };
@@ -61,8 +61,8 @@ static size_t try_from;
 /* The process that may open no file any more, and the filter of system calls that it had at first. */
 static pid_t sealed;
 static long first_filter;
-/* When the log began, and when its age was told last, in milliseconds; and how often it was written to. */
-static uint64_t begun, last_told, writes;
+/* When the log began, and when its age was told last, in milliseconds. */
+static uint64_t begun, last_told;
 /* Whether the log was detached: what is written is lost. */
 static bool is_detached;
 
@@ -342,26 +342,23 @@ static void tell_number(char what, uint64_t number)
     append(line, (size_t)(end - line) + sizeof no_effect - 1);
 }
 
-/* Tells how old the log is, by a line without effect: `@ t1234 ! (nil) 0`. The clock is looked at each
- * LOOK_EACH writes, and told where a second is over or there were TELL_EACH. */
+/* Tells how old the log is, by a line without effect: `@ t1234 ! (nil) 0`, where TELL_EACH milliseconds are over. This clock costs no
+ * system call. */
 static void tell_time(void)
 {
     uint64_t now = milliseconds();
-    if (now - last_told >= 1000 || writes % TELL_EACH == 0) {
-        tell_number('t', now - begun);
+    if (now - last_told >= TELL_EACH) {
         last_told = now;
+        tell_number('t', now - begun);
     }
 }
 
 void log_write(const char *lines, size_t length)
 {
-    if (!log_is_on()) {
-        return;
-    }
-    if (++writes % LOOK_EACH == 0) {
+    if (log_is_on()) {
         tell_time();
+        append(lines, length);
     }
-    append(lines, length);
 }
 
 /* Tells how many blocks from before the log were freed, where a running program is traced: `@ b7 ! (nil) 0`. */
@@ -524,7 +521,6 @@ bool log_begin(const char *name)
     told_forget();
     is_detached = is_ended = false;
     begun = last_told = milliseconds();
-    writes = 0;
     process = getpid();
     written = room_to = 0;
     if (log_is_sealed()) {
