@@ -44,6 +44,20 @@ def make_folder(folder):
         raise Refused(f"{folder}: {error.strerror}") from None
 
 
+def report_in(folder, ring):
+    """The report of the process that made a ring, in the folder of reports."""
+    return os.path.join(folder, os.path.basename(ring).removesuffix("ring") + "report")
+
+
+def states_in(folder):
+    """How each ring ended, and whether it had calls, by its name."""
+    try:
+        with open(os.path.join(folder, "states"), encoding="utf-8") as lines:
+            return {name: (how, calls == "calls") for name, how, calls in map(str.split, lines)}
+    except FileNotFoundError:
+        return {}
+
+
 class Follower:
     """A follower that runs. Each process has the name of its ring, and by it a report in the folder."""
 
@@ -77,10 +91,6 @@ class Follower:
         if self.process.poll() is None:
             self.process.send_signal(number)
 
-    def report_of(self, ring):
-        """The report of the process that made a ring."""
-        return os.path.join(self.folder, os.path.basename(ring).removesuffix("ring") + "report")
-
     def end(self, say):
         """Waits for the last process: whether all lines were taken. Once it has to wait that is said."""
         self.order(signal.SIGTERM)
@@ -94,11 +104,6 @@ class Follower:
         return self.process.returncode == 0
 
     def states(self):
-        """How each ring ended, and whether it had calls, by its name. Then nothing is left of the rings."""
-        try:
-            with open(os.path.join(self.rings, "states"), encoding="utf-8") as lines:
-                told = {name: (how, calls == "calls") for name, how, calls in map(str.split, lines)}
-        except FileNotFoundError:
-            told = {}
+        """How each ring ended. Then nothing is left of the rings."""
         shutil.rmtree(self.rings)
-        return told
+        return states_in(self.folder)

@@ -4,7 +4,7 @@
  *
  * In the folder RINGS each traced process makes a ring (ring.h). Of each FOLDER gets NAME.report, what `TLSF WORD..` tells of its lines, and
  * NAME.told, the lines of modules and stacks; with -k NAME.log, all lines. With -e a report is due each MS milliseconds, as TLSF knows by its
- * own words, and at SIGUSR1. With -g a process goes on untraced where TLSF hangs. RINGS/states gets how each ended.
+ * own words, and at SIGUSR1. With -g a process goes on untraced where TLSF hangs. FOLDER/states gets how each ended.
  *
  * `ready` on standard output tells that processes may begin. At SIGTERM it ends once no process is left, at SIGINT it lets all go at
  * once. Its status is 3 where lines were lost, or a process couldn't make a ring. tools/trace starts it.

@@ -237,7 +237,7 @@ static void give_end(struct feed *feed)
 static void tell(const struct feed *feed)
 {
     char name[4096];
-    snprintf(name, sizeof name, "%s/states", asked.rings);
+    snprintf(name, sizeof name, "%s/states", asked.folder);
     FILE *states = fopen(name, "ae");
     if (states != NULL) {
         bool has_calls = feed->read > feed->no_calls + sizeof start_line - 1;
