@@ -121,16 +121,27 @@ bool ring_write(const char *text, size_t length, bool may_call)
 
 static int open_file(const char *name, int flags) { return (int)syscall(SYS_openat, AT_FDCWD, name, flags | O_CLOEXEC, 0600); }
 
-bool ring_session(const char *name)
+/* Maps a page of a file of the folder, or returns null. */
+static void *map_file(const char *folder, int length, const char *name, int flags)
 {
     char path[PATH_MOST];
-    const char *base = strrchr(name, '/');
-    int length = snprintf(path, sizeof path, "%.*s/session", base == NULL ? 0 : (int)(base - name), name);
-    int file = session != NULL || (size_t)length >= sizeof path ? -1 : open_file(path, O_RDWR);
+    void *page = MAP_FAILED;
+    int file = snprintf(path, sizeof path, "%.*s/%s", length, folder, name) < PATH_MOST ? open_file(path, flags) : -1;
     if (file >= 0) {
-        void *page = mmap(NULL, PAGE, PROT_READ | PROT_WRITE, MAP_SHARED, file, 0);
-        session = page == MAP_FAILED ? NULL : page;
+        page = mmap(NULL, PAGE, PROT_READ | PROT_WRITE, MAP_SHARED, file, 0);
         syscall(SYS_close, file);
+    }
+    return page == MAP_FAILED ? NULL : page;
+}
+
+bool ring_session(const char *name)
+{
+    const char *base = strrchr(name, '/');
+    int length = base == NULL ? 0 : (int)(base - name);
+    if (session == NULL && (session = map_file(name, length, "session", O_RDWR)) != NULL) {
+        char here[32];
+        snprintf(here, sizeof here, "%u.here", __atomic_fetch_add(&session->programs, 1, __ATOMIC_RELAXED));
+        map_file(name, length, here, O_RDWR | O_CREAT | O_EXCL);
     }
     return session != NULL && !is_alone();
 }

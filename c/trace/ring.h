@@ -27,11 +27,14 @@ struct ring {
     uint32_t room, follower_waits;
 };
 
-/* The file `session` of the folder: the follower, as the owner of a robust futex; how many rings there were; how many processes could make
- * none; and the bytes that a ring is to have. */
+/* The file `session` of the folder: the follower, as the owner of a robust futex; how many names of rings and programs were given; how many
+ * processes could make no ring; and the bytes that a ring is to have.
+ *
+ * A program has a file of its own there, NUMBER.here, and maps it. Its children have that mapping, too, until they become another program.
+ * So the follower knows by the kernel whether there is a process that may yet make a ring. */
 struct session {
     void *next;
-    uint32_t owner, rings, untraced, unused;
+    uint32_t owner, rings, programs, untraced;
     uint64_t ring_bytes;
 };
 

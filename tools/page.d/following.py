@@ -105,5 +105,5 @@ class Follower:
 
     def states(self):
         """How each ring ended. Then nothing is left of the rings."""
-        shutil.rmtree(self.rings)
+        shutil.rmtree(self.rings, ignore_errors=True)
         return states_in(self.folder)

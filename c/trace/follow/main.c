@@ -12,6 +12,7 @@
 #define _GNU_SOURCE
 #include "follow.h"
 
+#include <dirent.h>
 #include <errno.h>
 #include <fcntl.h>
 #include <limits.h>
@@ -29,7 +30,8 @@
 #include <sys/wait.h>
 #include <unistd.h>
 
-enum { RING_LEAST = 1 << 16, SET_UP_FAILED = 2 };
+/* How often a process that begins is looked for, in milliseconds, and how many times. */
+enum { RING_LEAST = 1 << 16, SET_UP_FAILED = 2, LOOK_EACH = 50, LOOKS_MOST = 100 };
 
 struct asked asked;
 
@@ -44,9 +46,8 @@ static struct followed *all;
 static size_t count, room;
 static struct session *session;
 static bool is_over, is_stopped, has_lost;
-/* How many mappings of the session processes have, those of a fork taken as one: a process that has one may yet begin a ring. */
-static int session_watch;
-static long mappings;
+/* How many programs run, with their children. */
+static long programs;
 
 static size_t page(void) { return (size_t)sysconf(_SC_PAGESIZE); }
 
@@ -171,27 +172,45 @@ static void forget(pid_t follower, int status)
 
 /* ---- what the kernel tells */
 
+static bool ends_with(const char *name, const char *end)
+{
+    size_t length = strlen(name), tail = strlen(end);
+    return length >= tail && strcmp(name + length - tail, end) == 0;
+}
+
 /* A ring got its name, so it is ready; or its process maps it no more. */
+static void take_ring(const char *name, bool is_ready)
+{
+    struct followed *one = find(name);
+    if (is_ready) {
+        follow(name);
+    } else if (one != NULL) {
+        __atomic_store_n(&one->ring->is_closed, 1, __ATOMIC_RELEASE);
+        wake(&one->ring->news);
+    }
+}
+
+/* A program began; or none of its processes is left. */
+static void take_program(const char *name, bool began)
+{
+    programs += began ? 1 : -1;
+    if (!began) {
+        unlink(path_in(asked.rings, name, (int)strlen(name), ""));
+    }
+}
+
+/* Events that are alike and follow each other are one for the kernel. Here each has a name of its own. */
 static void take_event(const struct inotify_event *event)
 {
     if ((event->mask & IN_Q_OVERFLOW) != 0) {
         errno = EOVERFLOW;
         die(asked.rings);
     }
-    if (event->wd == session_watch) {
-        mappings += (event->mask & IN_OPEN) != 0 ? 1 : -1;
-        return;
-    }
-    size_t length = event->len == 0 ? 0 : strlen(event->name);
-    if (length < 5 || strcmp(event->name + length - 5, ".ring") != 0) {
-        return;
-    }
-    struct followed *one = find(event->name);
-    if ((event->mask & IN_MOVED_TO) != 0) {
-        follow(event->name);
-    } else if (one != NULL) {
-        __atomic_store_n(&one->ring->is_closed, 1, __ATOMIC_RELEASE);
-        wake(&one->ring->news);
+    const char *name = event->len == 0 ? "" : event->name;
+    if (ends_with(name, ".ring") && (event->mask & (IN_MOVED_TO | IN_CLOSE_WRITE)) != 0) {
+        take_ring(name, (event->mask & IN_MOVED_TO) != 0);
+    } else if (ends_with(name, ".here") && (event->mask & (IN_CREATE | IN_CLOSE_WRITE)) != 0) {
+        take_program(name, (event->mask & IN_CREATE) != 0);
     }
 }
 
@@ -232,12 +251,44 @@ static void take_signal(int signals)
     }
 }
 
+/* Whether a process has variables by which it makes its ring here. */
+static bool has_variables(const char *process)
+{
+    static char variables[1 << 18];
+    char wanted[PATH_MAX], name[64];
+    snprintf(wanted, sizeof wanted, "TLSF_TRACE_LOG=ring:%s/", asked.rings);
+    snprintf(name, sizeof name, "/proc/%.20s/environ", process);
+    int file = open(name, O_RDONLY | O_CLOEXEC);
+    ssize_t length = file < 0 ? 0 : read(file, variables, sizeof variables);
+    if (file >= 0) {
+        close(file);
+    }
+    return length > 0 && memmem(variables, (size_t)length, wanted, strlen(wanted)) != NULL;
+}
+
+/* Whether a process has just become another program, which hasn't begun yet. One that isn't traced is waited for for a while, too. */
+static bool is_beginning(void)
+{
+    static int looks;
+    DIR *processes = looks++ < LOOKS_MOST ? opendir("/proc") : NULL;
+    bool is_found = false;
+    for (struct dirent *entry; !is_found && processes != NULL && (entry = readdir(processes)) != NULL;) {
+        is_found = entry->d_name[0] >= '1' && entry->d_name[0] <= '9' && has_variables(entry->d_name);
+    }
+    if (processes != NULL) {
+        closedir(processes);
+    }
+    return is_found;
+}
+
+static bool is_any_left(void) { return count > 0 || (!is_stopped && (programs > 0 || is_beginning())); }
+
 /* Until it is over, and no process is left that has a ring, or may begin one. */
 static void follow_all(int events, int signals)
 {
     struct pollfd both[] = {{events, POLLIN, 0}, {signals, POLLIN, 0}};
-    while (!is_over || count > 0 || (mappings > 0 && !is_stopped)) {
-        poll(both, 2, -1);
+    while (!is_over || is_any_left()) {
+        poll(both, 2, is_over && count == 0 && programs == 0 ? LOOK_EACH : -1);
         while (take_events(events)) {
         }
         take_children();
@@ -253,7 +304,7 @@ static void follow_all(int events, int signals)
 /* ---- begin */
 
 /* The session: this thread is the owner of its futex, so that the kernel tells its death. */
-static void open_session(int events, unsigned long bytes)
+static void open_session(unsigned long bytes)
 {
     static struct robust_list_head head;
     const char *name = path_in(asked.rings, "session", 7, "");
@@ -264,7 +315,6 @@ static void open_session(int events, unsigned long bytes)
     }
     close(file);
     session = memory;
-    session_watch = inotify_add_watch(events, name, IN_OPEN | IN_CLOSE);
     session->ring_bytes = RING_LEAST;
     while (session->ring_bytes < bytes) {
         session->ring_bytes *= 2;
@@ -314,12 +364,14 @@ int main(int argc, char **argv)
     unsigned long bytes = take_options(argc, argv);
     prctl(PR_SET_PDEATHSIG, SIGTERM);
     int signals = open_signals(), events = inotify_init1(IN_NONBLOCK | IN_CLOEXEC);
-    if (signals < 0 || events < 0 || inotify_add_watch(events, asked.rings, IN_MOVED_TO | IN_CLOSE_WRITE) < 0) {
+    if (signals < 0 || events < 0 || inotify_add_watch(events, asked.rings, IN_CREATE | IN_MOVED_TO | IN_CLOSE_WRITE) < 0) {
         die(asked.rings);
     }
-    open_session(events, bytes);
+    open_session(bytes);
     puts("ready");
     fclose(stdout);
     follow_all(events, signals);
+    unlink(path_in(asked.rings, "session", 7, ""));
+    rmdir(asked.rings);
     return has_lost || session->untraced > 0 ? LOST_SOME : 0;
 }
