@@ -560,7 +560,7 @@ static bool begin_ring(const char *name)
         return false;
     }
     if (!name_file(name, (int)ring_number()) || !ring_begin(path, begun)) {
-        say(path, "has no room for a ring, so nothing is traced");
+        say(path, errno == ENOSPC ? "has no room for a ring, so nothing is traced" : "can't be made, so nothing is traced");
         return false;
     }
     return true;

@@ -193,9 +193,11 @@ bool ring_begin(const char *path, uint64_t begun)
         syscall(SYS_close, file);
     }
     if (!is_made) {
+        int code = file < 0 ? errno : ENOSPC;
         ring_cut();
         syscall(SYS_unlinkat, AT_FDCWD, fresh, 0);
         __atomic_add_fetch(&session->untraced, 1, __ATOMIC_RELAXED);
+        errno = code;
     }
     return is_made;
 }

@@ -159,7 +159,7 @@ bool ring_is_on(void);
 bool ring_session(const char *name);
 unsigned ring_number(void);
 
-/* Makes a ring of this name, of a log that began then. Returns whether there is memory. */
+/* Makes a ring of this name, of a log that began then. Returns whether it could; errno is ENOSPC where there is no memory. */
 bool ring_begin(const char *path, uint64_t begun);
 
 /* Writes whole lines, once there is room. Returns whether the follower reads them: else it is gone. */
