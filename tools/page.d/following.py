@@ -1,4 +1,5 @@
-"""A program that is followed: tlsf-follow takes the lines of its calls from memory, and gives them to tlsf while it runs. It isn't proved."""
+"""A program that is followed: tlsf-follow takes the lines of its calls from memory, and gives them
+to tlsf while it runs. It isn't proved."""
 import os
 import re
 import shutil
@@ -59,10 +60,11 @@ def states_in(folder):
 
 
 class Follower:
-    """A follower that runs. Each process has the name of its ring, and by it a report in the folder."""
+    """A follower that runs. Each process has the name of its ring, and by it a report."""
 
     def __init__(self, program, folder, consumer, options):
-        """A Refused tells why it can't be started: the path of tlsf-follow, the folder, the words of tlsf, and its own options."""
+        """By the path of tlsf-follow, the folder, the words of tlsf, and options. A Refused tells
+        why it can't be started."""
         make_folder(folder)
         self.folder = folder
         try:
@@ -70,8 +72,9 @@ class Follower:
         except OSError as error:
             raise Refused(f"{ROOM}: {error.strerror}") from None
         try:
-            self.process = subprocess.Popen([program, *options, self.rings, folder, *consumer], stdin=subprocess.DEVNULL,
-                                            stdout=subprocess.PIPE, start_new_session=True)
+            self.process = subprocess.Popen(
+                [program, *options, self.rings, folder, *consumer], stdin=subprocess.DEVNULL,
+                stdout=subprocess.PIPE, start_new_session=True)
         except OSError as error:
             shutil.rmtree(self.rings)
             raise Refused(f"{program}: {error.strerror}") from None
@@ -87,17 +90,18 @@ class Follower:
         return f"ring:{self.rings}/%p.ring"
 
     def order(self, number):
-        """Sends a signal: SIGUSR1 for a report now, SIGTERM to end with the last process, SIGINT to end at once."""
+        """Sends a signal: SIGUSR1 for a report now, SIGTERM to end with the last process, SIGINT to
+        end at once."""
         if self.process.poll() is None:
             self.process.send_signal(number)
 
     def end(self, say):
-        """Waits for the last process: whether all lines were taken. Once it has to wait that is said."""
+        """Waits for the last process, and says so: whether all lines were taken."""
         self.order(signal.SIGTERM)
         try:
             self.process.wait(timeout=1)
         except subprocess.TimeoutExpired:
-            say("the program has ended; processes that it left are followed until they end, or until ^C")
+            say("the program has ended; what it left is followed until that ends, or until ^C")
             for number in (signal.SIGINT, signal.SIGQUIT, signal.SIGTERM, signal.SIGHUP):
                 signal.signal(number, lambda *_: self.order(signal.SIGINT))
             self.process.wait()

@@ -1,4 +1,5 @@
-"""The sections of a program that is followed: what each process held, with names, while it ran, and what grew. It isn't proved."""
+"""The sections of a program that is followed: what each process held, with names, while it ran, and
+what grew. It isn't proved."""
 import ctypes
 import os
 import re
@@ -10,20 +11,21 @@ import following
 from baseline import Row, Sum
 from index import entries_of
 from naming import Report, Site, stacks_for
-from processes import AT_ONCE, AT_THE_END, CUT, HEAD, RUNNING, WHOLE, Process
+from processes import AT_ONCE, AT_THE_END, CUT, HEAD, IN_TITLE, RUNNING, WHOLE, Process
 from reports import DIAGNOSTIC
 from stacks import text_of
 
 HEADING = re.compile(rb"At line ([0-9]+), ([0-9]+) ms:")
 BLOCKS = re.compile(rb"[0-9]+ bytes in ([0-9]+) blocks")
 NOW = "Held now: "
-STATES = {following.WHOLE: WHOLE, following.ENDED: AT_ONCE, following.CUT: CUT, following.LOST: CUT}
+STATES = {following.WHOLE: WHOLE, following.ENDED: AT_ONCE, following.CUT: CUT,
+          following.LOST: CUT}
 PUNCH_HOLE, KEEP_SIZE = 2, 1
 
 
 @dataclass
 class Section:
-    """What was held: at a line and after milliseconds, or at the end. Its lines begin with that of the sums."""
+    """What was held: at a line and after milliseconds, or at the end. Its first line has sums."""
     line: int
     milliseconds: int
     lines: list
@@ -31,10 +33,12 @@ class Section:
 
 
 class Sections:
-    """Finds the sections in what tlsf writes, as far as it has written. One is whole once its blocks are all told."""
+    """Finds the sections in what tlsf writes, as far as it has written. One is whole once its
+    blocks are all told."""
 
     def __init__(self):
-        self.rest, self.place, self.lines, self.missing, self.diagnostics = b"", None, None, 0, 0
+        self.rest, self.place, self.lines = b"", None, None
+        self.missing, self.diagnostics = 0, 0
 
     def take(self, text):
         """The sections that this text makes whole."""
@@ -60,7 +64,8 @@ class Sections:
 
 
 class Followed(Process):
-    """A process that is followed, whose reports come while it runs. Its log has the lines of modules and stacks alone."""
+    """A process that is followed, whose reports come while it runs. Its log has the lines of
+    modules and stacks alone."""
 
     # pylint: disable=super-init-not-called
     def __init__(self, number, report, program):
@@ -90,7 +95,8 @@ class Followed(Process):
     def told(self, section, asked, suppressions):
         """A section as text, with what grew since the one before."""
         entries = self.named(section, asked, suppressions)
-        yield f"At line {section.line}, {section.milliseconds} ms: {self.program}, process {self.number}:"
+        where = f"At line {section.line}, {section.milliseconds} ms"
+        yield f"{where}: {self.program}, process {self.number}:"
         yield from (str(entry).replace("Held at the end: ", NOW, 1) for entry in entries)
         sums = sums_of(entries)
         yield from grew(self.before, sums) if self.before is not None else ()
@@ -100,7 +106,7 @@ class Followed(Process):
         """Takes how it ended, and names what it holds then."""
         last = self.last.lines if self.last else [AT_THE_END + b"0 blocks, 0 bytes."]
         self.end, self.is_traced = STATES[state] if self.last else CUT, has_calls
-        self.title = f"{self.program}, process {self.number}{', which ended at once, as by a signal' if self.end == AT_ONCE else ''}"
+        self.title = f"{self.program}, process {self.number}{IN_TITLE[self.end]}"
         self.lines, self.held = last, HEAD.fullmatch(text_of(last[0]))
         self.diagnostics = [b"line"] * self.sections.diagnostics
         if not self.is_cut:
@@ -125,8 +131,10 @@ def sums_of(entries):
 def grew(before, sums):
     """A line for each site that holds more than in the section before, most bytes first."""
     rows = [Row(key, now.text, before.get(key, Sum()), now) for key, now in sums.items()]
-    for row in sorted((row for row in rows if row.grew), key=lambda row: (row.old.bytes - row.new.bytes, row.old.blocks - row.new.blocks, row.text)):
-        yield f"Grew: {row.new.bytes - row.old.bytes} bytes in {row.new.blocks - row.old.blocks} blocks at {row.text}"
+    more = [(row.new.bytes - row.old.bytes, row.new.blocks - row.old.blocks, row.text)
+            for row in rows if row.grew]
+    for number, blocks, text in sorted(more, key=lambda one: (-one[0], -one[1], one[2])):
+        yield f"Grew: {number} bytes in {blocks} blocks at {text}"
 
 
 class Session:
@@ -144,7 +152,8 @@ class Session:
         self.seen = size
         for number, ring, program in entries_of(self.index):
             if ring and ring not in self.processes:
-                self.processes[ring] = Followed(number, following.report_in(self.folder, ring), program)
+                report = following.report_in(self.folder, ring)
+                self.processes[ring] = Followed(number, report, program)
 
     def sections(self):
         """The text of each section that came."""
