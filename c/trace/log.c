@@ -10,6 +10,8 @@
  * Room on the disk is promised a piece at a time; where the file can't be opened each page is tried
  * before it is written to. Where the log can't go on its last line says that it is cut.
  *
+ * A program that is followed has a ring in memory in place of a file (ring.c).
+ *
  * System calls are made by syscall(): the C library's open and write are cancellation points, and may
  * be those of another preloaded library.
  */
@@ -38,7 +40,7 @@
 #endif
 
 /* A piece is as much as the disk promises at once. What is mapped ahead is a multiple of it. */
-enum { PIECE = 1 << 20, AHEAD = 1 << 30, NAMES_MOST = 1000, LOOK_EACH = 100, TELL_EACH = 10000 };
+enum { PIECE = 1 << 20, AHEAD = 1 << 30, NAMES_MOST = 1000, TELL_EACH = 100 };
 
 static const char end_line[] = "= End\n", cut_line[] = "@ cut ! (nil) 0\n";
 enum { END_BYTES = sizeof end_line - 1, CUT_BYTES = sizeof cut_line - 1 };
@@ -61,8 +63,8 @@ static size_t try_from;
 /* The process that may open no file any more, and the filter of system calls that it had at first. */
 static pid_t sealed;
 static long first_filter;
-/* When the log began, and when its age was told last, in milliseconds; and how often it was written to. */
-static uint64_t begun, last_told, writes;
+/* When the log began, and when its age was told last, in milliseconds. */
+static uint64_t begun, last_told;
 /* Whether the log was detached: what is written is lost. */
 static bool is_detached;
 
@@ -129,6 +131,7 @@ static void fail(const char *why)
 {
     say(path, why);
     *alive = 0;
+    ring_cut();
     if (mapped != NULL && written + CUT_BYTES <= room_to) {
         memcpy(mapped + (written - mapped_from), cut_line, CUT_BYTES);
         written += CUT_BYTES;
@@ -314,10 +317,21 @@ static void write_before_end(const char *lines, size_t length)
     }
 }
 
+static const char no_follower[] = "has no follower any more, so the log is cut";
+
+static void append_to_ring(const char *lines, size_t length)
+{
+    if (!ring_write(lines, length, sealed == 0) && !is_detached) {
+        fail(no_follower);
+    }
+}
+
 /* Writes whole lines behind the last one. */
 static void append(const char *lines, size_t length)
 {
-    if (is_ended) {
+    if (ring_is_on()) {
+        append_to_ring(lines, length);
+    } else if (is_ended) {
         write_before_end(lines, length);
     } else if (has_room(length)) {
         memcpy(mapped + (written - mapped_from), lines, length);
@@ -342,26 +356,25 @@ static void tell_number(char what, uint64_t number)
     append(line, (size_t)(end - line) + sizeof no_effect - 1);
 }
 
-/* Tells how old the log is, by a line without effect: `@ t1234 ! (nil) 0`. The clock is looked at each
- * LOOK_EACH writes, and told where a second is over or there were TELL_EACH. */
+/* Tells how old the log is, by a line without effect: `@ t1234 ! (nil) 0`, where TELL_EACH milliseconds are over. This clock costs no
+ * system call. */
 static void tell_time(void)
 {
     uint64_t now = milliseconds();
-    if (now - last_told >= 1000 || writes % TELL_EACH == 0) {
-        tell_number('t', now - begun);
+    if (now - last_told >= TELL_EACH) {
         last_told = now;
+        tell_number('t', now - begun);
     }
 }
 
 void log_write(const char *lines, size_t length)
 {
-    if (!log_is_on()) {
-        return;
-    }
-    if (++writes % LOOK_EACH == 0) {
+    if (log_is_on()) {
         tell_time();
     }
-    append(lines, length);
+    if (log_is_on()) {
+        append(lines, length);
+    }
 }
 
 /* Tells how many blocks from before the log were freed, where a running program is traced: `@ b7 ! (nil) 0`. */
@@ -373,13 +386,9 @@ static void tell_before(void)
 }
 
 /* Where the file can't be opened zeros stay behind the end, which tools/trace cuts off. */
-void log_end(void)
+static void end_file(void)
 {
-    if (!log_is_on() || is_ended) {
-        return;
-    }
-    tell_before();
-    if (log_is_on() && has_room(END_BYTES)) {
+    if (has_room(END_BYTES)) {
         memcpy(mapped + (written - mapped_from), end_line, END_BYTES);
         is_ended = true;
         if (cut_file(written + END_BYTES)) {
@@ -389,10 +398,31 @@ void log_end(void)
     }
 }
 
+/* The follower writes the end of a ring. */
+static void end_ring(void)
+{
+    is_ended = ring_end(true, sealed == 0);
+    if (!is_ended) {
+        fail(no_follower);
+    }
+}
+
+void log_end(void)
+{
+    if (!log_is_on() || is_ended) {
+        return;
+    }
+    tell_before();
+    if (log_is_on()) {
+        (ring_is_on() ? end_ring : end_file)();
+    }
+}
+
 void log_close(void)
 {
     log_end();
     *alive = 0;
+    ring_leave();
 }
 
 void log_drop(const char *why) { fail(why); }
@@ -411,7 +441,13 @@ void log_keep_small(void)
 
 void log_resume(void)
 {
-    if (log_is_on() && is_ended && (mapped != NULL || map_on())) {
+    if (!log_is_on() || !is_ended) {
+        return;
+    }
+    if (ring_is_on()) {
+        ring_end(false, sealed == 0);
+        is_ended = false;
+    } else if (mapped != NULL || map_on()) {
         memset(mapped + (written - mapped_from), 0, END_BYTES);
         is_ended = false;
     }
@@ -419,6 +455,7 @@ void log_resume(void)
 
 void log_forget(void)
 {
+    ring_forget();
     unmap();
     *alive = 0;
     /* A filter of system calls is the child's, too. */
@@ -432,6 +469,7 @@ void log_forget(void)
 
 void log_detach(void)
 {
+    ring_detach();
     if (mapped != NULL) {
         /* With the page that may just be tried. */
         size_t left = mapped_from + mapped_bytes - written / PAGE * PAGE, wanted = room_to + PAGE - written / PAGE * PAGE;
@@ -505,6 +543,29 @@ static void add_to_index(void)
     }
 }
 
+/* Makes the log a file, or a ring. */
+static bool begin_file(const char *name)
+{
+    if (!make_file(name)) {
+        fail("can't be made, so nothing is traced");
+        return false;
+    }
+    return map_on();
+}
+
+static bool begin_ring(const char *name)
+{
+    if (!ring_session(name)) {
+        say(name, "has no follower, so nothing is traced");
+        return false;
+    }
+    if (!name_file(name, (int)ring_number()) || !ring_begin(path, begun)) {
+        say(path, errno == ENOSPC ? "has no room for a ring, so nothing is traced" : "can't be made, so nothing is traced");
+        return false;
+    }
+    return true;
+}
+
 /* The page with `alive`. */
 static void make_alive(void)
 {
@@ -519,12 +580,11 @@ static void make_alive(void)
 
 bool log_begin(const char *name)
 {
-    static const char start_line[] = "= Start\n";
+    static const char start_line[] = "= Start\n", ring_sign[] = "ring:";
     make_alive();
     told_forget();
     is_detached = is_ended = false;
     begun = last_told = milliseconds();
-    writes = 0;
     process = getpid();
     written = room_to = 0;
     if (log_is_sealed()) {
@@ -533,11 +593,8 @@ bool log_begin(const char *name)
     }
     first_filter = syscall(SYS_prctl, PR_GET_SECCOMP, 0ul, 0ul, 0ul, 0ul);
     is_small |= since_is_on();
-    if (!make_file(name)) {
-        fail("can't be made, so nothing is traced");
-        return false;
-    }
-    if (!map_on()) {
+    bool is_ring = strncmp(name, ring_sign, sizeof ring_sign - 1) == 0;
+    if (!(is_ring ? begin_ring(name + sizeof ring_sign - 1) : begin_file(name))) {
         return false;
     }
     *alive = 1;

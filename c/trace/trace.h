@@ -7,6 +7,7 @@
  *     told.c     the modules and stacks that the log has told
  *     text.c     numbers as text
  *     log.c      the log: a file that is mapped ahead
+ *     ring.c     the same without a file: a ring in memory, whose follower (follow/) gives its lines to tlsf
  *     slots.c    the slots by which a running program calls malloc
  *     since.c    the blocks that are held since a running program is traced
  *     held.c     the blocks that are held at the end, by the log
@@ -15,7 +16,7 @@
  *     child.c    the calls that start a program, of which those are noted that aren't traced
  *     limits.c   the calls by which a process limits itself: the log is made ready for that
  *
- * The environment has TLSF_TRACE_LOG, the log's name; TLSF_TRACE_FRAMES, the most frames of a
+ * The environment has TLSF_TRACE_LOG, the log's name, behind `ring:` where it is a ring; TLSF_TRACE_FRAMES, the most frames of a
  * location; TLSF_TRACE_INDEX, a file to which each process adds its log's name; and
  * TLSF_TRACE_REACHABLE, with which each process tells what is still reachable at its end.
  *
@@ -149,6 +150,31 @@ const char *log_path(void);
 
 /* Adds words to the index, each ended by a zero, in one write. Without the lock: a child of vfork may do it. */
 void log_note(const char *words, size_t length);
+
+/* ring.c: but for ring_forget and ring_detach, with the log's lock held. Where no system call may be made, as behind a filter, none is. */
+
+bool ring_is_on(void);
+
+/* Looks for the follower by the file `session` beside a ring's name. Returns whether it is there. Then each ring has another number. */
+bool ring_session(const char *name);
+unsigned ring_number(void);
+
+/* Makes a ring of this name, of a log that began then. Returns whether it could; errno is ENOSPC where there is no memory. */
+bool ring_begin(const char *path, uint64_t begun);
+
+/* Writes whole lines, once there is room. Returns whether the follower reads them: else it is gone. */
+bool ring_write(const char *text, size_t length, bool may_call);
+
+/* Whether the log has its end. Returns as above. */
+bool ring_end(bool is_ended, bool may_call);
+
+/* Gives the ring up; the same where the log goes on without being whole. */
+void ring_leave(void);
+void ring_cut(void);
+
+/* As log_forget and log_detach. */
+void ring_forget(void);
+void ring_detach(void);
 
 /* child.c */
 
