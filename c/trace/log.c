@@ -555,7 +555,7 @@ static bool begin_file(const char *name)
 
 static bool begin_ring(const char *name)
 {
-    if (!ring_session(name)) {
+    if (!ring_session(name, since_is_on())) {
         say(name, "has no follower, so nothing is traced");
         return false;
     }

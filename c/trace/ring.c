@@ -134,11 +134,15 @@ static void *map_file(const char *folder, int length, const char *name, int flag
     return page == MAP_FAILED ? NULL : page;
 }
 
-bool ring_session(const char *name)
+bool ring_session(const char *name, bool is_late)
 {
     const char *base = strrchr(name, '/');
     int length = base == NULL ? 0 : (int)(base - name);
-    if (session == NULL && (session = map_file(name, length, "session", O_RDWR)) != NULL) {
+    if (is_late && session != NULL) {
+        munmap(session, PAGE);
+        session = NULL;
+    }
+    if (session == NULL && (session = map_file(name, length, "session", O_RDWR)) != NULL && !is_late) {
         char here[32];
         snprintf(here, sizeof here, "%u.here", __atomic_fetch_add(&session->programs, 1, __ATOMIC_RELAXED));
         map_file(name, length, here, O_RDWR | O_CREAT | O_EXCL);

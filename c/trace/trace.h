@@ -155,8 +155,9 @@ void log_note(const char *words, size_t length);
 
 bool ring_is_on(void);
 
-/* Looks for the follower by the file `session` beside a ring's name. Returns whether it is there. Then each ring has another number. */
-bool ring_session(const char *name);
+/* Looks for the follower by the file `session` beside a ring's name: where tracing begins late another than before. Returns whether it is
+ * there. Then each ring has another number. */
+bool ring_session(const char *name, bool is_late);
 unsigned ring_number(void);
 
 /* Makes a ring of this name, of a log that began then. Returns whether it could; errno is ENOSPC where there is no memory. */

@@ -1,5 +1,6 @@
 """A program that is followed: tlsf-follow takes the lines of its calls from memory, and gives them
 to tlsf while it runs. It isn't proved."""
+import contextlib
 import os
 import re
 import shutil
@@ -8,7 +9,7 @@ import subprocess
 import tempfile
 
 FOLLOWER = "tlsf-follow"
-ROOM = "/dev/shm"
+ROOM, FOLDER = "/dev/shm", "tlsf-trace-"
 UNITS = {"ms": 1, "s": 1000, "m": 60_000, "h": 3_600_000, "d": 86_400_000}
 SIZES = {"": 1, "k": 1 << 10, "M": 1 << 20, "G": 1 << 30}
 RING = "4M"
@@ -27,12 +28,20 @@ def milliseconds_of(text):
     return int(found[1]) * UNITS[found[2]]
 
 
-def bytes_of(text):
+def size_of(text):
     """A size, as `4M`, in bytes. A ValueError tells that it is none."""
     found = re.fullmatch("([1-9][0-9]{0,8})([kMG]?)", text)
-    if not found or int(found[1]) * SIZES[found[2]] > 1 << 32:
+    if not found:
         raise ValueError
     return int(found[1]) * SIZES[found[2]]
+
+
+def bytes_of(text):
+    """The size of a ring, likewise: 4 GB at most."""
+    size = size_of(text)
+    if size > 1 << 32:
+        raise ValueError
+    return size
 
 
 def make_folder(folder):
@@ -48,6 +57,11 @@ def make_folder(folder):
 def report_in(folder, ring):
     """The report of the process that made a ring, in the folder of reports."""
     return os.path.join(folder, os.path.basename(ring).removesuffix("ring") + "report")
+
+
+def is_ring(log):
+    """Whether a log, by what its process calls it, is a ring of a follower."""
+    return log.startswith(f"{ROOM}/{FOLDER}") and log.endswith(".ring")
 
 
 def states_in(folder):
@@ -68,7 +82,7 @@ class Follower:
         make_folder(folder)
         self.folder = folder
         try:
-            self.rings = tempfile.mkdtemp(prefix="tlsf-trace-", dir=ROOM)
+            self.rings = tempfile.mkdtemp(prefix=FOLDER, dir=ROOM)
         except OSError as error:
             raise Refused(f"{ROOM}: {error.strerror}") from None
         try:
@@ -95,12 +109,30 @@ class Follower:
         if self.process.poll() is None:
             self.process.send_signal(number)
 
+    def tell_stopped(self, say):
+        """Says, at SIGCHLD, that a signal has stopped the follower, if one just has."""
+        with contextlib.suppress(ChildProcessError):
+            if os.waitid(os.P_PID, self.process.pid, os.WSTOPPED | os.WNOHANG):
+                say("the follower is stopped by a signal, so the program may have to wait")
+
+    def is_over(self, seconds):
+        """Whether it has ended, within seconds."""
+        try:
+            self.process.wait(timeout=seconds)
+            return True
+        except subprocess.TimeoutExpired:
+            return False
+
+    def drop(self):
+        """Ends it where nothing can be followed."""
+        self.order(signal.SIGINT)
+        self.process.wait()
+        shutil.rmtree(self.rings, ignore_errors=True)
+
     def end(self, say):
         """Waits for the last process, and says so: whether all lines were taken."""
         self.order(signal.SIGTERM)
-        try:
-            self.process.wait(timeout=1)
-        except subprocess.TimeoutExpired:
+        if not self.is_over(1):
             say("the program has ended; what it left is followed until that ends, or until ^C")
             for number in (signal.SIGINT, signal.SIGQUIT, signal.SIGTERM, signal.SIGHUP):
                 signal.signal(number, lambda *_: self.order(signal.SIGINT))

@@ -13,12 +13,12 @@
 #include <stddef.h>
 #include <sys/types.h>
 
-/* What was asked for: the folder of rings and that of reports; the consumer's words; milliseconds from report to report, or 0; whether lines
- * are kept, too; and whether a process goes on untraced where the consumer takes no lines. */
+/* What was asked for: the folder of rings and that of reports; the consumer's words; milliseconds from report to report, or 0; the most bytes
+ * of lines that are kept; whether lines are kept, too; and whether a process goes on untraced where the consumer takes no lines. */
 struct asked {
     const char *rings, *folder;
     char **words;
-    unsigned long every;
+    unsigned long every, keep_most;
     bool keeps_lines, gives_up;
 };
 extern struct asked asked;

@@ -1,9 +1,9 @@
 /* main.c: tlsf-follow, which gives the lines of traced processes to tlsf while they run.
  *
- *     tlsf-follow [-k] [-g] [-e MS] [-r BYTES] RINGS FOLDER TLSF WORD..
+ *     tlsf-follow [-k] [-m BYTES] [-g] [-e MS] [-r BYTES] RINGS FOLDER TLSF WORD..
  *
  * In the folder RINGS each traced process makes a ring (ring.h). Of each FOLDER gets NAME.report, what `TLSF WORD..` tells of its lines, and
- * NAME.told, the lines of modules and stacks; with -k NAME.log, all lines. With -e a report is due each MS milliseconds, as TLSF knows by its
+ * NAME.told, the lines of modules and stacks; with -k NAME.log, all lines, or with -m as many bytes of them at most. With -e a report is due each MS milliseconds, as TLSF knows by its
  * own words, and at SIGUSR1. With -g a process goes on untraced where TLSF hangs. FOLDER/states gets how each ended.
  *
  * `ready` on standard output tells that processes may begin. At SIGTERM it ends once no process is left, at SIGINT it lets all go at
@@ -33,7 +33,7 @@
 /* How often a process that begins is looked for, in milliseconds, and how many times. */
 enum { RING_LEAST = 1 << 16, SET_UP_FAILED = 2, LOOK_EACH = 50, LOOKS_MOST = 100 };
 
-struct asked asked;
+struct asked asked = {.keep_most = ULONG_MAX};
 
 /* A ring that is followed: its name, its head, and its follower. */
 struct followed {
@@ -226,11 +226,24 @@ static bool take_events(int events)
     return length > 0;
 }
 
+static void tell_stopped(pid_t follower)
+{
+    for (size_t k = 0; k < count; k++) {
+        if (all[k].follower == follower) {
+            say(file_of(all[k].name, "report"), "its follower is stopped by a signal, so its process may have to wait");
+        }
+    }
+}
+
 static void take_children(void)
 {
     int status;
-    for (pid_t child; (child = waitpid(-1, &status, WNOHANG)) > 0;) {
-        forget(child, status);
+    for (pid_t child; (child = waitpid(-1, &status, WNOHANG | WUNTRACED)) > 0;) {
+        if (WIFSTOPPED(status)) {
+            tell_stopped(child);
+        } else {
+            forget(child, status);
+        }
     }
 }
 
@@ -291,13 +304,14 @@ static void follow_all(int events, int signals)
         poll(both, 2, is_over && count == 0 && programs == 0 ? LOOK_EACH : -1);
         while (take_events(events)) {
         }
-        take_children();
         if ((both[1].revents & POLLIN) != 0) {
             take_signal(signals);
         }
         /* What came before the end was asked for. */
         while (take_events(events)) {
         }
+        /* Behind their signal, since the next is one with it until it is taken. */
+        take_children();
     }
 }
 
@@ -343,14 +357,15 @@ static int open_signals(void)
 static unsigned long take_options(int argc, char **argv)
 {
     unsigned long bytes = 0;
-    for (int option; (option = getopt(argc, argv, "+kge:r:")) != -1;) {
+    for (int option; (option = getopt(argc, argv, "+kge:m:r:")) != -1;) {
         asked.keeps_lines |= option == 'k';
         asked.gives_up |= option == 'g';
         asked.every = option == 'e' ? strtoul(optarg, NULL, 10) : asked.every;
+        asked.keep_most = option == 'm' ? strtoul(optarg, NULL, 10) : asked.keep_most;
         bytes = option == 'r' ? strtoul(optarg, NULL, 10) : bytes;
     }
     if (argc - optind < 3) {
-        fputs("tlsf-follow [-k] [-g] [-e MS] [-r BYTES] RINGS FOLDER TLSF WORD..\n", stderr);
+        fputs("tlsf-follow [-k] [-m BYTES] [-g] [-e MS] [-r BYTES] RINGS FOLDER TLSF WORD..\n", stderr);
         exit(SET_UP_FAILED);
     }
     asked.rings = argv[optind];

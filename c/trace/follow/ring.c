@@ -25,15 +25,17 @@ enum { NO_EFFECT_BYTES = sizeof no_effect - 1 };
 static volatile sig_atomic_t is_asked;
 
 /* A ring as it is followed: its head and lines, up to where they are read; the bytes of lines that are no calls; and the time of the last
- * mark. What was read has been taken, or the consumer is gone. Lines are kept where that was asked for. */
+ * mark. What was read has been taken, or the consumer is gone. Lines are kept where that was asked for,
+ * until their file is full. */
 struct feed {
     struct ring *ring;
     const char *lines;
     uint64_t read, no_calls, marked;
     struct consumer consumer;
     FILE *told, *kept;
+    size_t kept_bytes;
     const char *name;
-    bool took_all, is_told;
+    bool took_all, is_told, is_full;
 };
 
 static void on_signal(int number)
@@ -53,7 +55,7 @@ static uint64_t age(const struct feed *feed)
 
 /* ---- lines */
 
-/* Takes a line that has no effect: of a module or a stack it is kept. The time of a mark is looked at. */
+/* Takes a line that has no effect: of a module or a stack, or of blocks from before, it is kept. The time of a mark is looked at. */
 static void take_told(struct feed *feed, const char *line, const char *end)
 {
     size_t length = (size_t)(end - line);
@@ -63,7 +65,7 @@ static void take_told(struct feed *feed, const char *line, const char *end)
     }
     if (line[2] == 't') {
         feed->marked = strtoull(line + 3, NULL, 10);
-    } else if (memchr(line, '=', length) != NULL || memchr(line, '+', length) != NULL) {
+    } else if (line[2] == 'b' || memchr(line, '=', length) != NULL || memchr(line, '+', length) != NULL) {
         fwrite(line, 1, length + NO_EFFECT_BYTES, feed->told);
         feed->is_told = true;
     }
@@ -81,12 +83,31 @@ static void look_for_told(struct feed *feed, const char *from, const char *end)
     }
 }
 
+/* Keeps lines. Behind the first that has no room none is kept. */
+static void keep(struct feed *feed, const char *from, size_t length)
+{
+    size_t left = asked.keep_most - feed->kept_bytes;
+    if (feed->is_full) {
+        return;
+    }
+    feed->is_full = length > left;
+    if (feed->is_full) {
+        const char *newline = memrchr(from, '\n', left);
+        length = newline == NULL ? 0 : (size_t)(newline + 1 - from);
+    }
+    feed->kept_bytes += fwrite(from, 1, length, feed->kept);
+    if (feed->is_full) {
+        fflush(feed->kept);
+        say(file_of(feed->name, "log"), "is cut at its limit; the report is of all lines");
+    }
+}
+
 /* Gives lines on. Those of modules and stacks are in their file before a report can name them. */
 static bool give(struct feed *feed, const char *from, size_t length)
 {
     look_for_told(feed, from, from + length);
     if (feed->kept != NULL) {
-        fwrite(from, 1, length, feed->kept);
+        keep(feed, from, length);
     }
     return consumer_give(&feed->consumer, from, length);
 }
