@@ -169,7 +169,8 @@ def check(process):
 def why_not_followed(root):
     """Why a process with this root can't have a ring in memory of this user, or nothing."""
     if root.is_other:
-        return f"process {root.process} has another root, as in a container, so it can't be followed: trace it into a log"
+        return (f"process {root.process} has another root, as in a container, so it can't be "
+                "followed: trace it into a log")
     if os.stat(f"/proc/{root.process}").st_uid != os.geteuid():
         return f"process {root.process} is another user's, so it can't be followed by this one"
     return None
