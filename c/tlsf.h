@@ -156,8 +156,8 @@ size_t tlsf_size_records(uint32_t records);
  * never answers null. These conditions have to hold. At most `blocks` blocks are live. They have at
  * most `bytes` bytes together, each rounded up to 16. No block is asked for with more than
  * `largest` bytes, or with an alignment above 16. The order of the calls doesn't matter. The law behind
- * it is proved of the calls that tlsf.c stands on: laws::sure_bytes_are_enough of tlsf_c. Answers 0
- * where no heap is enough (this call isn't Conte's). */
+ * it is proved of the calls that tlsf.c stands on: laws::numbers_asked_are_enough of tlsf_c. Answers
+ * 0 where no heap is enough (this call isn't Conte's). */
 size_t tlsf_sure_bytes(uint32_t blocks, size_t bytes, size_t largest);
 
 /* The last two as constant expressions of numbers, for the size of a static array. TLSF_CLASS_SIZE is

@@ -8,10 +8,15 @@ mod FilledRows
 mod FreeBytes
 mod FreeSizes
 mod GivenBlock
+mod HeldLaws
+mod HeldLemmas
+mod HeldRows
+mod HeldRuns
 mod LiveBlock
 mod LiveChanges
 mod LivePools
 mod LiveRows
+mod LiveStays
 mod LoadLemmas
 mod PlacedLemmas
 mod PlacedOneSize
@@ -19,6 +24,7 @@ mod PlacedRunLemmas
 mod PlacedRunRows
 mod PlacedVectors
 mod PlacesLeft
+mod PoolsApart
 mod PassedRows
 mod RangesMoved
 mod RoomLemmas
@@ -27,4 +33,5 @@ mod Refusing
 mod ResizedBlock
 mod SavedLemmas
 mod Stands
+mod SurePool
 mod Values

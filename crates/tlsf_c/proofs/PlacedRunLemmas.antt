@@ -72,7 +72,7 @@ module _ (asks_less : AsksLess) (blocks bytes largest size : ℕ) (sized : class
   after request answer old new enough within step = step_enough blocks total size ⊥ request answer old new enough within step
 
   -- a call is served, and so is what it leaves
-  call_serves : (pools : List PlacedPool) (call : Call) (told : Told) (old new : Counted) → All IsPlaced pools → IsEnoughFor old.content → IsCallWithin blocks bytes largest pools call old.content → CallStep pools call told old new
+  pub call_serves : (pools : List PlacedPool) (call : Call) (told : Told) (old new : Counted) → All IsPlaced pools → IsEnoughFor old.content → IsCallWithin blocks bytes largest pools call old.content → CallStep pools call told old new
       → IsServedCall pools call told old.content × IsEnoughFor new.content
   call_serves pools (ask n) told old new placed enough within step = (
     (λ some. elim (cases_lt 0 told.address) [

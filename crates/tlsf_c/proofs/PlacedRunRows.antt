@@ -1,5 +1,5 @@
 -- A worked run of calls on a heap with addresses, by the definitions. The word was reckoned outside.
-use Rattle.std.proofs.Common.{◌≡◌, ℕ, ◌+◌, ◌∷◌, [], refl, arith, List, Some, Result, Ok, Err, lit≤, lit<}
+use Rattle.std.proofs.Common.{◌≡◌, ℕ, ◌+◌, ◌∷◌, [], refl, arith, List, Option, Some, None, Result, Ok, Err, lit≤, lit<}
 use Rattle.tlsf_class.specs.Classes.{class, need, low}
 use Rattle.tlsf_class.specs.Rounding.{rounded}
 use Rattle.tlsf_heap.specs.declared.refusal.Refusal.{Refusal}
@@ -8,11 +8,12 @@ use Rattle.tlsf_heap.specs.Content.{Content}
 use Rattle.tlsf_heap.specs.Counted.{Counted}
 use Rattle.tlsf_heap.specs.Free.{after_free}
 use Rattle.tlsf_heap.specs.OwnClass.{malloc_or_own}
+use Rattle.tlsf_heap.specs.Pointer.{realloc_ptr}
 use Rattle.tlsf_heap.specs.Pools.{created, with_pool}
 use Rattle.tlsf_heap.specs.Sizing.{class_size, sure_pool}
 use Rattle.tlsf_c.specs.declared.placed_pool.PlacedPool.{PlacedPool}
-use Rattle.tlsf_c.specs.PlacedHeaps.{malloc_with_front}
-use Rattle.tlsf_c.specs.PlacedRuns.{Call, ask, give_back, Told, CallStep, CallRun, CallsStayWithin}
+use Rattle.tlsf_c.specs.PlacedHeaps.{IsLiveAt, malloc_with_front, told_block}
+use Rattle.tlsf_c.specs.PlacedRuns.{Call, ask, ask_aligned, ask_again, give_back, Told, CallStep, CallRun, CallsStayWithin}
 
 -- one block of 100 bytes is 112 with its front, and a pool of 336 bytes is enough: as tlsf_sure_bytes reckons it
 enough_row : (class_size 1 108 ≡ Some 112) × (sure_pool 1 (112 + 16) (Some 112) ≡ Some 336)
@@ -25,6 +26,12 @@ empty = with_pool 0 336 (created 5)
 abbrev left_by : Content ℕ → Result (ℕ × Content ℕ) Refusal → Content ℕ
 left_by content (Ok new) = new.1
 left_by content (Err refusal) = content
+
+-- the place that a realloc tells
+abbrev moved_to : Result (Option (ℕ × ℕ) × Content ℕ) Refusal → Result (ℕ × Content ℕ) Refusal
+moved_to (Ok (Some given, content)) = Ok (given.0, content)
+moved_to (Ok (None, content)) = Err NoFit
+moved_to (Err refusal) = Err refusal
 
 abbrev one_block : Content ℕ
 one_block = left_by empty (malloc_with_front 3 100 empty)
@@ -45,6 +52,17 @@ calls = ask 100 ∷ []
 abbrev tolds : List Told
 tolds = told 4112 3366696039589512271 ∷ []
 
+-- the block is live by its address and its word
+live_row : IsLiveAt 4112 3366696039589512271 pools one_block
+unfolding class need low rounded
+live_row = record {
+  place = 0;
+  pool = record { first = 4112; reach = 328; place = 0; number = 0; owner = 0 };
+  of_pools = (0, lit< tt, refl);
+  at = record { has = (lit≤ tt, lit< tt); address_is = refl };
+  live = refl;
+}
+
 run_row : CallRun pools calls tolds empty one_block
 unfolding class need low rounded
 run_row = (
@@ -61,6 +79,7 @@ run_row = (
       ends = lit≤ tt;
     }),
     (λ none. absurd (omega (arith, none))),
+    (λ some. live_row),
   ),
   refl,
 )
@@ -86,6 +105,49 @@ back_row = (
     freed = refl;
   }),
   (λ refused. absurd (refused refl)),
+)
+
+-- it gets 200 bytes where it is, and another word
+abbrev resized : Content ℕ
+resized = left_by one_block (moved_to (realloc_ptr (Some (told_block 0 4112 3366696039589512271)) 208 3 one_block))
+
+resize_row : CallStep pools (ask_again 4112 3366696039589512271 200) (told 4112 653554061461718095) (counted_of 5 one_block) (counted_of 9 resized)
+unfolding class need low rounded live_row
+resize_row = (
+  (λ some. record {
+    was = live_row;
+    pointer = record { place = 0; slot = 3 };
+    pool = record { first = 4112; reach = 328; place = 0; number = 0; owner = 0 };
+    moved = record { ok = refl; slot_below = lit< tt; slot_new = (λ differ. absurd (differ refl)) };
+    of_pools = (0, lit< tt, refl);
+    at = record { has = (lit≤ tt, lit< tt); address_is = refl };
+    ends = lit≤ tt;
+  }),
+  (λ none. absurd (omega (arith, none))),
+  (λ some. record {
+    place = 0;
+    pool = record { first = 4112; reach = 328; place = 0; number = 0; owner = 0 };
+    of_pools = (0, lit< tt, refl);
+    at = record { has = (lit≤ tt, lit< tt); address_is = refl };
+    live = refl;
+  }),
+)
+
+-- an address that is a multiple of 16 is given as any
+aligned_row : CallStep pools (ask_aligned 16 100) (told 4112 3366696039589512271) (counted_of 0 empty) (counted_of 5 one_block)
+unfolding class need low rounded
+aligned_row = (
+  (λ some. record {
+    pointer = record { place = 0; slot = 3 };
+    pool = record { first = 4112; reach = 328; place = 0; number = 0; owner = 0 };
+    served = record { ok = refl; slot_below = lit< tt; slot_new = refl };
+    of_pools = (0, lit< tt, refl);
+    at = record { has = (lit≤ tt, lit< tt); address_is = refl };
+    ends = lit≤ tt;
+  }),
+  (λ none alike. absurd (omega (arith, none))),
+  (λ none. absurd (omega (arith, none))),
+  (λ some. live_row),
 )
 
 -- where the pool is smaller, a request may be refused

@@ -4,6 +4,7 @@ pub mod Creation
 pub mod FreeFigures
 pub mod Fronts
 pub mod HeapPlaces
+pub mod Held
 pub mod Kept
 pub mod Lends
 pub mod LiveCounts

@@ -31,13 +31,16 @@ abbrev pub CallStep : List PlacedPool → Call → Told → (old new : Counted) 
 CallStep pools (ask bytes) told old new =
     (0 < told.address → IsGivenAt (λ slot. malloc_with_front slot bytes) bytes told.address pools old.content new.content)
     × (told.address ≡ 0 → IsRefusedAt (λ slot. malloc_with_front slot bytes) told.word old new)
+    × (0 < told.address → IsLiveAt told.address told.word pools new.content)
 CallStep pools (ask_aligned align bytes) told old new =
     (0 < told.address → IsGivenAt (λ slot. memalign_with_front align slot bytes) bytes told.address pools old.content new.content)
     × (told.address ≡ 0 → All (IsAlike align) pools → IsRefusedAt (λ slot. memalign_with_front align slot bytes) told.word old new)
     × (told.address ≡ 0 → IsUnchanged old new)
+    × (0 < told.address → IsLiveAt told.address told.word pools new.content)
 CallStep pools (ask_again address word bytes) told old new =
     (0 < told.address → IsResizedAt address word bytes told.address pools old.content new.content)
     × (told.address ≡ 0 → IsNotResized address word bytes told.word pools old new)
+    × (0 < told.address → IsLiveAt told.address told.word pools new.content)
 CallStep pools (give_back address word) told old new =
     (IsLiveAt address word pools old.content → told.word ≡ 0)
     × (told.word ≡ 0 → IsFreedAt address word pools old.content new.content)

@@ -1,10 +1,13 @@
 //! Laws of the definitions and of the exports, each the contract of a function that does nothing, or makes one call.
 
-ghost use Rattle.std.specs.Prelude.{◌≡◌, ◌≢◌, ℕ, ◌+◌, ◌*◌, ◌<◌, ◌≤◌, List, All, Some, Ok};
+ghost use Rattle.std.specs.Prelude.{◌≡◌, ◌≢◌, ℕ, ◌+◌, ◌*◌, ◌<◌, ◌≤◌, List, [], All, AllPairs, map, Some, Ok};
 ghost use Rattle.tlsf_heap.specs.declared.refusal.Refusal.{Refusal};
 ghost use Rattle.tlsf_class.specs.Classes.{unit};
 ghost use Rattle.tlsf_heap.specs.declared.image.rule.Rule.{Rule};
 ghost use Rattle.tlsf_heap.specs.Content.{Content};
+ghost use Rattle.tlsf_heap.specs.Counted.{range_of};
+ghost use Rattle.tlsf_heap.specs.Good.{IsGood};
+ghost use Rattle.tlsf_heap.specs.Implied.{live_blocks};
 ghost use Rattle.tlsf_heap.specs.OneSize.{HasRecords};
 ghost use Rattle.tlsf_heap.specs.Pools.{created, add_pool};
 ghost use Rattle.tlsf_heap.specs.Sizing.{class_size, sure_pool, sure_records};
@@ -12,7 +15,8 @@ ghost use Rattle.tlsf_c.specs.Status.{bad_count, number};
 ghost use Rattle.tlsf_c.specs.Saving.{broken_number, no_room};
 ghost use Rattle.tlsf_c.specs.Fronts.{front, told_size};
 ghost use Rattle.tlsf_c.specs.PlacedHeaps.{IsLiveAt};
-ghost use Rattle.tlsf_c.specs.PlacedPools.{IsPlaced};
+ghost use Rattle.tlsf_c.specs.Held.{AreOwn, AreHeld, held_after, AllKeepToNumbers, AreNoRefusals};
+ghost use Rattle.tlsf_c.specs.PlacedPools.{IsPlaced, AreApart, AreEntriesOf};
 ghost use Rattle.tlsf_c.specs.PlacedRuns.{Call, ask, ask_aligned, ask_again, give_back, Told, CallStep, CallRun, CallsStayWithin, CallsStayOfSize, AreServedCalls};
 ghost use Rattle.tlsf_c.specs.declared.placed_pool.PlacedPool.{PlacedPool};
 
@@ -47,6 +51,25 @@ pub fn sure_bytes_are_enough()
     ensures { (blocks bytes largest size least records base pool : ℕ) (pools : List PlacedPool) (calls : List Call) (tolds : List Told) (old new : Content ℕ) (run : CallRun pools calls tolds old new)
         → All IsPlaced pools → class_size 1 (largest + front) ≡ Some size → sure_pool blocks (bytes + blocks * unit) (Some size) ≡ Some least → least ≤ pool → sure_records blocks ≤ records → add_pool base pool (created records) ≡ Ok old
         → CallsStayWithin blocks bytes largest pools calls tolds old new run → AreServedCalls pools calls tolds old new run }
+{
+    smaller_asks_less();
+}
+
+/// A program that calls a heap with addresses, and resizes and gives back only what it holds, holds live blocks alone. It holds what
+/// it was given and didn't give back, and none when the first call comes. Each block has the bytes that were asked for, and ends
+/// before the front of the next one.
+pub fn held_blocks_are_live()
+    ensures { (pools : List PlacedPool) (calls : List Call) (tolds : List Told) (old new : Content ℕ) (run : CallRun pools calls tolds old new)
+        → AllPairs AreApart pools → ∥ AreEntriesOf (map range_of old.pools) pools ∥₁ → IsGood old → live_blocks old ≡ 0 → AreOwn calls tolds [] → AreHeld pools new (held_after calls tolds []) }
+{}
+
+/// A heap with addresses that has one pool of the sure bytes refuses no call of a program that keeps to its numbers. It asks for at
+/// most `largest` bytes, at an alignment of at most 16. When it asks it holds at most `blocks` blocks, for which it asked for at
+/// most `bytes` bytes, each rounded up to 16. It resizes and gives back only what it holds.
+pub fn numbers_asked_are_enough()
+    ensures { (blocks bytes largest size least records base pool : ℕ) (pools : List PlacedPool) (calls : List Call) (tolds : List Told) (old new : Content ℕ) (run : CallRun pools calls tolds old new)
+        → All IsPlaced pools → AllPairs AreApart pools → ∥ AreEntriesOf (map range_of old.pools) pools ∥₁ → class_size 1 (largest + front) ≡ Some size → sure_pool blocks (bytes + blocks * unit) (Some size) ≡ Some least → least ≤ pool
+        → sure_records blocks ≤ records → add_pool base pool (created records) ≡ Ok old → AreOwn calls tolds [] → AllKeepToNumbers blocks bytes largest calls tolds [] → AreNoRefusals calls tolds }
 {
     smaller_asks_less();
 }
