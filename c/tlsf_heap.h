@@ -106,8 +106,8 @@ static inline uint32_t tlsf_heap_class_size(uint64_t align, uint64_t bytes)
  * These conditions have to hold. At most `blocks` blocks are live. They have at most `bytes` bytes
  * together, each rounded up to 16. `class_size` is the greatest tlsf_heap_class_size of the
  * requests. The heap has 2 * blocks + 3 records. Answers 0 where no pool is enough. The proved
- * library has two functions with a law that says this. The two functions here are C, and aren't
- * proved. */
+ * library has two functions with a law that says this: laws::sure_pool_is_enough of tlsf_heap. The
+ * two functions here are C, and aren't proved. */
 static inline uint32_t tlsf_heap_sure_pool(uint64_t blocks, uint64_t bytes, uint32_t class_size)
 {
     uint64_t size = class_size;

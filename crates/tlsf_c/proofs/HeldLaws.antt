@@ -18,9 +18,9 @@ use Rattle.tlsf_heap.proofs.Counts.{one_if, count-cons}
 use Rattle.tlsf_heap.proofs.Good.Implied.{few_blocks}
 use Rattle.tlsf_c.specs.declared.placed_pool.PlacedPool.{PlacedPool}
 use Rattle.tlsf_c.specs.Fronts.{front, told_size}
-use Rattle.tlsf_c.specs.Held.{Held, held_then, held_after, with_told, without, AreOwn, IsOwn, EndsBefore, AreHeld, asked_bytes, AsksWithin, KeepsToNumbers, AllKeepToNumbers, IsNoRefusal, AreNoRefusals}
+use Rattle.tlsf_c.specs.Held.{Held, held_then, held_after, with_told, without, AreOwn, IsOwn, EndsBefore, AreHeld, asked_bytes, AsksWithin, KeepsToNumbers, AllKeepToNumbers, KeepsToOneSize, AllKeepToOneSize, IsNoRefusal, AreNoRefusals}
 use Rattle.tlsf_c.specs.PlacedPools.{IsPlaced, AreApart, AreEntriesOf}
-use Rattle.tlsf_c.specs.PlacedRuns.{Call, ask, ask_aligned, ask_again, give_back, Told, CallStep, CallRun, KeepsTo, IsCallWithin, IsServedCall}
+use Rattle.tlsf_c.specs.PlacedRuns.{Call, ask, ask_aligned, ask_again, give_back, Told, CallStep, CallRun, KeepsTo, IsCallWithin, IsCallOfSize, CallsStayOfSize, IsServedCall, AreServedCalls}
 use Rattle.tlsf_c.proofs.HeldLemmas.{IsAway, AreDistinct, told_bytes, each_zip, each_without}
 use Rattle.tlsf_c.proofs.HeldRuns.{IsSized, IsLong, IsExact, IsSound, IsLive, AreAllLive, held_is_live, step_leaves, moved_exact}
 use Rattle.tlsf_c.proofs.PlacedLemmas.{live_apart}
@@ -113,6 +113,48 @@ module _ (pools : List PlacedPool) (apart : AllPairs AreApart pools) where
       → AreHeld pools new (held_after calls tolds [])
   held_blocks calls tolds old new run good none entries own = run_holds calls tolds old new [] run (record { good = good; entries = entries }) (none_held old none) tt own
 
+module _ (pools : List PlacedPool) (apart : AllPairs AreApart pools) where
+  -- a call that is served is no refusal
+  no_refusal : (call : Call) (told : Told) (content : Content ℕ) (held : List Held) → AreAllLive pools apart content held → IsOwn call held → IsServedCall pools call told content → IsNoRefusal call told
+  no_refusal (ask n) told content held all own served = served
+  no_refusal (ask_aligned align n) told content held all own served = served
+  no_refusal (ask_again address word n) told content held all own served = served (held_is_live pools apart address word content held all own)
+  no_refusal (give_back address word) told content held all own served = served (held_is_live pools apart address word content held all own)
+
+  -- nor is any call of a run
+  pub no_refusals : (calls : List Call) (tolds : List Told) (old new : Content ℕ) (held : List Held) (run : CallRun pools calls tolds old new) → IsSound pools apart old → AreAllLive pools apart old held → AreOwn calls tolds held
+      → AreServedCalls pools calls tolds old new run → AreNoRefusals calls tolds
+  no_refusals [] [] old new held run sound all own served = tt
+  no_refusals [] (told ∷ tolds) old new held run sound all own served = absurd run
+  no_refusals (call ∷ calls) [] old new held run sound all own served = absurd run
+  no_refusals (call ∷ calls) (told ∷ tolds) old new held run sound all own served =
+      let found : IsSound pools apart run.0.content = subst (IsSound pools apart) (sym run.2) sound in
+      let found_live : AreAllLive pools apart run.0.content held = subst (λ (c : Content ℕ). AreAllLive pools apart c held) (sym run.2) all in
+      let leaves = step_leaves pools apart call told run.0 run.1 held run.3 own.0 found found_live in (
+        no_refusal call told old held all own.0 served.0,
+        no_refusals calls tolds run.1.content new (held_then call told held) run.4 leaves.sound leaves.all_live own.1 served.1,
+      )
+
+  -- a call for a block of one size finds as few live blocks as its program holds
+  of_size : (blocks size : ℕ) (call : Call) (content : Content ℕ) (held : List Held) → AreAllLive pools apart content held → KeepsToOneSize blocks size call held → IsCallOfSize blocks size pools call content
+  of_size blocks size (ask n) content held all keeps = λ some. record { few = omega (arith, (keeps some).few, all.blocks); rounds = (keeps some).rounds }
+  of_size blocks size (ask_aligned align n) content held all keeps = λ is some. ((keeps is some).0, record { few = omega (arith, (keeps is some).1.few, all.blocks); rounds = (keeps is some).1.rounds })
+  of_size blocks size (ask_again address word n) content held all keeps = λ live. keeps
+  of_size blocks size (give_back address word) content held all keeps = tt
+
+  pub all_of_size : (blocks size : ℕ) (calls : List Call) (tolds : List Told) (old new : Content ℕ) (held : List Held) (run : CallRun pools calls tolds old new) → IsSound pools apart old → AreAllLive pools apart old held → AreOwn calls tolds held
+      → AllKeepToOneSize blocks size calls tolds held → CallsStayOfSize blocks size pools calls tolds old new run
+  all_of_size blocks size [] [] old new held run sound all own keeps = tt
+  all_of_size blocks size [] (told ∷ tolds) old new held run sound all own keeps = absurd run
+  all_of_size blocks size (call ∷ calls) [] old new held run sound all own keeps = absurd run
+  all_of_size blocks size (call ∷ calls) (told ∷ tolds) old new held run sound all own keeps =
+      let found : IsSound pools apart run.0.content = subst (IsSound pools apart) (sym run.2) sound in
+      let found_live : AreAllLive pools apart run.0.content held = subst (λ (c : Content ℕ). AreAllLive pools apart c held) (sym run.2) all in
+      let leaves = step_leaves pools apart call told run.0 run.1 held run.3 own.0 found found_live in (
+        of_size blocks size call old held all keeps.0,
+        all_of_size blocks size calls tolds run.1.content new (held_then call told held) run.4 leaves.sound leaves.all_live own.1 keeps.1,
+      )
+
 -- a block has no more than what was asked for, rounded up, and a unit
 abbrev IsTight : (asked size : ℕ) → Type 0
 IsTight asked size = size ≤ rounded asked + unit
@@ -145,12 +187,6 @@ module _ (asks_less : AsksLess) (blocks bytes largest size : ℕ) (sized : class
   within (ask_again address word n) content held all tight keeps = λ live. keeps_to n content held all tight keeps
   within (give_back address word) content held all tight keeps = tt
 
-  never_refused : (call : Call) (told : Told) (content : Content ℕ) (held : List Held) → AreAllLive pools apart content held → IsOwn call held → IsServedCall pools call told content → IsNoRefusal call told
-  never_refused (ask n) told content held all own served = served
-  never_refused (ask_aligned align n) told content held all own served = served
-  never_refused (ask_again address word n) told content held all own served = served (held_is_live pools apart address word content held all own)
-  never_refused (give_back address word) told content held all own served = served (held_is_live pools apart address word content held all own)
-
   -- a record is left for a block that gets smaller
   tight_step : (call : Call) (told : Told) (old new : Counted) (held : List Held) → IsLarge old.content → IsSound pools apart old.content → AreAllLive pools apart old.content held → KeepsToNumbers blocks bytes largest call held → IsExact call told → CallStep pools call told old new → IsSized IsTight call told
   tight_step (ask n) told old new held large sound all keeps exact step = λ some. tight_exact n (told_size told.word told.address) (exact some)
@@ -172,6 +208,6 @@ module _ (asks_less : AsksLess) (blocks bytes largest size : ℕ) (sized : class
       let serves = call_serves asks_less blocks bytes largest size sized pools call told run.0 run.1 placed found_large (within call run.0.content held found_live tight keeps.0) run.3 in
       let leaves = step_leaves pools apart call told run.0 run.1 held run.3 own.0 found found_live in
       let tight_now = then_fits IsTight call told held (tight_step call told run.0 run.1 held found_large found found_live keeps.0 leaves.exact run.3) tight in (
-        never_refused call told run.0.content held found_live own.0 serves.0,
+        no_refusal pools apart call told run.0.content held found_live own.0 serves.0,
         run_never_refused calls tolds run.1.content new (held_then call told held) run.4 serves.1 leaves.sound leaves.all_live tight_now own.1 keeps.1,
       )

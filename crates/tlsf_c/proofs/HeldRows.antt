@@ -1,7 +1,7 @@
 -- What a program holds after worked calls, by the definitions. The words were reckoned outside.
-use Rattle.std.proofs.Common.{◌≡◌, ℕ, ◌∷◌, [], refl, List, arith, lit<}
+use Rattle.std.proofs.Common.{◌≡◌, ℕ, ◌<◌, ◌≤◌, ◌∷◌, [], refl, List, arith, lit<, lit≤}
 use Rattle.tlsf_class.specs.Rounding.{rounded}
-use Rattle.tlsf_c.specs.Held.{Held, held_after, Holds, AreOwn, asked_bytes, AreNoRefusals}
+use Rattle.tlsf_c.specs.Held.{Held, held_after, Holds, AreOwn, asked_bytes, AllKeepToNumbers, AllKeepToOneSize, AreNoRefusals}
 use Rattle.tlsf_c.specs.PlacedRuns.{Call, ask, ask_again, give_back, Told}
 
 abbrev held : (address word asked : ℕ) → Held
@@ -43,3 +43,28 @@ own_row = (tt, (tt, (first_held, (tt, (later_held, tt)))))
 -- one of its calls is refused
 refused_row : AreNoRefusals calls tolds → ⊥
 refused_row all = omega (arith, all.1.0 (λ e. omega (arith, e)))
+
+-- one block is held at most where more is asked for, and 208 bytes were asked for it
+within_row : AllKeepToNumbers 1 208 5000 calls tolds []
+unfolding rounded
+within_row = (
+  (λ some. record { few = lit≤ tt; small = lit≤ tt; least = lit≤ tt }),
+  (
+    (λ some. record { few = lit≤ tt; small = lit≤ tt; least = lit≤ tt }),
+    (record { few = lit≤ tt; small = lit≤ tt; least = lit≤ tt }, ((λ some. record { few = lit≤ tt; small = lit≤ tt; least = lit≤ tt }), (tt, tt))),
+  ),
+)
+
+-- not within a byte less
+beyond_row : AllKeepToNumbers 1 207 5000 calls tolds [] → ⊥
+unfolding rounded
+beyond_row keeps = (let more : 208 ≤ 207 = (keeps.1.1.1.0 (λ e. omega (arith, e))).small in omega (arith, more))
+
+-- 100 and 90 bytes are 112 with their fronts, and two such blocks are asked for
+one_size_row : AllKeepToOneSize 2 112 (ask 100 ∷ ask 90 ∷ []) (told 4112 3366696039589512271 ∷ told 4224 77 ∷ []) []
+unfolding rounded
+one_size_row = ((λ some. record { few = lit< tt; rounds = refl }), ((λ some. record { few = lit< tt; rounds = refl }), tt))
+
+-- a third one is one too many
+third_row : AllKeepToOneSize 2 112 (ask 100 ∷ ask 90 ∷ ask 100 ∷ []) (told 4112 3366696039589512271 ∷ told 4224 77 ∷ told 0 2 ∷ []) [] → ⊥
+third_row keeps = (let less : 2 < 2 = (keeps.1.1.0 (λ e. omega (arith, e))).few in omega (arith, less))

@@ -1,7 +1,7 @@
 -- What a program holds of a heap with addresses, as its calls tell it, and numbers that it keeps to.
-use Rattle.std.specs.Prelude.{◌≡◌, ◌≢◌, ◌⊎◌, ℕ, ◌+◌, ◌<◌, ◌≤◌, ◌==◌, List, [], ◌∷◌, All, AllPairs, Contains, length, if◌then◌else◌, true, ⊤}
+use Rattle.std.specs.Prelude.{◌≡◌, ◌≢◌, ◌⊎◌, ℕ, ◌+◌, ◌<◌, ◌≤◌, ◌==◌, List, [], ◌∷◌, All, AllPairs, Contains, length, Some, if◌then◌else◌, true, ⊤}
 use Rattle.tlsf_class.specs.Classes.{unit}
-use Rattle.tlsf_class.specs.Rounding.{rounded}
+use Rattle.tlsf_class.specs.Rounding.{round, rounded}
 use Rattle.tlsf_heap.specs.Content.{Content}
 use Rattle.tlsf_heap.specs.Memalign.{is_alignment}
 use Rattle.tlsf_c.specs.Fronts.{front, told_size}
@@ -87,6 +87,24 @@ KeepsToNumbers blocks bytes largest (give_back address word) held = ⊤
 abbrev pub AllKeepToNumbers : (blocks bytes largest : ℕ) → List Call → List Told → List Held → Type 0
 AllKeepToNumbers blocks bytes largest (call ∷ calls) (told ∷ tolds) held = KeepsToNumbers blocks bytes largest call held × AllKeepToNumbers blocks bytes largest calls tolds (held_then call told held)
 AllKeepToNumbers blocks bytes largest calls tolds held = ⊤
+
+-- a request for n bytes is for a block of this size with its front, and its program holds fewer than `blocks`
+pub record AsksOne (blocks size n : ℕ) (held : List Held) : Type 0 where
+  pub few : length held < blocks
+  pub rounds : round (n + front) ≡ Some size
+
+-- A call is for a block that with its front has this size. One for no bytes always is, and so is one at a bad alignment. An alignment
+-- is at most the unit.
+abbrev pub KeepsToOneSize : (blocks size : ℕ) → Call → List Held → Type 0
+KeepsToOneSize blocks size (ask n) held = n ≢ 0 → AsksOne blocks size n held
+KeepsToOneSize blocks size (ask_aligned align n) held = is_alignment align ≡ true → n ≢ 0 → (align ≤ unit) × AsksOne blocks size n held
+KeepsToOneSize blocks size (ask_again address word n) held = round (n + front) ≡ Some size
+KeepsToOneSize blocks size (give_back address word) held = ⊤
+
+-- so it is with each call
+abbrev pub AllKeepToOneSize : (blocks size : ℕ) → List Call → List Told → List Held → Type 0
+AllKeepToOneSize blocks size (call ∷ calls) (told ∷ tolds) held = KeepsToOneSize blocks size call held × AllKeepToOneSize blocks size calls tolds (held_then call told held)
+AllKeepToOneSize blocks size calls tolds held = ⊤
 
 -- the call tells an address, or of a block given back the status 0. One for no bytes may be refused, and so may one at a bad alignment
 abbrev pub IsNoRefusal : Call → Told → Type 0

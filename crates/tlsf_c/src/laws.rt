@@ -15,7 +15,7 @@ ghost use Rattle.tlsf_c.specs.Status.{bad_count, number};
 ghost use Rattle.tlsf_c.specs.Saving.{broken_number, no_room};
 ghost use Rattle.tlsf_c.specs.Fronts.{front, told_size};
 ghost use Rattle.tlsf_c.specs.PlacedHeaps.{IsLiveAt};
-ghost use Rattle.tlsf_c.specs.Held.{AreOwn, AreHeld, held_after, AllKeepToNumbers, AreNoRefusals};
+ghost use Rattle.tlsf_c.specs.Held.{AreOwn, AreHeld, held_after, AllKeepToNumbers, AllKeepToOneSize, AreNoRefusals};
 ghost use Rattle.tlsf_c.specs.PlacedPools.{IsPlaced, AreApart, AreEntriesOf};
 ghost use Rattle.tlsf_c.specs.PlacedRuns.{Call, ask, ask_aligned, ask_again, give_back, Told, CallStep, CallRun, CallsStayWithin, CallsStayOfSize, AreServedCalls};
 ghost use Rattle.tlsf_c.specs.declared.placed_pool.PlacedPool.{PlacedPool};
@@ -80,6 +80,14 @@ pub fn blocks_of_one_size_are_enough()
     ensures { (blocks size records base pool : ℕ) (pools : List PlacedPool) (calls : List Call) (tolds : List Told) (old new : Content ℕ) (run : CallRun pools calls tolds old new)
         → All IsPlaced pools → add_pool base pool (created records) ≡ Ok old → class_size 1 size ≡ Some size → blocks * size ≤ pool → HasRecords blocks size pool records
         → CallsStayOfSize blocks size pools calls tolds old new run → AreServedCalls pools calls tolds old new run }
+{}
+
+/// A heap of blocks of one size, with one pool of the bytes of as many, refuses no call of a program that asks for such blocks
+/// alone, and holds fewer when it asks for one more. It resizes and gives back only what it holds.
+pub fn blocks_asked_of_one_size_are_enough()
+    ensures { (blocks size records base pool : ℕ) (pools : List PlacedPool) (calls : List Call) (tolds : List Told) (old new : Content ℕ) (run : CallRun pools calls tolds old new)
+        → All IsPlaced pools → AllPairs AreApart pools → ∥ AreEntriesOf (map range_of old.pools) pools ∥₁ → add_pool base pool (created records) ≡ Ok old → class_size 1 size ≡ Some size → blocks * size ≤ pool
+        → HasRecords blocks size pool records → AreOwn calls tolds [] → AllKeepToOneSize blocks size calls tolds [] → AreNoRefusals calls tolds }
 {}
 
 /// `tlsf_placed_malloc` is a call of the runs that these laws are about.
