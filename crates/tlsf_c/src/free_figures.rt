@@ -11,7 +11,7 @@ ghost use Rattle.tlsf_c.specs.Kept.{Keeps};
 ghost use Rattle.tlsf_c.specs.PlacedPools.{IsPlaced};
 
 use crate::figures::tlsf_heap_largest_request;
-use crate::placed_blocks::FRONT;
+use crate::front::FRONT;
 use crate::placed_heap::PlacedHeap;
 use crate::placed_pool::PlacedPool;
 use tlsf_class::{GREATEST_SIZE, UNIT, class_for, low, round};

@@ -3,6 +3,15 @@
 ghost use Rattle.std.specs.Prelude.{◌≡◌, ◌+◌, ◌*◌, ◌%◌, ◌^◌, ◌<◌, ◌≤◌};
 ghost use Rattle.tlsf_c.specs.Fronts.{told_slot, told_size};
 
+/// Addresses, places and sizes are multiples of it, in bytes.
+pub(crate) const UNIT: u64 = tlsf_class::UNIT as u64;
+
+/// The bytes in front of a block's address.
+pub(crate) const FRONT: u64 = 8;
+
+/// The most bytes that a block has behind its front.
+pub(crate) const MOST: u64 = 1_073_741_808 - FRONT;
+
 /// What a front tells of a block.
 #[derive(Clone, Copy)]
 pub(crate) struct Mark {
@@ -38,7 +47,7 @@ pub(crate) fn mark_of(word: u64, address: u64) -> Mark
 {
     let kept = word.wrapping_sub(address).wrapping_mul(UNSCRAMBLE);
     Mark {
-        size: kept / 65_536 * 16,
+        size: kept / 65_536 * UNIT,
         slot: (kept % 65_536) as u16,
     }
 }

@@ -16,8 +16,9 @@ ghost use Rattle.tlsf_c.specs.PlacedPools.{IsAlike};
 ghost use Rattle.tlsf_c.specs.PlacedHeaps.{IsLiveAt, IsGivenAt, IsRefusedAt, memalign_with_front};
 ghost use Rattle.tlsf_c.specs.Status.{number};
 
+use crate::front::{FRONT, MOST, UNIT};
 use crate::placed_block::PlacedBlock;
-use crate::placed_blocks::{FRONT, MOST, place_block};
+use crate::placed_blocks::place_block;
 use crate::placed_heap::PlacedHeap;
 use crate::placed_pool::PlacedPool;
 use tlsf_heap::{Heap, Ptr, Refusal, is_alignment};
@@ -86,7 +87,7 @@ pub extern "C" fn tlsf_placed_memalign(heap: &mut PlacedHeap, align: u64, bytes:
     }
     match allocate_aligned(heap.handle.heap(), align, bytes + FRONT) {
         Ok(ptr) => {
-            let size = (bytes + FRONT + 15) / 16 * 16;
+            let size = (bytes + FRONT + (UNIT - 1)) / UNIT * UNIT;
             heap.figures.given(size - FRONT);
             place_block(&heap.pools, ptr, size)
         }

@@ -17,19 +17,13 @@ ghost use Rattle.tlsf_c.specs.PlacedPools.{IsPlaced, HasPlace, HasAddress, IsAt}
 ghost use Rattle.tlsf_c.specs.PlacedHeaps.{IsLiveAt, IsGivenAt, IsRefusedAt, IsFreedAt, malloc_with_front, told_block};
 ghost use Rattle.tlsf_c.specs.Status.{number};
 
-use crate::front::{Mark, mark_of, word_of};
+use crate::front::{FRONT, MOST, Mark, UNIT, mark_of, word_of};
 use crate::placed_block::PlacedBlock;
 use crate::placed_heap::PlacedHeap;
 use crate::placed_lookup::{later_pool_of, place_at, pool_at};
 use crate::placed_pool::PlacedPool;
 use crate::status::{SERVED, number};
 use tlsf_heap::{Heap, Ptr, Refusal};
-
-/// The bytes in front of a block's address.
-pub(crate) const FRONT: u64 = 8;
-
-/// The most bytes that a block has behind its front.
-pub(crate) const MOST: u64 = 1_073_741_808 - FRONT;
 
 /// `Heap::malloc_or_own`, and what is known of the block: it lies in a pool, at a multiple of the unit, and has the bytes rounded
 /// up.
@@ -158,7 +152,7 @@ pub extern "C" fn tlsf_placed_malloc(heap: &mut PlacedHeap, bytes: u64) -> Place
     }
     match allocate(heap.handle.heap(), bytes + FRONT) {
         Ok(ptr) => {
-            let size = (bytes + FRONT + 15) / 16 * 16;
+            let size = (bytes + FRONT + (UNIT - 1)) / UNIT * UNIT;
             heap.figures.given(size - FRONT);
             place_block(&heap.pools, ptr, size)
         }

@@ -8,8 +8,8 @@ ghost use Rattle.tlsf_heap.specs.Room.{live_bytes};
 ghost use Rattle.tlsf_c.specs.Fronts.{front};
 ghost use Rattle.tlsf_c.specs.Kept.{Keeps};
 
+use crate::front::FRONT;
 use crate::live_count::count_live;
-use crate::placed_blocks::FRONT;
 use crate::placed_heap::PlacedHeap;
 use crate::placed_loading::has_range;
 

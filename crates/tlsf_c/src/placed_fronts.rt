@@ -7,7 +7,8 @@ ghost use Rattle.tlsf_c.specs.Fronts.{told_slot, told_size};
 ghost use Rattle.tlsf_c.specs.Kept.{Keeps};
 ghost use Rattle.tlsf_c.specs.PlacedFronts.{IsFrontOf};
 
-use crate::placed_blocks::{FRONT, find};
+use crate::front::FRONT;
+use crate::placed_blocks::find;
 use crate::placed_heap::PlacedHeap;
 use crate::placed_row::PlacedRow;
 

@@ -7,11 +7,12 @@ ghost use Rattle.tlsf_c.specs.Adopting.{FitEntries, IsWhole};
 ghost use Rattle.tlsf_c.specs.Kept.{StandsWhere};
 ghost use Rattle.tlsf_c.specs.PlacedPools.{IsPlaced, AreApart, IsEntryOf, IsEntered, placed_range};
 
+use crate::front::{FRONT, UNIT};
 use crate::handle::Handle;
 use crate::live_count::count_live;
 use crate::live_figures::{LiveFigures, lowest_bits};
-use crate::placed_blocks::FRONT;
 use crate::placed_pool::PlacedPool;
+use crate::pool_places::END_OF_PLACES;
 
 /// A heap that was loaded, and entries for its pools. It becomes a heap with addresses where they fit.
 #[repr(C)]
@@ -26,9 +27,6 @@ pub struct LoadedHeap {
     pub figures: LiveFigures,
 }
 
-/// One more than the last place.
-const END_OF_PLACES: u64 = 1 << 32;
-
 /// Whether places and addresses are in units, and none is above what 32 and 64 bits tell.
 fn is_placed(pool: &PlacedPool) -> bool
     ensures { (result ≡ true) ↔ IsPlaced pool.now }
@@ -36,9 +34,9 @@ fn is_placed(pool: &PlacedPool) -> bool
     let place = u64::from(pool.place);
     pool.reach <= END_OF_PLACES
         && place + pool.reach <= END_OF_PLACES
-        && place % 16 == 0
-        && pool.first % 16 == 0
-        && (pool.reach == 0 || (pool.first >= 16 && pool.first - 1 <= u64::MAX - pool.reach))
+        && place % UNIT == 0
+        && pool.first % UNIT == 0
+        && (pool.reach == 0 || (pool.first >= UNIT && pool.first - 1 <= u64::MAX - pool.reach))
 }
 
 /// Whether the places and addresses of each entry are in units, and none is above what 32 and 64 bits tell.

@@ -11,7 +11,7 @@ ghost use Rattle.tlsf_c.specs.PlacedPools.{CanBePlaced, IsClearOf};
 ghost use Rattle.tlsf_c.specs.PoolPlaces.{first_in, bytes_in, IsPoolAdded, IsPoolRefused};
 ghost use Rattle.tlsf_c.specs.Status.{number};
 
-use crate::placed_blocks::FRONT;
+use crate::front::{FRONT, UNIT};
 use crate::placed_heap::PlacedHeap;
 use crate::placed_pools::add_pool_at;
 use crate::pool_places::place_for;
@@ -48,12 +48,12 @@ pub extern "C" fn tlsf_placed_add_pool(
     if !is_alignment(align) {
         return number(Refusal::BadAlign);
     }
-    if memory > u64::MAX - bytes || memory > u64::MAX - (FRONT + 15) {
+    if memory > u64::MAX - bytes || memory > u64::MAX - (FRONT + (UNIT - 1)) {
         return number(Refusal::BadPool);
     }
-    let first = (memory + FRONT + 15) / 16 * 16;
+    let first = (memory + FRONT + (UNIT - 1)) / UNIT * UNIT;
     let start = first - FRONT;
-    let whole = (memory + bytes).saturating_sub(start) / 16 * 16;
+    let whole = (memory + bytes).saturating_sub(start) / UNIT * UNIT;
     match place_for(&heap.pools, align, first, whole) {
         Some(place) => add_pool_at(heap, first, whole, place, entry),
         None => number(Refusal::BadPool),

@@ -5,7 +5,7 @@ ghost use Rattle.tlsf_heap.specs.Counted.{IsUnchanged};
 ghost use Rattle.tlsf_c.specs.Kept.{StandsWhere};
 ghost use Rattle.tlsf_c.specs.Moving.{FitsMemory, IsMovedTo};
 
-use crate::placed_blocks::FRONT;
+use crate::front::{FRONT, UNIT};
 use crate::placed_loading::LoadedHeap;
 use crate::placed_pool::PlacedPool;
 
@@ -29,12 +29,16 @@ pub extern "C" fn tlsf_placed_move(
     ensures stands { StandsWhere heap.old.handle heap.new.handle }
     ensures unchanged { heap.new.handle.value ≡ heap.old.handle.value }
 {
-    if entry >= 8 || memory > last || bytes > last - memory || memory > u64::MAX - (FRONT + 15) {
+    if entry >= 8
+        || memory > last
+        || bytes > last - memory
+        || memory > u64::MAX - (FRONT + (UNIT - 1))
+    {
         return false;
     }
     let pool = heap.pools[entry as usize];
-    let first = (memory + FRONT + 15) / 16 * 16;
-    let whole = (memory + bytes).saturating_sub(first - FRONT) / 16 * 16;
+    let first = (memory + FRONT + (UNIT - 1)) / UNIT * UNIT;
+    let whole = (memory + bytes).saturating_sub(first - FRONT) / UNIT * UNIT;
     if whole < FRONT || pool.reach > whole - FRONT {
         return false;
     }

@@ -11,7 +11,7 @@ ghost use Rattle.tlsf_c.specs.PlacedPools.{IsPlaced, IsClearOf, CanBePlaced, IsE
 ghost use Rattle.tlsf_c.specs.RangeMoves.{IsRangeAdded, IsRangeRemoved};
 ghost use Rattle.tlsf_c.specs.Status.{number, status_of};
 
-use crate::placed_blocks::FRONT;
+use crate::front::{FRONT, UNIT};
 use crate::placed_heap::PlacedHeap;
 use crate::placed_pool::PlacedPool;
 use crate::status::{SERVED, number};
@@ -84,7 +84,7 @@ fn can_be_placed(first: u64, bytes: u64) -> bool
     ensures yes { result ≡ true → CanBePlaced first bytes }
     ensures no { result ≡ false → CanBePlaced first bytes → ⊥ }
 {
-    first % 16 == 0 && first >= 16 && bytes >= 16 && first - 1 <= u64::MAX - bytes
+    first % UNIT == 0 && first >= UNIT && bytes >= UNIT && first - 1 <= u64::MAX - bytes
 }
 
 /// A pool of `bytes` bytes, as one free block, whose address is `first`: the pool begins eight bytes before it, and has the

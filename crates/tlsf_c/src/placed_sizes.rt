@@ -16,9 +16,9 @@ ghost use Rattle.tlsf_c.specs.Status.{number};
 
 use crate::block::Block;
 use crate::blocks::tlsf_heap_realloc;
-use crate::front::mark_of;
+use crate::front::{FRONT, MOST, UNIT, mark_of};
 use crate::handle::Handle;
-use crate::placed_blocks::{FRONT, MOST, Sized, find, place_block};
+use crate::placed_blocks::{Sized, find, place_block};
 use crate::placed_heap::PlacedHeap;
 use crate::status::{SERVED, number};
 use tlsf_heap::{Ptr, Refusal};
@@ -61,7 +61,7 @@ pub extern "C" fn tlsf_placed_told_size(address: u64, word: u64) -> u64
 pub extern "C" fn tlsf_placed_lost_front(address: u64, word: u64) -> bool
     ensures lost { (result ≡ true) ↔ IsLostFront word address }
 {
-    address % 16 == 0 && word != 0 && word != address && tlsf_placed_told_size(address, word) == 0
+    address % UNIT == 0 && word != 0 && word != address && tlsf_placed_told_size(address, word) == 0
 }
 
 /// `tlsf_heap_realloc` of a block to some bytes. The library has the code of `Heap::realloc` once, in that export.

@@ -11,7 +11,7 @@ ghost use Rattle.tlsf_c.specs.PlacedPools.{IsPlaced};
 ghost use Rattle.tlsf_c.specs.PlacedRows.{IsRowOf, placed_row, from_address, behind, WalksFrom};
 ghost use Rattle.tlsf_c.specs.Room.{put_over};
 
-use crate::placed_blocks::FRONT;
+use crate::front::FRONT;
 use crate::placed_heap::PlacedHeap;
 use crate::placed_pool::PlacedPool;
 use crate::placed_row::PlacedRow;

@@ -5,11 +5,11 @@ ghost use Rattle.tlsf_heap.specs.Memalign.{is_alignment};
 ghost use Rattle.tlsf_c.specs.PlacedPools.{IsPlaced};
 ghost use Rattle.tlsf_c.specs.PoolPlaces.{IsLike, IsBeside, HasRoom, IsNextLike};
 
-use crate::placed_blocks::FRONT;
+use crate::front::FRONT;
 use crate::placed_pool::PlacedPool;
 
 /// One more than the last place.
-const END_OF_PLACES: u64 = 1 << 32;
+pub(crate) const END_OF_PLACES: u64 = 1 << 32;
 
 /// The first place from another on that equals the address modulo the alignment.
 fn next_like(align: u64, address: u64, from: u64) -> u64
