@@ -1,4 +1,4 @@
-"""The picture that `tools/page --svg` writes: bytes held over the lines, stacked by function, and the heap's blocks by place."""
+"""The picture that `bin/page --svg` writes: bytes held over the lines, stacked by function, and the heap's blocks by place."""
 from bisect import bisect_right
 from pathlib import Path
 

@@ -1,4 +1,4 @@
-"""What tools/leaks tells as JSON, as docs/FORMATS.md has it, and by what a site is compared with another report's. It isn't proved."""
+"""What bin/leaks tells as JSON, as docs/FORMATS.md has it, and by what a site is compared with another report's. It isn't proved."""
 import json
 from itertools import groupby
 

@@ -1,4 +1,4 @@
-"""What tools/leaks tells as a profile of pprof (profile.proto, packed by gzip): who holds memory at the end, and who asked for it over the
+"""What bin/leaks tells as a profile of pprof (profile.proto, packed by gzip): who holds memory at the end, and who asked for it over the
 run. It isn't proved."""
 import gzip
 from collections import defaultdict

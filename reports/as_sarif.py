@@ -1,4 +1,4 @@
-"""What tools/leaks tells as SARIF 2.1.0, for a code host: a result for each site. It isn't proved."""
+"""What bin/leaks tells as SARIF 2.1.0, for a code host: a result for each site. It isn't proved."""
 import hashlib
 import json
 import os

@@ -1,4 +1,4 @@
-"""Suppressions of all sites that tools/leaks tells, for valgrind and for LeakSanitizer. It isn't proved."""
+"""Suppressions of all sites that bin/leaks tells, for valgrind and for LeakSanitizer. It isn't proved."""
 import re
 from bisect import bisect_right
 from functools import cache

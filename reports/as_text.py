@@ -1,4 +1,4 @@
-"""What tools/leaks tells for someone who reads it. It isn't proved."""
+"""What bin/leaks tells for someone who reads it. It isn't proved."""
 import os
 
 from loading import why_untraced

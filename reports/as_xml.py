@@ -1,4 +1,4 @@
-"""What tools/leaks tells in the XML of valgrind's memcheck, protocol 4, as plugins of CI servers read it. It isn't proved."""
+"""What bin/leaks tells in the XML of valgrind's memcheck, protocol 4, as plugins of CI servers read it. It isn't proved."""
 import os
 import re
 from xml.etree.ElementTree import Element, SubElement, indent, tostring

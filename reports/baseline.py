@@ -1,4 +1,4 @@
-"""What grew since an older report of tools/leaks: sites by their functions, not by lines or addresses. It isn't proved."""
+"""What grew since an older report of bin/leaks: sites by their functions, not by lines or addresses. It isn't proved."""
 import os
 from collections import defaultdict
 from dataclasses import dataclass

@@ -1,4 +1,4 @@
-"""What of a log's end is lost, and what is still reachable: LOG.reachable, which tools/trace --reachable writes beside LOG."""
+"""What of a log's end is lost, and what is still reachable: LOG.reachable, which bin/trace --reachable writes beside LOG."""
 import re
 from pathlib import Path
 

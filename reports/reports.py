@@ -28,7 +28,7 @@ class Differs(Exception):
 
 
 def program_beside(folder):
-    """The program: as TLSF names it, or beside the installed command, or above the repository's tools."""
+    """The program: as TLSF names it, or beside the installed command, or above the repository's."""
     if os.environ.get("TLSF"):
         return os.environ["TLSF"]
     installed = folder / "tlsf"

@@ -1,4 +1,4 @@
-"""How a log of tools/trace ends: with `= End`; with a line that says it is cut, since its process went on without it; or with neither,
+"""How a log of bin/trace ends: with `= End`; with a line that says it is cut, since its process went on without it; or with neither,
 since something ended its process at once. It isn't proved."""
 import errno
 import os

@@ -1,4 +1,4 @@
-"""What gdb does in a running process, for tools/trace --pid and --stop: it waits until a thread is where the dynamic linker and
+"""What gdb does in a running process, for bin/trace --pid and --stop: it waits until a thread is where the dynamic linker and
 malloc can be called, and calls the tracer there. gdb reads this file; running.py starts it. It isn't proved.
 
 Where that is: amid a system call that waits, made by the C library, or at the first instruction of a call of malloc that neither

@@ -2,7 +2,7 @@
  *
  * Its file is mapped, shared, so that each line is the kernel's once it is written: whatever ends the
  * process, no line is lost. Behind the last line the file has zeros, which log_end cuts off, or
- * tools/trace where the process was killed. No descriptor stays open, since programs close those that
+ * bin/trace where the process was killed. No descriptor stays open, since programs close those that
  * they don't know.
  *
  * A gigabyte is mapped at once, of a file that has holes. So the log goes on where the process may no
@@ -385,7 +385,7 @@ static void tell_before(void)
     }
 }
 
-/* Where the file can't be opened zeros stay behind the end, which tools/trace cuts off. */
+/* Where the file can't be opened zeros stay behind the end, which bin/trace cuts off. */
 static void end_file(void)
 {
     if (has_room(END_BYTES)) {

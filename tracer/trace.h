@@ -1,5 +1,5 @@
 /* trace.h: the parts of libtlsf_trace.so, a tracer of malloc's calls. It is preloaded by
- * tools/trace, and writes the log that docs/FORMATS.md describes. Not proved.
+ * bin/trace, and writes the log that docs/FORMATS.md describes. Not proved.
  *
  *     calls.c    the calls of malloc that stand in for those of the C library
  *     stack.c    the stack of a call: its frames, and its number
@@ -21,7 +21,7 @@
  * TLSF_TRACE_REACHABLE, with which each process tells what is still reachable at its end.
  *
  * A program that runs already is told by gdb to call tlsf_trace_begin and tlsf_trace_end (process.c).
- * tools/page.d/in_gdb.py tells where that is safe.
+ * tracer/in_gdb.py tells where that is safe.
  */
 #ifndef TLSF_TRACE_H
 #define TLSF_TRACE_H

@@ -1,4 +1,4 @@
-// The page of two logs: what grew by function, as tools/page.d/comparison.py makes it.
+// The page of two logs: what grew by function, as page/comparison.py makes it.
 "use strict";
 
 const MOST_NAMES = 5000, MOST_LETTERS = 1_200_000;

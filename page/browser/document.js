@@ -1,4 +1,4 @@
-// Fills the documents of a page, as tools/page.d/template.py and document.py do.
+// Fills the documents of a page, as page/template.py and document.py do.
 "use strict";
 
 // JSON that nothing in it can end.

@@ -139,7 +139,7 @@ function lend(link, parts, name, type) {
   link.hidden = false;
 }
 
-// Whether zeros stand behind a log's lines, as they do while tools/trace writes it.
+// Whether zeros stand behind a log's lines, as they do while bin/trace writes it.
 async function endsInZeros(file) {
   const end = new Uint8Array(await file.slice(-2).arrayBuffer());
   return end.length === 2 && !end[0] && !end[1];

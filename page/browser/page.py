@@ -3,7 +3,7 @@
 
     page.py PROGRAM.wasm PARTS PAGE.html
 
-PARTS is the folder of the page of a log, tools/page.d. It has the documents that the page fills, as tools/page does."""
+PARTS is the folder of the page of a log, page/. It has the documents that the page fills, as bin/page does."""
 import base64
 import html
 import re

@@ -1,5 +1,5 @@
 // All that is told of one log: the reports, and a reading of its own, which have to agree. What it makes is the data of the page, as
-// tools/page.d/study.py and document.py make it.
+// page/study.py and document.py make it.
 "use strict";
 
 // How many points there are; how many sites are told one by one, with how many bytes of names; and of the greatest of these how many
@@ -28,7 +28,7 @@ function jsonLength(text) {
   return Array.from(JSON.stringify(text), (letter) => letter < "\x7f" ? 1 : 6 * letter.length).reduce((sum, count) => sum + count, 0);
 }
 
-// How a log ends, as tools/page.d/ends.py tells it: with its end; with a line that says it is cut, since its process went on; or with
+// How a log ends, as tracer/ends.py tells it: with its end; with a line that says it is cut, since its process went on; or with
 // neither.
 function howItEnds(file) {
   const last = file.piece(Math.max(0, file.size - 16), 16), text = byteText(last, 0, last.length);

@@ -1,5 +1,5 @@
 // Bytes of a log are kept as text in which each letter is a byte. This is how they are shown: all of them, and so that they can do
-// nothing, as tools/page.d/texts.py has it.
+// nothing, as names/texts.py has it.
 "use strict";
 
 const NO_LOCATION = "(no location)";

@@ -1,5 +1,5 @@
 /* What a proved program takes from C, for a processor for which the kit has no C library: its words,
- * its environment, errno, and memory. tools/program links it. Not proved. */
+ * its environment, errno, and memory. scripts/program links it. Not proved. */
 #include <errno.h>
 #include <stdbool.h>
 #include <stdint.h>

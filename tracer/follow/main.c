@@ -7,7 +7,7 @@
  * own words, and at SIGUSR1. With -g a process goes on untraced where TLSF hangs. FOLDER/states gets how each ended.
  *
  * `ready` on standard output tells that processes may begin. At SIGTERM it ends once no process is left, at SIGINT it lets all go at
- * once. Its status is 3 where lines were lost, or a process couldn't make a ring. tools/trace starts it.
+ * once. Its status is 3 where lines were lost, or a process couldn't make a ring. bin/trace starts it.
  */
 #define _GNU_SOURCE
 #include "follow.h"

@@ -1,5 +1,5 @@
 /* ring.c: the follower of one ring. It gives its lines to the consumer, and writes those that tell modules and stacks into a file, which
- * tools/source-lines reads as a log. In a silence it tells the time by itself.
+ * bin/source-lines reads as a log. In a silence it tells the time by itself.
  */
 #define _GNU_SOURCE
 #include "follow.h"
