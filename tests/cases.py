@@ -1,7 +1,10 @@
 """The cases of a test in Python, as tests/common has them for the shell: what passed and failed, what is skipped, and the last line."""
 import os
+import subprocess
 import sys
+from pathlib import Path
 
+TESTS = Path(__file__).resolve().parent
 # How much is shown of what was found.
 SHOWN = 300
 passed = failed = 0
@@ -25,6 +28,12 @@ def skip(what, why):
         print(f"FAILED: skipped: {what}: {why}")
     else:
         print(f"skipped: {what}: {why}")
+
+
+def program_of():
+    """The program that is tried, as tests/common finds it."""
+    words = ["sh", "-c", '. "$0/common"; program_of "$1"', TESTS, TESTS.parent]
+    return subprocess.run(words, stdout=subprocess.PIPE, check=True).stdout.decode().strip()
 
 
 def end_cases():

@@ -88,15 +88,15 @@ def write_logs(kind, lines):
 
 
 def main():
-    program, tools = sys.argv[1:]
+    program, commands = sys.argv[1:]
     for kind in (locations, locations_freed, long_locations, classes, freed_first, moved, findings, stacks, modules):
         write_logs(kind, LINES)
         for report in REPORTS:
             print(f"{kind.__name__} {report}: {verdict([program, *report.split()])}", flush=True)
         if kind in (locations, stacks, modules):
-            print(f"{kind.__name__} source-lines: {verdict([f'{tools}/source-lines'])}", flush=True)
+            print(f"{kind.__name__} source-lines: {verdict([f'{commands}/source-lines'])}", flush=True)
             write_logs(kind, LINES_OF_PAGE)
-            print(f"{kind.__name__} page: {verdict([f'{tools}/page'])}", flush=True)
+            print(f"{kind.__name__} page: {verdict([f'{commands}/page'])}", flush=True)
 
 
 main()

@@ -1,4 +1,4 @@
-"""Reads a report of tools/leaks by the rules of its form, and writes its sites: bytes, blocks, and each call as function, file and line. Part
+"""Reads a report of bin/leaks by the rules of its form, and writes its sites: bytes, blocks, and each call as function, file and line. Part
 of tests/trace.d/reports.
 
     reports.py json FILE         reports.py sarif FILE

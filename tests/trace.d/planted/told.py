@@ -1,4 +1,4 @@
-"""Compares what is planted in sources with the sites of a report that tools/source-lines named.
+"""Compares what is planted in sources with the sites of a report that bin/source-lines named.
 
     told.py REPORT SOURCE..
 
