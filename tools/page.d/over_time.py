@@ -1,0 +1,187 @@
+"""What the snapshots of a program tell: who held its memory at each of them, by function and by stack, and who grew. It isn't proved."""
+import os
+import re
+from collections import namedtuple
+
+import ends
+import following
+from functions import NO_NAME, Functions
+from reports import Differs
+from snapshots import Snapshots
+from stacks import Stacks, stacks_of
+
+KNOWN = re.compile(rb"At line \d+, \d+ ms:|Held at the (?:peak, line \d+|end): \d+ blocks, \d+ bytes\.|"
+                   rb"\d+ bytes in \d+ (?:blocks|calls, \d+ temporary)(?: at .*)?|Asked over the log: .*|line \d+: .*", re.S)
+SITE = re.compile(rb"(\d+) bytes in (\d+) blocks(?: at (.*))?", re.S)
+HEAD = re.compile(rb"Held at the end: (\d+) blocks, (\d+) bytes\.")
+PIECE = 1 << 20
+NONE = (0, 0)
+# How the states of tools/trace --follow are told of a log.
+HOW = {following.WHOLE: ends.WHOLE, following.ENDED: ends.ENDED, following.CUT: ends.LEFT, following.LOST: ends.LEFT}
+# What was held at a line, after milliseconds, in all: bytes and blocks.
+Point = namedtuple("Point", "line milliseconds bytes blocks")
+
+
+class Wrong(Exception):
+    """Why a file isn't a report of snapshots."""
+
+
+def added(one, other):
+    """Bytes and blocks of two together."""
+    return one[0] + other[0], one[1] + other[1]
+
+
+def taken(one, other):
+    """Bytes and blocks of one without those of another."""
+    return one[0] - other[0], one[1] - other[1]
+
+
+def sums_of(lines):
+    """Bytes and blocks of each location in the lines of a snapshot, whose first line has the sums of all."""
+    head, sums = HEAD.fullmatch(lines[0]), {}
+    for line in lines[1:]:
+        found = SITE.fullmatch(line)
+        location = found[3] or b""
+        sums[location] = added(sums.get(location, NONE), (int(found[1]), int(found[2])))
+    whole = NONE
+    for numbers in sums.values():
+        whole = added(whole, numbers)
+    if whole != (int(head[2]), int(head[1])):
+        raise Wrong(f"its sites hold {whole[0]} bytes in {whole[1]} blocks, and not {int(head[2])} in {int(head[1])}")
+    return sums, whole
+
+
+class Report:
+    """The first bytes of a report, which may still be written."""
+
+    def __init__(self, path):
+        self.path, self.length = path, os.stat(path).st_size
+        self.is_cut, self.diagnostics = False, 0
+
+    def lines(self):
+        """Its whole lines. Each is of a report, or there is no page."""
+        left, rest, number = self.length, b"", 0
+        with open(self.path, "rb") as file:
+            while left > 0 and (piece := file.read(min(left, PIECE))):
+                left -= len(piece)
+                *lines, rest = (rest + piece).split(b"\n")
+                for line in lines:
+                    number += 1
+                    if not KNOWN.fullmatch(line):
+                        raise Wrong(f"line {number} isn't of a report of `tlsf sites`")
+                    yield line
+        self.is_cut = bool(rest)
+
+    def snapshots(self):
+        """Each snapshot that is whole: its place, bytes and blocks by location, and both in all. At last what is held at the end, which
+        has no place."""
+        found, place, is_over = Snapshots(), (0, 0), False
+        for line in self.lines():
+            self.check(found, line, is_over)
+            for snapshot in found.take_line(line):
+                now = (snapshot.line, snapshot.milliseconds)
+                if not snapshot.is_last and (now[0] < place[0] or now[1] < place[1]):
+                    raise Wrong(f"a snapshot of line {now[0]} stands behind one of line {place[0]}")
+                place, is_over = now, snapshot.is_last
+                yield (None if is_over else now), *sums_of(snapshot.lines)
+        self.is_cut |= found.place is not None or found.lines is not None
+        self.diagnostics = found.diagnostics
+
+    @staticmethod
+    def check(found, line, is_over):
+        """Whether a line can stand behind what was found."""
+        is_heading, is_head = line.startswith(b"At line "), HEAD.fullmatch(line)
+        if is_over and (is_heading or is_head):
+            raise Wrong("it goes on behind its end")
+        if found.lines is not None and not SITE.fullmatch(line) or is_heading and found.place is not None:
+            raise Wrong("a snapshot isn't whole, and others stand behind it")
+
+
+def log_beside(report):
+    """The lines of modules and stacks that tools/trace --follow writes beside a report, or nothing."""
+    told = report.removesuffix(".report") + ".told"
+    return told if report.endswith(".report") and os.path.exists(told) else None
+
+
+def end_beside(report, log):
+    """How the log ended that a report is of, where that is told beside it, or by the log; or nothing."""
+    name = os.path.basename(report).removesuffix("report") + "ring"
+    told = following.states_in(os.path.dirname(report) or ".").get(name)
+    if told:
+        return HOW[told[0]]
+    return ends.how_it_ends(log) if log and log != log_beside(report) else None
+
+
+class OverTime:
+    """A report of snapshots: all sums, and names of files in places, if any. The log is the one that has its stacks."""
+
+    def __init__(self, report, log, places):
+        self.report, log = Report(report), log or log_beside(report)
+        self.points, self.at_end = [], None
+        self.first, self.before, self.last, self.end = {}, {}, {}, None
+        locations = self.read()
+        self.how = end_beside(report, log)
+        self.functions = Functions(stacks_of(log) if log else Stacks(), locations, places)
+        self.sites = dict(zip(locations, self.functions.sites))
+        self.has_stacks = log is not None
+        self.series = self.read_series()
+
+    def read(self):
+        """Reads what is held at the first, the last two, and the end. Returns all locations, in the order in which they came."""
+        locations = {}
+        for place, sums, whole in self.report.snapshots():
+            locations.update(dict.fromkeys(sums))
+            if place is None:
+                self.end, self.at_end = sums, whole
+                continue
+            if not self.points:
+                self.first = sums
+            self.before, self.last = self.last, sums
+            self.points.append(Point(*place, *whole))
+        return list(locations)
+
+    def read_series(self):
+        """Bytes of each function at each snapshot."""
+        series, at = {}, 0
+        for place, sums, whole in self.report.snapshots():
+            if place is None:
+                break
+            for location, (held, _) in sums.items():
+                series.setdefault(self.function(location), [0] * len(self.points))[at] += held
+            if sum(values[at] for values in series.values()) != whole[0]:
+                raise Differs(f"the numbers differ at line {place[0]}")
+            at += 1
+        return series
+
+    def doubts(self, log):
+        """What can make names wrong or leaves them out: files that changed behind a log, other builds, and files without lines."""
+        newer = [f"{module} is newer than {log}: its source lines may be others" for module in self.functions.newer_than(os.stat(log).st_mtime_ns)]
+        return [*newer, *self.functions.of_others(), *filter(None, [self.functions.without_lines()])]
+
+    def stack(self, location):
+        """A location by its calls, innermost first."""
+        return " < ".join(self.sites[location].frames) or NO_NAME
+
+    def function(self, location):
+        """A location by its function."""
+        return self.functions.label(self.sites[location].function)
+
+    def rows(self, name_of):
+        """What is told of each name: bytes and blocks grown between the last two snapshots, at the first, at the last, and at the end, as
+        far as these are known. Those that grew most come first; without growth those that hold most."""
+        parts = [part for part, is_there in ((self.before, len(self.points) > 1), (self.first, len(self.points) > 1),
+                                             (self.last, len(self.points) > 0), (self.end, self.end is not None)) if is_there]
+        sums = {}
+        for at, part in enumerate(parts):
+            for location, numbers in part.items():
+                row = sums.setdefault(name_of(location), [NONE] * len(parts))
+                row[at] = added(row[at], numbers)
+        rows = [(name, [taken(row[2], row[0]), *row[1:]] if len(self.points) > 1 else row) for name, row in sums.items()]
+        return sorted(rows, key=lambda row: ([(-held, -blocks) for held, blocks in (row[1][0], *row[1][::-1])], row[0]))
+
+    @property
+    def sums(self):
+        """The same of all together, by the report."""
+        whole = [(point.bytes, point.blocks) for point in self.points]
+        grown = [taken(whole[-1], whole[-2]), whole[0]] if len(whole) > 1 else []
+        return [*grown, *whole[-1:], *([self.at_end] if self.at_end is not None else [])]
