@@ -1,4 +1,5 @@
-"""What the snapshots of a program tell: who held its memory at each of them, by function and by stack, and who grew. It isn't proved."""
+"""What the snapshots of a program tell: who held its memory at each of them, by function and by
+stack, and who grew. It isn't proved."""
 import os
 import re
 from collections import namedtuple
@@ -10,14 +11,17 @@ from reports import Differs
 from snapshots import Snapshots
 from stacks import Stacks, stacks_of
 
-KNOWN = re.compile(rb"At line \d+, \d+ ms:|Held at the (?:peak, line \d+|end): \d+ blocks, \d+ bytes\.|"
-                   rb"\d+ bytes in \d+ (?:blocks|calls, \d+ temporary)(?: at .*)?|Asked over the log: .*|line \d+: .*", re.S)
+KNOWN = re.compile(
+    rb"At line \d+, \d+ ms:|Held at the (?:peak, line \d+|end): \d+ blocks, \d+ bytes\.|"
+    rb"\d+ bytes in \d+ (?:blocks|calls, \d+ temporary)(?: at .*)?|Asked over the log: .*|"
+    rb"line \d+: .*", re.S)
 SITE = re.compile(rb"(\d+) bytes in (\d+) blocks(?: at (.*))?", re.S)
 HEAD = re.compile(rb"Held at the end: (\d+) blocks, (\d+) bytes\.")
 PIECE = 1 << 20
 NONE = (0, 0)
 # How the states of tools/trace --follow are told of a log.
-HOW = {following.WHOLE: ends.WHOLE, following.ENDED: ends.ENDED, following.CUT: ends.LEFT, following.LOST: ends.LEFT}
+HOW = {following.WHOLE: ends.WHOLE, following.ENDED: ends.ENDED, following.CUT: ends.LEFT,
+       following.LOST: ends.LEFT}
 # What was held at a line, after milliseconds, in all: bytes and blocks.
 Point = namedtuple("Point", "line milliseconds bytes blocks")
 
@@ -37,18 +41,28 @@ def taken(one, other):
 
 
 def sums_of(lines):
-    """Bytes and blocks of each location in the lines of a snapshot, whose first line has the sums of all."""
-    head, sums = HEAD.fullmatch(lines[0]), {}
+    """Bytes and blocks of each location in the lines of a snapshot, and of all together, which its
+    first line tells."""
+    head, sums, whole = HEAD.fullmatch(lines[0]), {}, NONE
     for line in lines[1:]:
         found = SITE.fullmatch(line)
-        location = found[3] or b""
-        sums[location] = added(sums.get(location, NONE), (int(found[1]), int(found[2])))
-    whole = NONE
-    for numbers in sums.values():
+        location, numbers = found[3] or b"", (int(found[1]), int(found[2]))
+        sums[location] = added(sums.get(location, NONE), numbers)
         whole = added(whole, numbers)
     if whole != (int(head[2]), int(head[1])):
-        raise Wrong(f"its sites hold {whole[0]} bytes in {whole[1]} blocks, and not {int(head[2])} in {int(head[1])}")
+        raise Wrong(f"its sites hold {whole[0]} bytes in {whole[1]} blocks, and not {int(head[2])} "
+                    f"in {int(head[1])}")
     return sums, whole
+
+
+def check(found, line, is_over):
+    """Whether a line can stand behind the snapshots that were found."""
+    is_heading, is_head = line.startswith(b"At line "), HEAD.fullmatch(line)
+    if is_over and (is_heading or is_head):
+        raise Wrong("it goes on behind its end")
+    is_amid = found.lines is not None and not SITE.fullmatch(line)
+    if is_amid or (is_heading and found.place is not None):
+        raise Wrong("a snapshot isn't whole, and others stand behind it")
 
 
 class Report:
@@ -73,38 +87,31 @@ class Report:
         self.is_cut = bool(rest)
 
     def snapshots(self):
-        """Each snapshot that is whole: its place, bytes and blocks by location, and both in all. At last what is held at the end, which
-        has no place."""
+        """Each snapshot that is whole: its place, bytes and blocks by location, and both in all. At
+        last what is held at the end, which has no place."""
         found, place, is_over = Snapshots(), (0, 0), False
         for line in self.lines():
-            self.check(found, line, is_over)
+            check(found, line, is_over)
             for snapshot in found.take_line(line):
-                now = (snapshot.line, snapshot.milliseconds)
-                if not snapshot.is_last and (now[0] < place[0] or now[1] < place[1]):
+                now, is_over = (snapshot.line, snapshot.milliseconds), snapshot.is_last
+                if not is_over and (now[0] < place[0] or now[1] < place[1]):
                     raise Wrong(f"a snapshot of line {now[0]} stands behind one of line {place[0]}")
-                place, is_over = now, snapshot.is_last
+                place = now
                 yield (None if is_over else now), *sums_of(snapshot.lines)
         self.is_cut |= found.place is not None or found.lines is not None
         self.diagnostics = found.diagnostics
 
-    @staticmethod
-    def check(found, line, is_over):
-        """Whether a line can stand behind what was found."""
-        is_heading, is_head = line.startswith(b"At line "), HEAD.fullmatch(line)
-        if is_over and (is_heading or is_head):
-            raise Wrong("it goes on behind its end")
-        if found.lines is not None and not SITE.fullmatch(line) or is_heading and found.place is not None:
-            raise Wrong("a snapshot isn't whole, and others stand behind it")
-
 
 def log_beside(report):
-    """The lines of modules and stacks that tools/trace --follow writes beside a report, or nothing."""
+    """The lines of modules and stacks that tools/trace --follow writes beside a report, or
+    nothing."""
     told = report.removesuffix(".report") + ".told"
     return told if report.endswith(".report") and os.path.exists(told) else None
 
 
 def end_beside(report, log):
-    """How the log ended that a report is of, where that is told beside it, or by the log; or nothing."""
+    """How the log ended that a report is of, where that is told beside it, or by the log; or
+    nothing."""
     name = os.path.basename(report).removesuffix("report") + "ring"
     told = following.states_in(os.path.dirname(report) or ".").get(name)
     if told:
@@ -113,7 +120,8 @@ def end_beside(report, log):
 
 
 class OverTime:
-    """A report of snapshots: all sums, and names of files in places, if any. The log is the one that has its stacks."""
+    """A report of snapshots: all sums, and names of files in places, if any. The log is the one
+    that has its stacks."""
 
     def __init__(self, report, log, places):
         self.report, log = Report(report), log or log_beside(report)
@@ -123,11 +131,11 @@ class OverTime:
         self.how = end_beside(report, log)
         self.functions = Functions(stacks_of(log) if log else Stacks(), locations, places)
         self.sites = dict(zip(locations, self.functions.sites))
-        self.has_stacks = log is not None
         self.series = self.read_series()
 
     def read(self):
-        """Reads what is held at the first, the last two, and the end. Returns all locations, in the order in which they came."""
+        """Reads what is held at the first, the last two, and the end. Returns all locations, in the
+        order in which they came."""
         locations = {}
         for place, sums, whole in self.report.snapshots():
             locations.update(dict.fromkeys(sums))
@@ -154,9 +162,12 @@ class OverTime:
         return series
 
     def doubts(self, log):
-        """What can make names wrong or leaves them out: files that changed behind a log, other builds, and files without lines."""
-        newer = [f"{module} is newer than {log}: its source lines may be others" for module in self.functions.newer_than(os.stat(log).st_mtime_ns)]
-        return [*newer, *self.functions.of_others(), *filter(None, [self.functions.without_lines()])]
+        """What can make names wrong or leaves them out: files that changed behind a log, other
+        builds, and files without lines."""
+        newer = [f"{module} is newer than {log}: its source lines may be others"
+                 for module in self.functions.newer_than(os.stat(log).st_mtime_ns)]
+        bare = self.functions.without_lines()
+        return [*newer, *self.functions.of_others(), *([bare] if bare else [])]
 
     def stack(self, location):
         """A location by its calls, innermost first."""
@@ -166,22 +177,33 @@ class OverTime:
         """A location by its function."""
         return self.functions.label(self.sites[location].function)
 
+    def parts(self):
+        """What is told of each name, as far as it is known: the last snapshot but one, the first,
+        the last, and the end."""
+        count = len(self.points)
+        parts = [self.before, self.first] if count > 1 else []
+        return [*parts, *([self.last] if count else []), *([self.end] if self.at_end else [])]
+
     def rows(self, name_of):
-        """What is told of each name: bytes and blocks grown between the last two snapshots, at the first, at the last, and at the end, as
-        far as these are known. Those that grew most come first; without growth those that hold most."""
-        parts = [part for part, is_there in ((self.before, len(self.points) > 1), (self.first, len(self.points) > 1),
-                                             (self.last, len(self.points) > 0), (self.end, self.end is not None)) if is_there]
-        sums = {}
+        """Bytes and blocks of each name: grown between the last two snapshots, at the first, at the
+        last, and at the end. Those that grew most stand first; without growth those that hold
+        most."""
+        parts, sums = self.parts(), {}
         for at, part in enumerate(parts):
             for location, numbers in part.items():
                 row = sums.setdefault(name_of(location), [NONE] * len(parts))
                 row[at] = added(row[at], numbers)
-        rows = [(name, [taken(row[2], row[0]), *row[1:]] if len(self.points) > 1 else row) for name, row in sums.items()]
-        return sorted(rows, key=lambda row: ([(-held, -blocks) for held, blocks in (row[1][0], *row[1][::-1])], row[0]))
+        rows = [(name, self.grown(row)) for name, row in sums.items()]
+        return sorted(rows, key=lambda row: (
+            [(-held, -blocks) for held, blocks in (row[1][0], *row[1][::-1])], row[0]))
+
+    def grown(self, row):
+        """A row with what grew in place of what was held at the last snapshot but one."""
+        return [taken(row[2], row[0]), *row[1:]] if len(self.points) > 1 else row
 
     @property
     def sums(self):
         """The same of all together, by the report."""
         whole = [(point.bytes, point.blocks) for point in self.points]
-        grown = [taken(whole[-1], whole[-2]), whole[0]] if len(whole) > 1 else []
-        return [*grown, *whole[-1:], *([self.at_end] if self.at_end is not None else [])]
+        parts = [whole[-2], whole[0]] if len(whole) > 1 else []
+        return self.grown([*parts, *whole[-1:], *([self.at_end] if self.at_end else [])])

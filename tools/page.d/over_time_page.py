@@ -1,22 +1,25 @@
-"""The page of a program's snapshots: a chart of what was held over time, by function, and tables of who grew. It isn't proved."""
+"""The page of a program's snapshots: a chart of what was held over time, by function, and tables of
+who grew. It isn't proved."""
 import re
 
 from comparison import head_html
-from drawing import BOTTOM, HEIGHT, TOP, Chart, number, short_bytes, ticks
+from drawing import BOTTOM, HEIGHT, Chart, number, short_bytes, ticks
 from ends import ENDED, LEFT
 from grouping import TOP as MOST_BANDS
 from grouping import Band
 from template import STYLES, filled, text_of
 from texts import counted, escaped, shown
 
-# For each width of a window a drawing: its class, its width, the place left of it, and the most times below it.
+# For each width of a window a drawing: its class, its width, the place left of it, and the most
+# times below it.
 DRAWINGS = (("narrow", 340, 74, 3), ("middle", 700, 80, 5), ("wide", 1060, 80, 8))
 # From so many bytes on their numbers take more place; so wide is the bar of a single snapshot.
 MANY_BYTES, MORE, BAR = 10 ** 15, 40, 24
 # So many snapshots are drawn. So many rows a table has, with so many bytes of names.
 MOST_DRAWN, MOST_ROWS, MOST_TEXT = 400, 2000, 700_000
 STATES = {ENDED: "Its process was ended at once, as by a signal.",
-          LEFT: "It is cut: its process went on without being traced, so what it freed later isn't known."}
+          LEFT: "It is cut: its process went on without being traced, so what it freed later isn't "
+          "known."}
 NO_END = "It has no end: its process still ran, or the report isn't whole."
 CUT = "A last snapshot that isn't whole is left out."
 POLICY = "default-src 'none'; style-src 'unsafe-inline'"
@@ -28,14 +31,15 @@ def seconds(milliseconds):
     return f"{whole:,}" + (f".{rest:03}".rstrip("0") if rest else "")
 
 
-def isolated(name):
-    """A name by itself, whatever its script's direction, which may break behind `::` and `/`."""
-    return f"<bdi>{'<wbr>'.join(escaped(part) for part in re.split('(?<=::)|(?<=/)', name))}</bdi>"
-
-
 def signed(value):
     """A number that tells how another changed."""
     return f"{value:+,}" if value else "0"
+
+
+def isolated(name):
+    """A name by itself, whatever its script's direction, which may break behind `::` and `/`."""
+    parts = re.split("(?<=::)|(?<=/)", name)
+    return f"<bdi>{'<wbr>'.join(map(escaped, parts))}</bdi>"
 
 
 # ---- the chart
@@ -54,18 +58,26 @@ class TimeChart(Chart):
     def places(self, times):
         """Where snapshots stand. A single one is a bar."""
         places = [self.x(time) for time in times]
-        return places if len(places) > 1 else [max(places[0] - BAR, self.left), max(places[0], self.left + BAR)]
+        if len(places) > 1:
+            return places
+        return [max(places[0] - BAR, self.left), max(places[0], self.left + BAR)]
 
     def axes(self):
         """Bytes at the left, and seconds below."""
-        parts = [f'<path class="grid" d="M{self.left} {number(self.y(value))}H{self.right}"/><text x="{self.left - 6}" '
-                 f'y="{number(self.y(value))}" dy="4" text-anchor="end">{short_bytes(value, self.most)}</text>' for value in ticks(self.most)]
+        parts = []
+        for value in ticks(self.most):
+            y = number(self.y(value))
+            parts.append(f'<path class="grid" d="M{self.left} {y}H{self.right}"/>'
+                         f'<text x="{self.left - 6}" y="{y}" dy="4" text-anchor="end">'
+                         f"{short_bytes(value, self.most)}</text>")
         for time in ticks(self.lines, self.times):
             at_end = self.x(time) > self.right - 25
-            parts.append(f'<path class="grid" d="M{number(self.x(time))} {BOTTOM}v5"/><text x="{self.width - 1 if at_end else number(self.x(time))}" '
-                         f'y="{BOTTOM + 18}" text-anchor="{"end" if at_end else "middle"}">{seconds(time)}</text>')
-        middle = number((self.left + self.right) / 2)
-        return "".join(parts) + f'<text class="soft" x="{middle}" y="{BOTTOM + 35}" text-anchor="middle">seconds since the log began</text>'
+            x, anchor = (self.width - 1, "end") if at_end else (number(self.x(time)), "middle")
+            parts.append(f'<path class="grid" d="M{number(self.x(time))} {BOTTOM}v5"/><text x="{x}" '
+                         f'y="{BOTTOM + 18}" text-anchor="{anchor}">{seconds(time)}</text>')
+        parts.append(f'<text class="soft" x="{number((self.left + self.right) / 2)}" '
+                     f'y="{BOTTOM + 35}" text-anchor="middle">seconds since the log began</text>')
+        return "".join(parts)
 
     def areas(self, times, bands):
         """The bands, one on the other: the first is lowest. Each is named on hovering."""
@@ -76,146 +88,51 @@ class TimeChart(Chart):
             above = [low + value for low, value in zip(below, values)]
             corners = [*zip(places, above), *reversed([*zip(places, below)])]
             path = "L".join(f"{number(x)} {number(self.y(value))}" for x, value in corners)
-            parts.append(f'<path class="{band.name}" d="M{path}Z"><title>{escaped(band.told)}</title></path>')
+            parts.append(f'<path class="{band.name}" d="M{path}Z">'
+                         f"<title>{escaped(band.told)}</title></path>")
             below = above
         return "".join(parts)
 
 
 def drawn_of(points):
-    """The snapshots that are drawn, by their places: all, or of many some in even steps, with the first that holds most."""
+    """The snapshots that are drawn, by their places: all, or of many some in even steps, with the
+    first that holds most."""
     count = len(points)
+    if count <= MOST_DRAWN:
+        return range(count)
     most = max(range(count), key=lambda at: points[at].bytes)
-    return range(count) if count <= MOST_DRAWN else sorted({most, *(step * (count - 1) // (MOST_DRAWN - 1) for step in range(MOST_DRAWN))})
+    return sorted({most, *(step * (count - 1) // (MOST_DRAWN - 1) for step in range(MOST_DRAWN))})
 
 
 def bands_of(over_time, drawn):
-    """The functions that hold most at any snapshot, the greatest first, and the others together: their bytes at those that are drawn."""
+    """The functions that hold most at any snapshot, the greatest first, and the others together:
+    their bytes at those that are drawn."""
     order = sorted(over_time.series, key=lambda name: (-max(over_time.series[name]), name))
     series = {name: [over_time.series[name][at] for at in drawn] for name in order}
     bands = [Band(f"s{at}", name, series[name]) for at, name in enumerate(order[:MOST_BANDS])]
     rest = order[MOST_BANDS:]
     if rest:
         values = [sum(held) for held in zip(*(series[name] for name in rest))]
-        bands.append(Band("rest", f"{counted(len(rest), 'other function')}, the greatest {rest[0]}", values))
+        told = f"{counted(len(rest), 'other function')}, the greatest {rest[0]}"
+        bands.append(Band("rest", told, values))
     return bands
 
 
 def drawing_of(points, bands, drawing):
     """The chart for one width of the window."""
-    chart = TimeChart(points[-1].milliseconds, int(1.08 * max(point.bytes for point in points)), drawing)
-    told = f"Bytes held at {counted(len(points), 'snapshot')}, stacked by function. The tables below have its numbers."
-    return (f'<svg class="drawing {chart.name}" viewBox="0 0 {chart.width} {HEIGHT}" role="img" aria-label="{told}">{chart.axes()}'
-            f"{chart.areas([point.milliseconds for point in points], bands)}</svg>")
+    most = int(1.08 * max(point.bytes for point in points))
+    chart = TimeChart(points[-1].milliseconds, most, drawing)
+    told = (f"Bytes held at {counted(len(points), 'snapshot')}, stacked by function. "
+            "The tables below have its numbers.")
+    areas = chart.areas([point.milliseconds for point in points], bands)
+    return (f'<svg class="drawing {chart.name}" viewBox="0 0 {chart.width} {HEIGHT}" role="img" '
+            f'aria-label="{told}">{chart.axes()}{areas}</svg>')
 
 
 def legend_of(bands):
     """The colours and what they stand for, the topmost first."""
-    return "".join(f'<li><span class="key {band.name}"></span>&nbsp;{isolated(band.told)}</li>' for band in reversed(bands))
-
-
-# ---- tables
-
-def cells_of(row, is_marked):
-    """The cells of a row: what stands first is text, the others are numbers, which are text already."""
-    head, *numbers = row
-    bold = " marked" if is_marked else ""
-    return (f'<td class="text{bold}">{isolated(head)}</td>' +
-            "".join(f'<td class="number{bold}">{cell}</td>' for cell in numbers))
-
-
-def table_of(name, title, columns, rows, is_first_marked=False):
-    """A table as HTML. Its first row may be that of all others together."""
-    head = "".join(f'<th scope="col" class="{"number" if at else "text"}">{escaped(column)}</th>' for at, column in enumerate(columns))
-    body = "".join(f"<tr>{cells_of(row, is_marked=at == 0 and is_first_marked)}</tr>\n" for at, row in enumerate(rows))
-    return (f'<div id="table-{name}" class="scroll" tabindex="0" role="group" aria-label="{escaped(title)}"><table><caption>{escaped(title)}'
-            f"</caption><thead><tr>{head}</tr></thead>\n<tbody>{body}</tbody></table></div>\n")
-
-
-def columns_of(over_time):
-    """What the numbers of a row are."""
-    names = ["first", "last"] if len(over_time.points) > 1 else ["held"][:len(over_time.points)]
-    names += ["end"] if over_time.end is not None else []
-    grown = ["Bytes grown", "Blocks grown"] if len(over_time.points) > 1 else []
-    return [*grown, *(f"{what}, {name}" for name in names for what in ("Bytes", "Blocks"))]
-
-
-def numbers_of(over_time, numbers):
-    """The numbers of a row as text."""
-    count = 1 if len(over_time.points) > 1 else 0
-    return [text(number) for tell, pairs in ((signed, numbers[:count]), ("{:,}".format, numbers[count:]))
-            for pair in pairs for text, number in ((tell, pair[0]), (tell, pair[1]))]
-
-
-def kept_rows(rows, what):
-    """The rows for which there is room, and the others as one."""
-    text, count = 0, 0
-    while count < min(len(rows), MOST_ROWS) and text <= MOST_TEXT:
-        text += len(rows[count][0])
-        count += 1
-    rest = rows[count:]
-    if not rest:
-        return rows
-    sums = [tuple(map(sum, zip(*pairs))) for pairs in zip(*(numbers for _, numbers in rest))]
-    return [*rows[:count], (f"{counted(len(rest), f'other {what}')} together", sums)]
-
-
-def grown_table(over_time, what, name_of):
-    """Who grew between the last two snapshots, and what they hold. In front stands the sum of all, which is the report's."""
-    title = "Held"
-    if len(over_time.points) > 1:
-        before, last = over_time.points[-2:]
-        title = f"Grown from {seconds(before.milliseconds)} to {seconds(last.milliseconds)} seconds"
-    rows = [("In all", over_time.sums), *kept_rows(over_time.rows(name_of), what)]
-    return table_of(f"{what}s", title, [what.capitalize(), *columns_of(over_time)],
-                    [[name, *numbers_of(over_time, numbers)] for name, numbers in rows], True)
-
-
-def point_table(points, bands):
-    """The chart's numbers."""
-    columns = ["Seconds", "Line", "Bytes", "Blocks", *(band.told for band in bands)]
-    rows = [[seconds(point.milliseconds), f"{point.line:,}", f"{point.bytes:,}", f"{point.blocks:,}", *(f"{band.values[at]:,}" for band in bands)]
-            for at, point in enumerate(points)]
-    return table_of("points", "At each snapshot that is drawn", columns, rows)
-
-
-# ---- the page
-
-def read_words(over_time):
-    """What was read."""
-    points, parts = over_time.points, []
-    if points:
-        first, last = points[0], points[-1]
-        times = seconds(first.milliseconds) + (f" to {seconds(last.milliseconds)}" if len(points) > 1 else "")
-        parts.append(f"{counted(len(points), 'snapshot')}, at {times} seconds.")
-    else:
-        parts.append("No snapshot.")
-    parts += [CUT] if over_time.report.is_cut else []
-    parts.append(NO_END if over_time.end is None else STATES.get(over_time.how, ""))
-    if over_time.report.diagnostics:
-        parts.append(f"{counted(over_time.report.diagnostics, 'diagnostic')} of the log.")
-    return " ".join(filter(None, parts))
-
-
-def held_words(over_time):
-    """What is held in all."""
-    points = over_time.points
-    parts = [f"{name}{point.bytes:,} bytes in {counted(point.blocks, 'block')}" for name, point in
-             ([("at first ", points[0]), ("at last ", points[-1])] if len(points) > 1 else [("", point) for point in points])]
-    if over_time.end is not None:
-        held, blocks = over_time.at_end
-        parts.append(f"at the end {held:,} bytes in {counted(blocks, 'block')}")
-    told = "; ".join(parts) + "." if parts else "Nothing is known."
-    return told[0].upper() + told[1:]
-
-
-def grew_words(over_time):
-    """What grew between the last two snapshots, and who did so most."""
-    if len(over_time.points) < 2:
-        return "That takes two snapshots."
-    held, blocks = over_time.sums[0]
-    grown = [(name, *numbers[0]) for name, numbers in over_time.rows(over_time.function) if numbers[0][0] > 0]
-    told = f" Most: {grown[0][0]}, {signed(grown[0][1])} bytes in {signed(grown[0][2])} blocks." if grown else " No function grew."
-    return f"In all {signed(held)} bytes in {signed(blocks)} blocks from the last but one to the last.{told}"
+    return "".join(f'<li><span class="key {band.name}"></span>&nbsp;{isolated(band.told)}</li>'
+                   for band in reversed(bands))
 
 
 def hints_of(over_time, points):
@@ -232,23 +149,137 @@ def chart_of(over_time):
     drawn = drawn_of(over_time.points)
     points, bands = [over_time.points[at] for at in drawn], bands_of(over_time, drawn)
     drawings = "\n".join(drawing_of(points, bands, drawing) for drawing in DRAWINGS)
-    return (f'<section>\n<h2>Bytes held over time</h2>\n<div id="chart">{drawings}</div>\n<ul id="legend">{legend_of(bands)}</ul>\n'
+    return (f'<section>\n<h2>Bytes held over time</h2>\n<div id="chart">{drawings}</div>\n'
+            f'<ul id="legend">{legend_of(bands)}</ul>\n'
             f'<p class="hint">{escaped(" ".join(hints_of(over_time, points)))}</p>\n'
-            f"<details><summary>The chart's numbers</summary>{point_table(points, bands)}</details>\n</section>\n")
+            f"<details><summary>The chart's numbers</summary>{point_table(points, bands)}</details>\n"
+            "</section>\n")
+
+
+# ---- tables
+
+def cells_of(row, is_marked):
+    """The cells of a row: what stands first is text, the others are numbers, which are text
+    already."""
+    head, *numbers = row
+    bold = " marked" if is_marked else ""
+    return (f'<td class="text{bold}">{isolated(head)}</td>' +
+            "".join(f'<td class="number{bold}">{cell}</td>' for cell in numbers))
+
+
+def table_of(name, title, columns, rows, is_first_marked=False):
+    """A table as HTML. Its first row may be that of all others together."""
+    head = "".join(f'<th scope="col" class="{"number" if at else "text"}">{escaped(column)}</th>'
+                   for at, column in enumerate(columns))
+    body = "".join(f"<tr>{cells_of(row, is_first_marked and at == 0)}</tr>\n"
+                   for at, row in enumerate(rows))
+    return (f'<div id="table-{name}" class="scroll" tabindex="0" role="group" '
+            f'aria-label="{escaped(title)}"><table><caption>{escaped(title)}</caption>'
+            f"<thead><tr>{head}</tr></thead>\n<tbody>{body}</tbody></table></div>\n")
+
+
+def columns_of(over_time):
+    """What the numbers of a row are."""
+    has_grown = len(over_time.points) > 1
+    names = ["first", "last"] if has_grown else ["held"][:len(over_time.points)]
+    names += ["end"] if over_time.end is not None else []
+    grown = ["Bytes grown", "Blocks grown"] if has_grown else []
+    return [*grown, *(f"{what}, {name}" for name in names for what in ("Bytes", "Blocks"))]
+
+
+def numbers_of(over_time, numbers):
+    """The numbers of a row as text."""
+    count = 1 if len(over_time.points) > 1 else 0
+    return [*(signed(value) for pair in numbers[:count] for value in pair),
+            *(f"{value:,}" for pair in numbers[count:] for value in pair)]
+
+
+def kept_rows(rows, what):
+    """The rows for which there is room, and the others as one."""
+    text, count = 0, 0
+    while count < min(len(rows), MOST_ROWS) and text <= MOST_TEXT:
+        text += len(rows[count][0])
+        count += 1
+    rest = rows[count:]
+    if not rest:
+        return rows
+    sums = [tuple(map(sum, zip(*pairs))) for pairs in zip(*(numbers for _, numbers in rest))]
+    return [*rows[:count], (f"{counted(len(rest), f'other {what}')} together", sums)]
+
+
+def grown_table(over_time, what, name_of):
+    """Who grew between the last two snapshots, and what they hold. In front stands the sum of all,
+    which is the report's."""
+    title = "Held"
+    if len(over_time.points) > 1:
+        before, last = (seconds(point.milliseconds) for point in over_time.points[-2:])
+        title = f"Grown from {before} to {last} seconds"
+    rows = [("In all", over_time.sums), *kept_rows(over_time.rows(name_of), what)]
+    return table_of(f"{what}s", title, [what.capitalize(), *columns_of(over_time)],
+                    [[name, *numbers_of(over_time, numbers)] for name, numbers in rows], True)
+
+
+def point_table(points, bands):
+    """The chart's numbers."""
+    columns = ["Seconds", "Line", "Bytes", "Blocks", *(band.told for band in bands)]
+    rows = []
+    for at, point in enumerate(points):
+        numbers = (point.line, point.bytes, point.blocks, *(band.values[at] for band in bands))
+        rows.append([seconds(point.milliseconds), *(f"{value:,}" for value in numbers)])
+    return table_of("points", "At each snapshot that is drawn", columns, rows)
+
+
+# ---- the page
+
+def read_words(over_time):
+    """What was read."""
+    points, parts = over_time.points, ["No snapshot."]
+    if points:
+        times = [seconds(point.milliseconds) for point in (points[0], points[-1])][:len(points)]
+        parts = [f"{counted(len(points), 'snapshot')}, at {' to '.join(times)} seconds."]
+    parts += [CUT] if over_time.report.is_cut else []
+    parts.append(NO_END if over_time.end is None else STATES.get(over_time.how, ""))
+    if over_time.report.diagnostics:
+        parts.append(f"{counted(over_time.report.diagnostics, 'diagnostic')} of the log.")
+    return " ".join(filter(None, parts))
+
+
+def held_words(over_time):
+    """What is held in all."""
+    whole = [(point.bytes, point.blocks) for point in over_time.points]
+    parts = [("At first", whole[0]), ("At last", whole[-1])] if len(whole) > 1 else [
+        ("At the snapshot", one) for one in whole]
+    parts += [("At the end", over_time.at_end)] if over_time.at_end else []
+    told = [f"{name} {held:,} bytes in {counted(blocks, 'block')}." for name, (held, blocks) in parts]
+    return " ".join(told) or "Nothing is known."
+
+
+def grew_words(over_time):
+    """What grew between the last two snapshots, and who did so most."""
+    if len(over_time.points) < 2:
+        return "That takes two snapshots."
+    held, blocks = over_time.sums[0]
+    name, ((most, more), *_) = next(iter(over_time.rows(over_time.function)), ("", [(0, 0)]))
+    told = f"Most: {name}, {signed(most)} bytes in {signed(more)} blocks."
+    return (f"In all {signed(held)} bytes in {signed(blocks)} blocks from the last but one to the last. "
+            f"{told if most > 0 else 'No function grew.'}")
 
 
 def body_of(over_time):
     """The chart and the tables, as far as there is something to tell."""
     parts = [chart_of(over_time)] if over_time.points else []
     if over_time.points or over_time.end is not None:
-        parts.append(f"<section>\n<h2>Who grew</h2>\n{grown_table(over_time, 'function', over_time.function)}"
-                     f"<details><summary>Their stacks</summary>{grown_table(over_time, 'stack', over_time.stack)}</details>\n</section>\n")
+        stacks = grown_table(over_time, "stack", over_time.stack)
+        parts.append(f"<section>\n<h2>Who grew</h2>\n"
+                     f"{grown_table(over_time, 'function', over_time.function)}"
+                     f"<details><summary>Their stacks</summary>{stacks}</details>\n</section>\n")
     return "".join(parts)
 
 
 def page_of_snapshots(folder, name, over_time):
     """The page of a report of this name."""
-    head = [("Read", read_words(over_time)), ("Held", held_words(over_time)), ("Grew", grew_words(over_time))]
+    head = [("Read", read_words(over_time)), ("Held", held_words(over_time)),
+            ("Grew", grew_words(over_time))]
     return filled(text_of(folder, ["over_time.html"]), {
-        "policy": escaped(POLICY), "style": text_of(folder, STYLES), "title": escaped(f"{shown(name)}: what was held over time"),
-        "head": head_html(head), "body": body_of(over_time)})
+        "policy": escaped(POLICY), "style": text_of(folder, STYLES), "head": head_html(head),
+        "title": escaped(f"{shown(name)}: what was held over time"), "body": body_of(over_time)})
