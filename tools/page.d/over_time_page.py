@@ -13,8 +13,9 @@ from texts import counted, escaped, shown
 # For each width of a window a drawing: its class, its width, the place left of it, and the most
 # times below it.
 DRAWINGS = (("narrow", 340, 74, 3), ("middle", 700, 80, 5), ("wide", 1060, 80, 8))
-# From so many bytes on their numbers take more place; so wide is the bar of a single snapshot.
-MANY_BYTES, MORE, BAR = 10 ** 15, 40, 24
+# From so many bytes on their numbers take more place; so wide is the bar of a single snapshot, and
+# half a letter.
+MANY_BYTES, MORE, BAR, HALF = 10 ** 15, 40, 24, 4
 # So many snapshots are drawn. So many rows a table has, with so many bytes of names.
 MOST_DRAWN, MOST_ROWS, MOST_TEXT = 400, 2000, 700_000
 STATES = {ENDED: "Its process was ended at once, as by a signal.",
@@ -71,10 +72,11 @@ class TimeChart(Chart):
                          f'<text x="{self.left - 6}" y="{y}" dy="4" text-anchor="end">'
                          f"{short_bytes(value, self.most)}</text>")
         for time in ticks(self.lines, self.times):
-            at_end = self.x(time) > self.right - 25
+            told = seconds(time)
+            at_end = self.x(time) + HALF * len(told) > self.width
             x, anchor = (self.width - 1, "end") if at_end else (number(self.x(time)), "middle")
             parts.append(f'<path class="grid" d="M{number(self.x(time))} {BOTTOM}v5"/><text x="{x}" '
-                         f'y="{BOTTOM + 18}" text-anchor="{anchor}">{seconds(time)}</text>')
+                         f'y="{BOTTOM + 18}" text-anchor="{anchor}">{told}</text>')
         parts.append(f'<text class="soft" x="{number((self.left + self.right) / 2)}" '
                      f'y="{BOTTOM + 35}" text-anchor="middle">seconds since the log began</text>')
         return "".join(parts)
@@ -158,20 +160,21 @@ def chart_of(over_time):
 
 # ---- tables
 
-def cells_of(row, is_marked):
-    """The cells of a row: what stands first is text, the others are numbers, which are text
-    already."""
+def cells_of(row, first, is_marked):
+    """The cells of a row, which are text already: the first is of this class, the others are
+    numbers."""
     head, *numbers = row
     bold = " marked" if is_marked else ""
-    return (f'<td class="text{bold}">{isolated(head)}</td>' +
+    return (f'<td class="{first}{bold}">{isolated(head)}</td>' +
             "".join(f'<td class="number{bold}">{cell}</td>' for cell in numbers))
 
 
-def table_of(name, title, columns, rows, is_first_marked=False):
-    """A table as HTML. Its first row may be that of all others together."""
-    head = "".join(f'<th scope="col" class="{"number" if at else "text"}">{escaped(column)}</th>'
+def table_of(name, title, columns, rows, first):
+    """A table as HTML. Where its first column is text its first row is that of all others
+    together."""
+    head = "".join(f'<th scope="col" class="{"number" if at else first}">{isolated(column)}</th>'
                    for at, column in enumerate(columns))
-    body = "".join(f"<tr>{cells_of(row, is_first_marked and at == 0)}</tr>\n"
+    body = "".join(f"<tr>{cells_of(row, first, first == 'text' and at == 0)}</tr>\n"
                    for at, row in enumerate(rows))
     return (f'<div id="table-{name}" class="scroll" tabindex="0" role="group" '
             f'aria-label="{escaped(title)}"><table><caption>{escaped(title)}</caption>'
@@ -216,7 +219,7 @@ def grown_table(over_time, what, name_of):
         title = f"Grown from {before} to {last} seconds"
     rows = [("In all", over_time.sums), *kept_rows(over_time.rows(name_of), what)]
     return table_of(f"{what}s", title, [what.capitalize(), *columns_of(over_time)],
-                    [[name, *numbers_of(over_time, numbers)] for name, numbers in rows], True)
+                    [[name, *numbers_of(over_time, numbers)] for name, numbers in rows], "text")
 
 
 def point_table(points, bands):
@@ -226,7 +229,7 @@ def point_table(points, bands):
     for at, point in enumerate(points):
         numbers = (point.line, point.bytes, point.blocks, *(band.values[at] for band in bands))
         rows.append([seconds(point.milliseconds), *(f"{value:,}" for value in numbers)])
-    return table_of("points", "At each snapshot that is drawn", columns, rows)
+    return table_of("points", "At each snapshot that is drawn", columns, rows, "number")
 
 
 # ---- the page
