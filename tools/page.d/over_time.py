@@ -17,6 +17,8 @@ KNOWN = re.compile(
     rb"line \d+: .*", re.S)
 SITE = re.compile(rb"(\d+) bytes in (\d+) blocks(?: at (.*))?", re.S)
 HEAD = re.compile(rb"Held at the end: (\d+) blocks, (\d+) bytes\.")
+# A snapshot of tools/leaks, which leaves out what is known.
+OF_LEAKS = re.compile(rb"At line \d+, \d+ ms: .*, process \d+:", re.S)
 PIECE = 1 << 20
 NONE = (0, 0)
 # How the states of tools/trace --follow are told of a log.
@@ -55,6 +57,13 @@ def sums_of(lines):
     return sums, whole
 
 
+def why_unknown(number, line):
+    """Why a line is none of a report."""
+    if OF_LEAKS.fullmatch(line):
+        return "tools/leaks wrote it; tools/trace --follow FOLDER writes one for each process"
+    return f"line {number} isn't of a report of `tlsf sites`"
+
+
 def check(found, line, is_over):
     """Whether a line can stand behind the snapshots that were found."""
     is_heading, is_head = line.startswith(b"At line "), HEAD.fullmatch(line)
@@ -82,7 +91,7 @@ class Report:
                 for line in lines:
                     number += 1
                     if not KNOWN.fullmatch(line):
-                        raise Wrong(f"line {number} isn't of a report of `tlsf sites`")
+                        raise Wrong(why_unknown(number, line))
                     yield line
         self.is_cut = bool(rest)
 
