@@ -13,7 +13,7 @@ from stacks import Stacks, stacks_of
 
 KNOWN = re.compile(
     rb"At line \d+, \d+ ms:|Held at the (?:peak, line \d+|end): \d+ blocks, \d+ bytes\.|"
-    rb"\d+ bytes in \d+ (?:blocks|calls, \d+ temporary)(?: at .*)?|Asked over the log: .*|"
+    rb"\d+ bytes in \d+ calls, \d+ temporary(?: at .*)?|Asked over the log: .*|"
     rb"line \d+: .*", re.S)
 SITE = re.compile(rb"(\d+) bytes in (\d+) blocks(?: at (.*))?", re.S)
 HEAD = re.compile(rb"Held at the end: (\d+) blocks, (\d+) bytes\.")
@@ -64,13 +64,14 @@ def why_unknown(number, line):
     return f"line {number} isn't of a report of `tlsf sites`"
 
 
-def check(found, line, is_over):
-    """Whether a line can stand behind the snapshots that were found."""
+def check(found, number, line, is_over):
+    """Whether a line, which is no site's, can stand behind the snapshots that were found."""
     is_heading, is_head = line.startswith(b"At line "), HEAD.fullmatch(line)
+    if not KNOWN.fullmatch(line):
+        raise Wrong(why_unknown(number, line))
     if is_over and (is_heading or is_head):
         raise Wrong("it goes on behind its end")
-    is_amid = found.lines is not None and not SITE.fullmatch(line)
-    if is_amid or (is_heading and found.place is not None):
+    if found.lines is not None or (is_heading and found.place is not None):
         raise Wrong("a snapshot isn't whole, and others stand behind it")
 
 
@@ -82,25 +83,23 @@ class Report:
         self.is_cut, self.diagnostics = False, 0
 
     def lines(self):
-        """Its whole lines. Each is of a report, or there is no page."""
-        left, rest, number = self.length, b"", 0
+        """Its whole lines."""
+        left, rest = self.length, b""
         with open(self.path, "rb") as file:
             while left > 0 and (piece := file.read(min(left, PIECE))):
                 left -= len(piece)
                 *lines, rest = (rest + piece).split(b"\n")
-                for line in lines:
-                    number += 1
-                    if not KNOWN.fullmatch(line):
-                        raise Wrong(why_unknown(number, line))
-                    yield line
+                yield from lines
         self.is_cut = bool(rest)
 
     def snapshots(self):
         """Each snapshot that is whole: its place, bytes and blocks by location, and both in all. At
-        last what is held at the end, which has no place."""
+        last what is held at the end, which has no place. Each line is of a report, or there is no
+        page."""
         found, place, is_over = Snapshots(), (0, 0), False
-        for line in self.lines():
-            check(found, line, is_over)
+        for number, line in enumerate(self.lines(), 1):
+            if not SITE.fullmatch(line):
+                check(found, number, line, is_over)
             for snapshot in found.take_line(line):
                 now, is_over = (snapshot.line, snapshot.milliseconds), snapshot.is_last
                 if not is_over and (now[0] < place[0] or now[1] < place[1]):
