@@ -16,12 +16,12 @@ def number(value):
     return f"{value:.1f}".removesuffix(".0")
 
 
-def ticks(most):
-    """Even numbers from 0 to the last that isn't above the most."""
+def ticks(most, count=6):
+    """Even numbers from 0 to the last that isn't above the most, at most so many behind 0."""
     step = 1
-    while most / step > 6:
+    while most / step > count:
         for factor in (2, 5, 10):
-            if most / (step * factor) <= 6:
+            if most / (step * factor) <= count:
                 break
         step *= factor
     return list(range(0, most + 1, step))

@@ -36,6 +36,7 @@ class Process:
 
     def __init__(self, folder, number, log, program, tlsf, calls=False):
         self.number, self.log, self.program = number, log, program
+        self.list = f"{log}.reachable"
         if ends.has_zeros(log):
             # It is still written: its whole lines are told.
             self.log = os.path.join(folder, f"{number}.lines")
@@ -62,7 +63,7 @@ class Process:
     def tell_apart(self):
         """Takes what is lost and what is reachable in place of what is held, where its process told it: whether it did."""
         try:
-            told = Path(f"{self.log}.reachable").read_bytes()
+            told = Path(self.list).read_bytes()
         except FileNotFoundError:
             return False
         self.is_apart = True

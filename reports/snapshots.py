@@ -71,6 +71,7 @@ class Followed(Process):
     def __init__(self, number, report, program):
         self.number, self.program, self.path = number, program, report
         self.log, self.at = report.removesuffix("report") + "told", 0
+        self.list = report.removesuffix("report") + "reachable"
         self.snapshots, self.before, self.last = Snapshots(), None, None
         self.end, self.is_traced, self.is_apart, self.asked_for = RUNNING, True, False, b""
         self.requests, self.doubts, self.names, self.entries = [], [], None, []
@@ -102,15 +103,13 @@ class Followed(Process):
         yield from grew(self.before, sums) if self.before is not None else ()
         self.before = sums
 
-    def close(self, state, has_calls, asked, suppressions):
-        """Takes how it ended, and names what it holds then."""
+    def close(self, state, has_calls):
+        """Takes how it ended, and what it holds then."""
         last = self.last.lines if self.last else [AT_THE_END + b"0 blocks, 0 bytes."]
         self.end, self.is_traced = STATES[state] if self.last else CUT, has_calls
         self.title = f"{self.program}, process {self.number}{IN_TITLE[self.end]}"
         self.lines, self.held = last, HEAD.fullmatch(text_of(last[0]))
         self.diagnostics = [b"line"] * self.snapshots.diagnostics
-        if not self.is_cut:
-            self.name(asked, suppressions)
 
 
 def punch(file, at, length):
@@ -165,10 +164,14 @@ class Session:
                 else:
                     yield list(process.told(snapshot, self.asked, self.suppressions))
 
-    def close(self):
-        """All processes, once they have ended."""
+    def close(self, run):
+        """All processes, once they have ended, with names of what they hold. What is lost of it is
+        told apart by the run."""
         states = following.states_in(self.folder)
         for ring, process in self.processes.items():
             how, has_calls = states.get(os.path.basename(ring), (following.LOST, True))
-            process.close(how, has_calls, self.asked, self.suppressions)
+            process.close(how, has_calls)
+            if not process.is_cut:
+                run.tell_apart(process)
+                process.name(self.asked, self.suppressions)
         return list(self.processes.values())

@@ -1,5 +1,6 @@
 /* held.c: the blocks that are held where a process ends, by its log: a table by address while the log
- * is read, and then a list in order of address. Memory is the system's, and none is asked for by
+ * is read, and then a list in order of address. A log in memory can't be read again: its lines are
+ * taken into the table as they are written. Memory is the system's, and none is asked for by
  * malloc, since a handler may end the process amid such a call.
  */
 #define _GNU_SOURCE
@@ -54,6 +55,10 @@ void give_pages(void *memory)
         }
     }
 }
+
+/* What is held by the lines that were taken, and whether these are all. */
+static struct held taking;
+static bool takes, takes_all;
 
 /* ---- the table */
 
@@ -224,13 +229,14 @@ static void sort(struct block *blocks, size_t count)
     }
 }
 
-/* Moves the blocks of the table to its front, and puts them in order. */
-static void make_list(struct held *held)
+/* Moves the blocks of a table to the front of a list, which may be its own, and puts them in order
+ * there. */
+static void make_list(struct held *held, const struct block *table)
 {
     size_t count = 0;
     for (size_t k = 0; k < held->places; k++) {
-        if (held->blocks[k].start != 0) {
-            held->blocks[count++] = held->blocks[k];
+        if (table[k].start != 0) {
+            held->blocks[count++] = table[k];
         }
     }
     sort(held->blocks, count);
@@ -253,9 +259,43 @@ bool held_read(struct held *held, const char *log)
     bool read = read_lines(held, text, length);
     munmap(text, length);
     if (read) {
-        make_list(held);
+        make_list(held, held->blocks);
     }
     return read;
+}
+
+/* ---- lines that are taken */
+
+/* In a child of a fork that isn't before its first call: a handler's fork may have come amid a change
+ * of the table, to which the child returns. */
+void held_begin(bool is_on)
+{
+    if (taking.blocks != NULL) {
+        give_pages(taking.blocks);
+    }
+    memset(&taking, 0, sizeof taking);
+    takes = takes_all = is_on;
+}
+
+void held_take(const char *lines, size_t length, bool may_call)
+{
+    if (takes && takes_all) {
+        /* A table that is to grow asks the system for memory. */
+        bool has_room = may_call || 2 * (taking.count + 2) < taking.places;
+        takes_all = has_room && read_lines(&taking, lines, length);
+    }
+}
+
+bool held_copy(struct held *held)
+{
+    size_t bytes = (taking.count + 1) * sizeof *taking.blocks;
+    *held = taking;
+    held->blocks = takes && takes_all ? take_pages(bytes) : NULL;
+    if (held->blocks == NULL) {
+        return false;
+    }
+    make_list(held, taking.blocks);
+    return true;
 }
 
 struct block *held_find(const struct held *held, uintptr_t address)

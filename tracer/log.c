@@ -321,7 +321,9 @@ static const char no_follower[] = "has no follower any more, so the log is cut";
 
 static void append_to_ring(const char *lines, size_t length)
 {
-    if (!ring_write(lines, length, sealed == 0) && !is_detached) {
+    if (ring_write(lines, length, sealed == 0)) {
+        held_take(lines, length, sealed == 0);
+    } else if (!is_detached) {
         fail(no_follower);
     }
 }

@@ -84,26 +84,29 @@ void find_real(void)
 /* Ends the log where it is this process's: a child of vfork shares the memory of its parent. A
  * signal's handler that came while its thread was in the tracer may not wait for the lock. Registers
  * are put onto the stack, where reach_tell looks for pointers. */
-__attribute__((noinline)) static bool end_by(void (*end_log)(void))
+__attribute__((noinline)) static bool end_by(bool is_closed)
 {
     if (inside || !log_is_on() || getpid() != log_process()) {
         return false;
     }
     inside = true;
     log_lock();
-    end_log();
+    log_end();
     if (tells_reachable && log_may_open()) {
         __builtin_unwind_init();
         reach_tell(is_last_handler);
     } else if (tells_reachable) {
         say(log_path(), "has no list of what is reachable: a filter of system calls may forbid to read it");
     }
+    if (is_closed) {
+        log_close();
+    }
     log_unlock();
     inside = false;
     return true;
 }
 
-static bool end(void) { return end_by(log_end); }
+static bool end(void) { return end_by(false); }
 
 /* Whether this thread is the only one, by the links of the folder that has one for each. */
 static bool is_alone(void)
@@ -237,7 +240,10 @@ static bool begin(void)
     }
     if (!is_off) {
         log_lock();
-        is_off = !log_is_on() && !log_begin(name);
+        if (!log_is_on()) {
+            held_begin(tells_reachable);
+            is_off = !log_begin(name);
+        }
         log_unlock();
     }
     errno = code;
@@ -301,6 +307,7 @@ static bool begin_late(void)
     stack_forget();
     slots_turn(true);
     log_lock();
+    held_begin(tells_reachable);
     bool made = since_begin() && log_begin(name);
     log_unlock();
     if (!made) {
@@ -344,7 +351,7 @@ EXPORT const char *tlsf_trace_end(void)
         return "it isn't traced since it runs";
     }
     /* A log that can't go on has ended by itself. */
-    end_by(log_close);
+    end_by(true);
     is_ordered = false;
     slots_turn(false);
     return log_path();

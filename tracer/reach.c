@@ -449,7 +449,8 @@ static void look_at_mapping(struct search *search, const struct mapping *mapping
 {
     bool is_device = strncmp(mapping->path, "/dev/", 5) == 0 && strncmp(mapping->path, "/dev/shm/", 9) != 0 &&
         strncmp(mapping->path, "/dev/zero", 9) != 0;
-    if (!mapping->is_written || is_device || is_heap(mapping)) {
+    bool is_ring = strncmp(mapping->path, "/dev/shm/tlsf-trace-", 20) == 0;
+    if (!mapping->is_written || is_device || is_ring || is_heap(mapping)) {
         return;
     }
     if (is_old_stack(search, mapping, before)) {
@@ -707,7 +708,8 @@ void reach_tell(bool is_last_handler)
     if (search != NULL) {
         search->stacks[search->threads++] = is_last_handler ? stack_from(search, here) : here;
     }
-    bool told = search != NULL && held_read(&search->held, log_path()) && look(search) && tell(search);
+    bool is_read = search != NULL && (ring_is_on() ? held_copy(&search->held) : held_read(&search->held, log_path()));
+    bool told = is_read && look(search) && tell(search);
     if (!told) {
         say(log_path(), "has no list of what is reachable: memory, /proc or the log can't be read, or the list not be written");
     }

@@ -244,6 +244,12 @@ struct held {
 /* Reads what is held at the end of a log of this tracer. Returns whether it could. */
 bool held_read(struct held *held, const char *log);
 
+/* A log begins, whose lines are taken from now on, or aren't; takes whole lines; and copies what is held by these. Returns whether all
+ * could be taken: not so where there was no memory, or a system call was needed that may not be made. */
+void held_begin(bool is_on);
+void held_take(const char *lines, size_t length, bool may_call);
+bool held_copy(struct held *held);
+
 /* The block that has an address, or null. */
 struct block *held_find(const struct held *held, uintptr_t address);
 

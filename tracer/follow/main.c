@@ -3,7 +3,8 @@
  *     tlsf-follow [-k] [-m BYTES] [-g] [-e MS] [-r BYTES] RINGS FOLDER TLSF WORD..
  *
  * In the folder RINGS each traced process makes a ring (ring.h). Of each FOLDER gets NAME.report, what `TLSF WORD..` tells of its lines, and
- * NAME.told, the lines of modules and stacks; with -k NAME.log, all lines, or with -m as many bytes of them at most. With -e a report is due each MS milliseconds, as TLSF knows by its
+ * NAME.told, the lines of modules and stacks; with -k NAME.log, all lines, or with -m as many bytes of them at most. A process that tells what is
+ * reachable, into a file beside its ring, has NAME.reachable. With -e a report is due each MS milliseconds, as TLSF knows by its
  * own words, and at SIGUSR1. With -g a process goes on untraced where TLSF hangs. FOLDER/states gets how each ended.
  *
  * `ready` on standard output tells that processes may begin. At SIGTERM it ends once no process is left, at SIGINT it lets all go at

@@ -5,12 +5,15 @@
 #include "follow.h"
 
 #include <errno.h>
+#include <fcntl.h>
+#include <limits.h>
 #include <linux/futex.h>
 #include <signal.h>
 #include <stdio.h>
 #include <stdlib.h>
 #include <string.h>
 #include <sys/mman.h>
+#include <sys/sendfile.h>
 #include <sys/stat.h>
 #include <sys/syscall.h>
 #include <time.h>
@@ -267,6 +270,35 @@ static void tell(const struct feed *feed)
     }
 }
 
+/* Copies the rest of a file into another, which is made. Returns whether it could. */
+static bool copy(int from, const char *name)
+{
+    int to = open(name, O_WRONLY | O_CREAT | O_TRUNC | O_CLOEXEC, 0666);
+    ssize_t gave = to < 0 ? -1 : 1;
+    while (gave > 0) {
+        gave = sendfile(to, from, NULL, GIVE_MOST);
+    }
+    return to >= 0 && close(to) == 0 && gave == 0;
+}
+
+/* The process tells at its end beside its ring what is reachable. That gets to the folder of reports. */
+static void bring_list(const char *name)
+{
+    char list[PATH_MAX];
+    snprintf(list, sizeof list, "%s/%s.reachable", asked.rings, name);
+    int from = open(list, O_RDONLY | O_CLOEXEC | O_NOFOLLOW);
+    if (from < 0) {
+        return;
+    }
+    const char *to = file_of(name, "reachable");
+    if (!copy(from, to)) {
+        say(to, "can't be written, so there is none");
+        unlink(to);
+    }
+    close(from);
+    unlink(list);
+}
+
 static void unblock(int number)
 {
     sigset_t set;
@@ -291,6 +323,7 @@ int follow_ring(int file, const char *name)
         __atomic_store_n(&feed.ring->is_dropped, 1, __ATOMIC_RELEASE);
         wake(&feed.ring->room);
     }
+    bring_list(name);
     give_end(&feed);
     feed.took_all = consumer_end(&feed.consumer, feed.took_all) && feed.took_all;
     feed.took_all = close_file(feed.told, file_of(name, "told")) && feed.took_all;
