@@ -12,7 +12,7 @@ use Rattle.tlsf_heap.specs.Pointer.{realloc_ptr}
 use Rattle.tlsf_heap.specs.Pools.{created, with_pool}
 use Rattle.tlsf_heap.specs.Sizing.{class_size, sure_pool}
 use Rattle.tlsf_c.specs.declared.placed_pool.PlacedPool.{PlacedPool}
-use Rattle.tlsf_c.specs.PlacedHeaps.{IsLiveAt, malloc_with_front, told_block}
+use Rattle.tlsf_c.specs.PlacedHeaps.{IsLiveAt, IsGivenAt, malloc_with_front, memalign_with_front, told_block}
 use Rattle.tlsf_c.specs.PlacedRuns.{Call, ask, ask_aligned, ask_again, give_back, Told, CallStep, CallRun, CallsStayWithin}
 
 -- one block of 100 bytes is 112 with its front, and a pool of 336 bytes is enough: as tlsf_sure_bytes reckons it
@@ -63,6 +63,18 @@ live_row = record {
   live = refl;
 }
 
+-- a call that gives this block gives this address
+given_row : (call : ℕ → Content ℕ → Result (ℕ × Content ℕ) Refusal) → call 3 empty ≡ Ok (0, one_block) → IsGivenAt call 100 4112 pools empty one_block
+unfolding class need low rounded
+given_row call gives = record {
+  pointer = record { place = 0; slot = 3 };
+  pool = record { first = 4112; reach = 328; place = 0; number = 0; owner = 0 };
+  served = record { ok = gives; slot_below = lit< tt; slot_new = refl };
+  of_pools = (0, lit< tt, refl);
+  at = record { has = (lit≤ tt, lit< tt); address_is = refl };
+  ends = lit≤ tt;
+}
+
 run_row : CallRun pools calls tolds empty one_block
 unfolding class need low rounded
 run_row = (
@@ -70,14 +82,7 @@ run_row = (
   counted_of 5 one_block,
   refl,
   (
-    (λ some. record {
-      pointer = record { place = 0; slot = 3 };
-      pool = record { first = 4112; reach = 328; place = 0; number = 0; owner = 0 };
-      served = record { ok = refl; slot_below = lit< tt; slot_new = refl };
-      of_pools = (0, lit< tt, refl);
-      at = record { has = (lit≤ tt, lit< tt); address_is = refl };
-      ends = lit≤ tt;
-    }),
+    (λ some. given_row (λ slot. malloc_with_front slot 100) refl),
     (λ none. absurd (omega (arith, none))),
     (λ some. live_row),
   ),
@@ -137,14 +142,7 @@ resize_row = (
 aligned_row : CallStep pools (ask_aligned 16 100) (told 4112 3366696039589512271) (counted_of 0 empty) (counted_of 5 one_block)
 unfolding class need low rounded
 aligned_row = (
-  (λ some. record {
-    pointer = record { place = 0; slot = 3 };
-    pool = record { first = 4112; reach = 328; place = 0; number = 0; owner = 0 };
-    served = record { ok = refl; slot_below = lit< tt; slot_new = refl };
-    of_pools = (0, lit< tt, refl);
-    at = record { has = (lit≤ tt, lit< tt); address_is = refl };
-    ends = lit≤ tt;
-  }),
+  (λ some. given_row (λ slot. memalign_with_front 16 slot 100) refl),
   (λ none alike. absurd (omega (arith, none))),
   (λ none. absurd (omega (arith, none))),
   (λ some. live_row),
