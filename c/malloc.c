@@ -1,23 +1,24 @@
 /* malloc.c: a malloc over the calls of tlsf.c. Preloaded, as libtlsf_malloc.so, it stands in for
  * that of the C library: LD_PRELOAD=.../libtlsf_malloc.so program. Not proved; the heaps are.
  *
- * It has as many heaps as the program needs, each with a pool of 536,870,912 bytes and 65,535 records, by
- * malloc/heaps.c. A request above half of a pool gets pages of the system. A thread asks the heap that
- * served it last. Where that refuses, the others are asked, but for those that refused so many bytes
- * since a block was given back. Then there is one heap more.
+ * It has as many heaps as the program needs, each with a pool of 536,870,912 bytes and 65,535
+ * records, by malloc/heaps.c. A request above half of a pool gets pages of the system. A thread
+ * asks the heap that served it last. Where that refuses, the others are asked, but for those that
+ * refused so many bytes since a block was given back. Then there is one heap more.
  *
- * Where the environment has TLSF_POOL or TLSF_RECORDS there is one heap: TLSF_POOL is the bytes of its
- * pool, at most 1,073,741,808, and TLSF_RECORDS its records, from 1 to 65,535. With TLSF_PARTS it serves
- * from parts of tlsf_parts.h first: TLSF_PARTS=64:2130,2048:41 is 2,130 blocks of at most 64 bytes, and
- * 41 of at most 2,048. What its part has no block for, the heaps serve: it is spilled. With TLSF_REPORT=1
- * each process writes a line on standard error at its end, behind one for each part; and at once one
- * of the first request that is refused.
+ * Where the environment has TLSF_POOL or TLSF_RECORDS there is one heap: TLSF_POOL is the bytes of
+ * its pool, at most 1,073,741,808, and TLSF_RECORDS its records, from 1 to 65,535. With TLSF_PARTS
+ * it serves from parts of tlsf_parts.h first: TLSF_PARTS=64:2130,2048:41 is 2,130 blocks of at most
+ * 64 bytes, and 41 of at most 2,048. What its part has no block for, the heaps serve: it is
+ * spilled. With TLSF_REPORT=1 each process writes a line on standard error at its end, behind one
+ * for each part; and at once one of the first request that is refused.
  *
  * A call is one of a proved heap, under that heap's lock. Locks are held over a fork. The proof is
- * about a heap that one thread calls; here each thread calls it, under the lock. A call that no heap
- * serves gives a null pointer, and ENOMEM. A lock leans to the thread that has it most (malloc/lock.h):
- * for that thread it is a store, and no atomic operation. Freed blocks that a thread keeps in front
- * of its heap, as glibc's do, would save more. There are none: a call they serve is none of a proved heap.
+ * about a heap that one thread calls; here each thread calls it, under the lock. A call that no
+ * heap serves gives a null pointer, and ENOMEM. A lock leans to the thread that has it most
+ * (malloc/lock.h): for that thread it is a store, and no atomic operation. Freed blocks that a
+ * thread keeps in front of its heap, as glibc's do, would save more. There are none: a call they
+ * serve is none of a proved heap.
  */
 #include "malloc/blocks.h"
 #include "malloc/report.h"
@@ -71,7 +72,8 @@ static inline void begin(void)
     }
 }
 
-/* The first request that is refused is told where a report is asked for: the program may end by it. */
+/* The first request that is refused is told where a report is asked for: the program may end by
+ * it. */
 static void tell_refusal(size_t bytes)
 {
     static bool told;

@@ -1,13 +1,13 @@
-/* tlsf.c: the calls of Conte's tlsf over the proved heap of tlsf_heap.h. Those that look at a whole heap
- * are in tlsf_check.c, and images in tlsf_image.c. These three files aren't proved.
+/* tlsf.c: the calls of Conte's tlsf over the proved heap of tlsf_heap.h. Those that look at a whole
+ * heap are in tlsf_check.c, and images in tlsf_image.c. These three files aren't proved.
  *
  * What is reckoned here is proved, in the calls of tlsf_front.h: they choose blocks, answer their
  * addresses, find the block that a pointer means, find places for a pool, and keep the figures of
  * what is live. This file moves fronts and bytes:
  *
- * - The control part, at the start of the memory handed in, keeps each pool's address and places. It
- *   ends with its mark, a sum over it. So tlsf_check tells a byte that is changed there, and reads
- *   the table only where none is.
+ * - The control part, at the start of the memory handed in, keeps each pool's address and places.
+ *   It ends with its mark, a sum over it. So tlsf_check tells a byte that is changed there, and
+ *   reads the table only where none is.
  * - A block begins eight bytes in front of its pointer. Its place is as far behind the pool's first
  *   place as the pointer behind the first pointer, and equals the pointer modulo TLSF_MOST_ALIGN.
  * - A pointer is taken where it lies in a pool of the heap, its front is whole, and the heap has a
@@ -24,7 +24,8 @@
 #include "tlsf_front.h"
 #include "tlsf_heap.h"
 
-/* What a build may choose: the records of tlsf_create, and the greatest alignment, a power of two. */
+/* What a build may choose: the records of tlsf_create, and the greatest alignment, a power of
+ * two. */
 #ifndef TLSF_RECORDS
 #define TLSF_RECORDS 1024u
 #endif
@@ -33,8 +34,8 @@
 #endif
 
 #define LEAST_POOL (FRONT + UNIT)
-/* tlsf_create_with_pool has a record for each, if a build tells nothing else. Where pointers are short,
- * blocks are, too. */
+/* tlsf_create_with_pool has a record for each, if a build tells nothing else. Where pointers are
+ * short, blocks are, too. */
 #ifndef TLSF_BYTES_A_RECORD
 #define TLSF_BYTES_A_RECORD (sizeof(void *) == 4u ? 80u : 112u)
 #endif
@@ -44,13 +45,9 @@ size_t tlsf_size_records(uint32_t records)
 {
     return sizeof(struct control) + HANDED_IN + TLSF_HEAP_TABLE_BYTES(records);
 }
-/* A front takes a block to the next unit at most, and what is skipped and the first one the pool. */
 size_t tlsf_sure_bytes(uint32_t blocks, size_t bytes, size_t largest)
 {
-    bool few = largest > 0u && largest < TLSF_HEAP_GREATEST && bytes < TLSF_HEAP_GREATEST;
-    uint32_t class_size = few ? tlsf_heap_class_size(1, (uint64_t)largest + FRONT) : 0u;
-    uint32_t pool = tlsf_heap_sure_pool(blocks, bytes + (uint64_t)blocks * UNIT, class_size);
-    return pool == 0u ? 0u : tlsf_size_records(2u * blocks + 3u) + UNIT + pool;
+    return (size_t)tlsf_placed_sure_bytes(sizeof(struct control), blocks, bytes, largest);
 }
 size_t tlsf_size(void) { return MOST_SKIPPED + tlsf_size_records(TLSF_RECORDS); }
 size_t tlsf_align_size(void) { return UNIT; }
@@ -59,8 +56,8 @@ size_t tlsf_block_size_max(void) { return TLSF_HEAP_GREATEST - FRONT; }
 size_t tlsf_pool_overhead(void) { return MOST_SKIPPED + HANDED_IN + FRONT + UNIT; }
 size_t tlsf_alloc_overhead(void) { return FRONT; }
 
-/* Each word of the control part counts in its mark by an odd number of its own. So a word that changes
- * shows. */
+/* Each word of the control part counts in its mark by an odd number of its own. So a word that
+ * changes shows. */
 #define WORD sizeof(size_t)
 #define ODD 0x9e3779b97f4a7c15u
 static inline uint64_t times(size_t at)
@@ -121,15 +118,18 @@ tlsf_t tlsf_create_records(void *mem, size_t bytes, uint32_t records)
     uintptr_t address = (uintptr_t)mem + skipped(mem);
     struct control *control = (struct control *)address;
     struct places places;
-    if (!tlsf_placed_places(address, bytes - skipped(mem), sizeof *control, records, UINTPTR_MAX, &places)) {
+    if (!tlsf_placed_places(address, bytes - skipped(mem), sizeof *control, records, UINTPTR_MAX,
+                            &places)) {
         return NULL;
     }
     *control = (struct control){.at.owner = address + MAGIC, .records = records};
-    if (tlsf_heap_create_in((void *)(uintptr_t)places.table, TLSF_HEAP_TABLE_BYTES(records), records,
-                            &control->at.heap) == TLSF_OK) {
+    if (tlsf_heap_create_in((void *)(uintptr_t)places.table, TLSF_HEAP_TABLE_BYTES(records),
+                            records, &control->at.heap)
+        == TLSF_OK) {
         void *rest = (void *)(uintptr_t)places.pool;
         control->mark = mark_of(control);
-        if (places.bytes < LEAST_POOL || tlsf_add_pool(control, rest, (size_t)places.bytes) != NULL) {
+        if (places.bytes < LEAST_POOL
+            || tlsf_add_pool(control, rest, (size_t)places.bytes) != NULL) {
             return control;
         }
     }
@@ -198,7 +198,8 @@ RARE static void *refuse_front(struct control *control, const void *ptr, size_t 
 }
 
 /* A request, by the status of the proved call. One for 0 bytes is none. */
-RARE static void *refuse_bytes(struct control *control, const void *ptr, uint64_t status, size_t bytes)
+RARE static void *refuse_bytes(struct control *control, const void *ptr, uint64_t status,
+                               size_t bytes)
 {
     static const enum tlsf_refusal kinds[16] = {[TLSF_NO_FIT] = TLSF_REFUSED_NO_FIT,
                                                 [TLSF_TABLE_FULL] = TLSF_REFUSED_TABLE_FULL,
@@ -219,7 +220,8 @@ static inline void *hand_out(struct control *control, struct placed_block block,
 void *tlsf_malloc(tlsf_t tlsf, size_t bytes)
 {
     ON_HEAP(tlsf);
-    return control == NULL ? NULL : hand_out(control, tlsf_placed_malloc(&control->at, bytes), bytes);
+    return control == NULL ? NULL
+                           : hand_out(control, tlsf_placed_malloc(&control->at, bytes), bytes);
 }
 
 void *tlsf_memalign(tlsf_t tlsf, size_t align, size_t bytes)
@@ -270,37 +272,40 @@ void tlsf_free(tlsf_t tlsf, void *ptr)
     }
 }
 
-/* The heap gives the new block before the old one is free: so they don't overlap. No one gets the
- * old one's bytes before the next call. */
-static void *resize(struct control *control, void *ptr, size_t size)
+/* Why a block isn't resized. One that is to have no bytes is freed, and that is none. */
+RARE static void *refuse_realloc(struct control *control, void *ptr, uint64_t status, size_t size)
 {
-    uint64_t word = 0;
-    uint64_t copied = 0;
-    if (!read_front(control, ptr, &word)) {
-        return refuse_pointer(control, ptr, size);
-    }
-    uint64_t address
-        = tlsf_placed_realloc(&control->at, (uintptr_t)ptr, size, &word, &copied);
-    if (address == 0u) {
-        return (enum tlsf_status)word == TLSF_BAD_POINTER ? refuse_front(control, ptr, size)
-                                                         : refuse_bytes(control, ptr, word, size);
-    }
-    write_front((uintptr_t)ptr, (uintptr_t)ptr);
-    void *now = hand_out(control, (struct placed_block){address, word}, size);
-    return copied == 0u ? now : memcpy(now, ptr, (size_t)copied);
-}
-
-void *tlsf_realloc(tlsf_t tlsf, void *ptr, size_t size)
-{
-    if (ptr == NULL) {
-        return tlsf_malloc(tlsf, size);
-    }
-    if (size == 0u) {
-        tlsf_free(tlsf, ptr);
+    if (ptr != NULL && size == 0u && (enum tlsf_status)status == TLSF_OK) {
+        write_front((uintptr_t)ptr, (uintptr_t)ptr);
         return NULL;
     }
+    return (enum tlsf_status)status == TLSF_BAD_POINTER ? refuse_front(control, ptr, size)
+                                                        : refuse_bytes(control, ptr, status, size);
+}
+
+/* The heap gives the new block before the old one is free: so they don't overlap. No one gets the
+ * old one's bytes before the next call. */
+void *tlsf_realloc(tlsf_t tlsf, void *ptr, size_t size)
+{
     ON_HEAP(tlsf);
-    return control == NULL ? NULL : resize(control, ptr, size);
+    uint64_t word = 0;
+    uint64_t copied = 0;
+    if (control == NULL) {
+        return NULL;
+    }
+    if (ptr != NULL && !read_front(control, ptr, &word)) {
+        return refuse_pointer(control, ptr, size);
+    }
+    uint64_t address = tlsf_placed_realloc(&control->at, (uintptr_t)ptr, size, &word, &copied);
+    if (address == 0u) {
+        return refuse_realloc(control, ptr, word, size);
+    }
+    if (ptr != NULL) {
+        write_front((uintptr_t)ptr, (uintptr_t)ptr);
+    }
+    write_front((uintptr_t)address, word);
+    void *now = (void *)(uintptr_t)address;
+    return copied == 0u ? now : memcpy(now, ptr, (size_t)copied);
 }
 
 void tlsf_set_refusal_hook(tlsf_t tlsf, tlsf_refusal_hook hook, void *user)

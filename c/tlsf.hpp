@@ -21,9 +21,7 @@ class tlsf_resource : public std::pmr::memory_resource {
 public:
     /// A resource over a heap that the program made. The program ends the heap, after the last
     /// container is gone.
-    explicit tlsf_resource(tlsf_t heap) noexcept : heap_(heap), made_(false)
-    {
-    }
+    explicit tlsf_resource(tlsf_t heap) noexcept : heap_(heap), made_(false) {}
 
     /// A resource over a heap of its own, which tlsf_create_with_pool makes in `bytes` bytes of
     /// memory. The heap ends with the resource. Throws std::bad_alloc where the memory is too
@@ -47,10 +45,7 @@ public:
     }
 
     /// The heap: for tlsf_add_pool, tlsf_walk_pool and tlsf_check.
-    tlsf_t heap() const noexcept
-    {
-        return heap_;
-    }
+    tlsf_t heap() const noexcept { return heap_; }
 
 protected:
     /// Answers a block at a multiple of `align`, which is a power of two up to 2^21. For 0 bytes it

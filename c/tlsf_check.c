@@ -1,5 +1,5 @@
-/* tlsf_check.c: the calls of tlsf.h that look at a whole heap: figures, walk and check. This file isn't
- * proved. What it reckons of blocks is, in the calls of tlsf_front.h. */
+/* tlsf_check.c: the calls of tlsf.h that look at a whole heap: figures, walk and check. This file
+ * isn't proved. What it reckons of blocks is, in the calls of tlsf_front.h. */
 #include "tlsf.h"
 
 #include <string.h>
@@ -79,7 +79,8 @@ void tlsf_walk_pool(pool_t pool, tlsf_walker walker, void *user)
     }
 }
 
-int lost_fronts(struct control *control, uint32_t entry, uint64_t began, bool moves, tlsf_fault *out)
+int lost_fronts(struct control *control, uint32_t entry, uint64_t began, bool moves,
+                tlsf_fault *out)
 {
     struct row rows[TLSF_WALK_ROWS];
     uint64_t from = 0;
@@ -105,19 +106,21 @@ int lost_fronts(struct control *control, uint32_t entry, uint64_t began, bool mo
     return lost;
 }
 
-/* How many live blocks of an entry's pool have lost their front; 1 where the table has no such pool. */
+/* How many live blocks of an entry's pool have lost their front; 1 where the table has no such
+ * pool. */
 static int lost_in(struct control *control, uint32_t entry, tlsf_fault *out)
 {
     const struct pool *pool = &control->at.pools[entry];
-    if (pool->reach != 0u && !tlsf_placed_has_pool(&control->at, pool->place, pool->reach + FRONT)) {
+    if (pool->reach != 0u
+        && !tlsf_placed_has_pool(&control->at, pool->place, pool->reach + FRONT)) {
         tell(out, TLSF_FAULT_POOL, entry);
         return 1;
     }
     return lost_fronts(control, entry, pool->first, false, out);
 }
 
-/* Of one pool, or of all. The table is read where the control part is whole, and the fronts where the
- * table is, and agrees with the control part. */
+/* Of one pool, or of all. The table is read where the control part is whole, and the fronts where
+ * the table is, and agrees with the control part. */
 static int check(struct control *control, uint32_t entry, tlsf_fault *out)
 {
     int lost = 0;

@@ -1,5 +1,6 @@
-/* tlsf_fault.h: what tlsf_check_at tells, and which record of a table is the first that is wrong. It is a part of
- * tlsf_check.c, and for no program. Not proved: that a table is wrong the proved check says. */
+/* tlsf_fault.h: what tlsf_check_at tells, and which record of a table is the first that is wrong.
+ * It is a part of tlsf_check.c, and for no program. Not proved: that a table is wrong the proved
+ * check says. */
 #ifndef TLSF_FAULT_H
 #define TLSF_FAULT_H
 
@@ -25,8 +26,8 @@ static void tell(tlsf_fault *out, enum tlsf_fault_kind what, uint32_t entry)
 }
 
 /* The same of a block, with the bytes behind its front. */
-RARE static void tell_block(tlsf_fault *out, enum tlsf_fault_kind what, const struct control *control, uint32_t entry,
-                            const struct row *row)
+RARE static void tell_block(tlsf_fault *out, enum tlsf_fault_kind what,
+                            const struct control *control, uint32_t entry, const struct row *row)
 {
     tell(out, what, entry);
     if (out != NULL) {
@@ -36,8 +37,8 @@ RARE static void tell_block(tlsf_fault *out, enum tlsf_fault_kind what, const st
     }
 }
 
-/* Whether the table leads to its records: it begins with their address and their number, and they lie
- * 16 bytes in front of it. No call changes that, and the proved check follows it. */
+/* Whether the table leads to its records: it begins with their address and their number, and they
+ * lie 16 bytes in front of it. No call changes that, and the proved check follows it. */
 static bool leads_to_records(const struct control *control)
 {
     const unsigned char *table = (const unsigned char *)control->at.heap.at;
@@ -45,7 +46,8 @@ static bool leads_to_records(const struct control *control)
     uint64_t count = 0;
     (void)__builtin_memcpy(&records, table, sizeof records);
     (void)__builtin_memcpy(&count, &table[8], sizeof count);
-    return count == control->records && records == (uintptr_t)table - UNIT - UNIT * control->records;
+    return count == control->records
+           && records == (uintptr_t)table - UNIT - UNIT * control->records;
 }
 
 /* What is wrong with a heap's start, and with where its table leads. */
@@ -60,7 +62,8 @@ static enum tlsf_fault_kind start_fault(const struct control *control)
     return leads_to_records(control) ? TLSF_FAULT_NONE : TLSF_FAULT_TABLE;
 }
 
-/* A record as the table keeps it: docs/FORMATS.md has its fields. The size has the state in its low bits. */
+/* A record as the table keeps it: docs/FORMATS.md has its fields. The size has the state in its low
+ * bits. */
 struct record {
     uint32_t place;
     uint32_t size;
@@ -80,7 +83,8 @@ static struct record record_at(const struct control *control, uint32_t slot)
     struct record record = {.before = NO_SLOT};
     if (slot < control->records) {
         size_t behind = UNIT * (control->records - slot) + UNIT;
-        (void)__builtin_memcpy(&record, (const unsigned char *)control->at.heap.at - behind, sizeof record);
+        (void)__builtin_memcpy(&record, (const unsigned char *)control->at.heap.at - behind,
+                               sizeof record);
     }
     return record;
 }
@@ -97,8 +101,10 @@ static bool is_listed(const struct control *control, uint32_t slot, struct recor
 {
     struct record before = record_at(control, record.before_in_list);
     struct record behind = record_at(control, record.behind_in_list);
-    return (record.before_in_list == NO_SLOT || (before.size % UNIT == FREE && before.behind_in_list == slot))
-           && (record.behind_in_list == NO_SLOT || (behind.size % UNIT == FREE && behind.before_in_list == slot));
+    return (record.before_in_list == NO_SLOT
+            || (before.size % UNIT == FREE && before.behind_in_list == slot))
+           && (record.behind_in_list == NO_SLOT
+               || (behind.size % UNIT == FREE && behind.before_in_list == slot));
 }
 
 /* A slot, and the place where its block begins. */
@@ -107,8 +113,8 @@ struct found {
     uint64_t place;
 };
 
-/* What is wrong with the record that was found, in a pool that ends at a place. Where it is the record behind
- * that is wrong, *at gets that. */
+/* What is wrong with the record that was found, in a pool that ends at a place. Where it is the
+ * record behind that is wrong, *at gets that. */
 static enum tlsf_fault_kind fault_at(const struct control *control, struct found *at, uint64_t last)
 {
     struct record record = record_at(control, at->slot);
@@ -117,13 +123,16 @@ static enum tlsf_fault_kind fault_at(const struct control *control, struct found
     bool is_last = record.behind == NO_SLOT;
     bool is_met = is_last ? next.place == last : behind.place == next.place;
     enum tlsf_fault_kind what = TLSF_FAULT_NONE;
-    if (record.place != at->place || next.place <= at->place || next.place > last || (is_last && !is_met)) {
+    if (record.place != at->place || next.place <= at->place || next.place > last
+        || (is_last && !is_met)) {
         what = TLSF_FAULT_RECORD;
-    } else if (!is_last && (behind.before != at->slot || (!is_met && end_of(behind) == behind.place))) {
+    } else if (!is_last
+               && (behind.before != at->slot || (!is_met && end_of(behind) == behind.place))) {
         what = TLSF_FAULT_CHAIN;
         *at = is_met ? next : *at;
     } else if (!is_met) {
-        bool meets = end_of(behind) == (behind.behind == NO_SLOT ? last : record_at(control, behind.behind).place);
+        bool meets = end_of(behind)
+                     == (behind.behind == NO_SLOT ? last : record_at(control, behind.behind).place);
         what = TLSF_FAULT_RECORD;
         *at = meets ? *at : next;
     } else {
@@ -138,16 +147,18 @@ static uint32_t first_slot(const struct control *control, const struct pool *poo
     uint32_t slot = 0;
     struct record record = record_at(control, slot);
     while (slot < control->records
-           && (record.place != pool->place || end_of(record) <= pool->place || record.before != NO_SLOT)) {
+           && (record.place != pool->place || end_of(record) <= pool->place
+               || record.before != NO_SLOT)) {
         slot++;
         record = record_at(control, slot);
     }
     return slot < control->records ? slot : NO_SLOT;
 }
 
-/* Whether the records of an entry's pool are whole, and with `lists` what they lead to in these; else the first
- * that isn't is told. What is live is added up. */
-static bool has_records(const struct control *control, uint32_t entry, bool lists, struct live *live, tlsf_fault *out)
+/* Whether the records of an entry's pool are whole, and with `lists` what they lead to in these;
+ * else the first that isn't is told. What is live is added up. */
+static bool has_records(const struct control *control, uint32_t entry, bool lists,
+                        struct live *live, tlsf_fault *out)
 {
     const struct pool *pool = &control->at.pools[entry];
     uint64_t last = pool->reach == 0u ? pool->place : pool->place + pool->reach + FRONT;

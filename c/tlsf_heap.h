@@ -45,7 +45,7 @@
 extern "C" {
 #endif
 
-#define TLSF_HEAP_VERSION "1.1.0"
+#define TLSF_HEAP_VERSION "1.2.0"
 
 /* Limits: places and sizes are multiples of the unit. The others are the greatest block and pool,
  * and the most pools and records of a heap. tlsf_heap_malloc serves up to 1,056,964,608 bytes,
@@ -156,20 +156,20 @@ typedef struct tlsf_heap_row {
  * still writes as much as there is room for. */
 enum tlsf_status {
     TLSF_OK = 0,
-    TLSF_ZERO_SIZE = 1,      /* no byte was asked for */
-    TLSF_NO_FIT = 2,         /* no free block is surely large enough, or none can be */
-    TLSF_TABLE_FULL = 3,     /* the call needs more records than are vacant */
-    TLSF_BAD_POINTER = 4,    /* no live block has this place and this slot */
-    TLSF_BAD_ALIGN = 5,      /* the alignment isn't a power of two from 1 to 2^29 */
-    TLSF_BAD_POOL = 6,       /* base or size of the pool aren't allowed, or it overlaps another */
-    TLSF_POOLS_FULL = 7,     /* the heap has eight pools already */
-    TLSF_POOL_IN_USE = 8,    /* a block of the pool is live */
-    TLSF_OUT_OF_MEMORY = 9,  /* memory was refused */
-    TLSF_NO_POOL = 10,       /* no pool begins there */
-    TLSF_BAD_COUNT = 11,     /* the number of records isn't from 1 to 65,535 */
+    TLSF_ZERO_SIZE = 1,     /* no byte was asked for */
+    TLSF_NO_FIT = 2,        /* no free block is surely large enough, or none can be */
+    TLSF_TABLE_FULL = 3,    /* the call needs more records than are vacant */
+    TLSF_BAD_POINTER = 4,   /* no live block has this place and this slot */
+    TLSF_BAD_ALIGN = 5,     /* the alignment isn't a power of two from 1 to 2^29 */
+    TLSF_BAD_POOL = 6,      /* base or size of the pool aren't allowed, or it overlaps another */
+    TLSF_POOLS_FULL = 7,    /* the heap has eight pools already */
+    TLSF_POOL_IN_USE = 8,   /* a block of the pool is live */
+    TLSF_OUT_OF_MEMORY = 9, /* memory was refused */
+    TLSF_NO_POOL = 10,      /* no pool begins there */
+    TLSF_BAD_COUNT = 11,    /* the number of records isn't from 1 to 65,535 */
     /* 12 and 13 aren't used. */
-    TLSF_NO_ROOM = 14,       /* the image has more bytes than there is room for */
-    TLSF_BAD_MEMORY = 15,    /* the memory handed in is too small, or at no multiple of 16 */
+    TLSF_NO_ROOM = 14,    /* the image has more bytes than there is room for */
+    TLSF_BAD_MEMORY = 15, /* the memory handed in is too small, or at no multiple of 16 */
 
     /* The bytes are no image of a heap. Twelve rules are checked in this order. The status is 100
      * plus the number of the first rule that is broken. docs/FORMATS.md says what stands where in
@@ -246,8 +246,7 @@ enum tlsf_status tlsf_heap_realloc(tlsf_heap *heap, tlsf_heap_block block, uint6
 
 /* Gives *out the number of bytes of a live block, which is a multiple of 16. At most one touch.
  * Answers 0, or TLSF_BAD_POINTER unless a live block has this place and this slot. */
-enum tlsf_status tlsf_heap_block_size(const tlsf_heap *heap, tlsf_heap_block block,
-                                      uint32_t *out);
+enum tlsf_status tlsf_heap_block_size(const tlsf_heap *heap, tlsf_heap_block block, uint32_t *out);
 
 /* How many records are in use: one for each block, live or free. At most one touch. */
 uint32_t tlsf_heap_records_used(const tlsf_heap *heap);

@@ -1,5 +1,6 @@
-/* tlsf_image.c: tlsf_save and tlsf_load of tlsf.h, which put a heap into bytes and take it out again. This
- * file isn't proved. Whether an image is a heap is, in the calls of tlsf_front.h and tlsf_heap.h. */
+/* tlsf_image.c: tlsf_save and tlsf_load of tlsf.h, which put a heap into bytes and take it out
+ * again. This file isn't proved. Whether an image is a heap is, in the calls of tlsf_front.h and
+ * tlsf_heap.h. */
 #include "tlsf.h"
 
 #include <string.h>
@@ -30,12 +31,14 @@ size_t tlsf_save(tlsf_t tlsf, void *image, size_t room)
     saved.most_bytes = control->at.live.most_bytes;
     (void)memcpy(saved.pools, control->at.pools, sizeof saved.pools);
     (void)memcpy(image, &saved, sizeof saved);
-    bool whole = tlsf_heap_save(&control->at.heap, &bytes[sizeof saved], room - sizeof saved, &count) == TLSF_OK;
+    bool whole =
+        tlsf_heap_save(&control->at.heap, &bytes[sizeof saved], room - sizeof saved, &count)
+        == TLSF_OK;
     return whole ? sizeof saved + (size_t)count : 0u;
 }
 
-/* Gives each pool of an image the memory handed in for it, or the rest behind the table. Then each front
- * is looked at, before one is moved. */
+/* Gives each pool of an image the memory handed in for it, or the rest behind the table. Then each
+ * front is looked at, before one is moved. */
 static int take_pools(struct control *control, const struct saved *saved, const tlsf_memory *rest,
                       const tlsf_memory *memory, tlsf_fault *out)
 {
@@ -69,7 +72,8 @@ int tlsf_load(void *mem, size_t bytes, const void *image, size_t length, const t
     return tlsf_load_at(mem, bytes, image, length, memory, NULL);
 }
 
-int tlsf_load_at(void *mem, size_t bytes, const void *image, size_t length, const tlsf_memory *memory, tlsf_fault *out)
+int tlsf_load_at(void *mem, size_t bytes, const void *image, size_t length,
+                 const tlsf_memory *memory, tlsf_fault *out)
 {
     struct control *control = (struct control *)mem;
     const unsigned char *table = (const unsigned char *)image;
@@ -78,17 +82,19 @@ int tlsf_load_at(void *mem, size_t bytes, const void *image, size_t length, cons
     if (length > sizeof saved) {
         (void)memcpy(&saved, image, sizeof saved);
     }
-    if (saved.magic != SAVED || saved.most_bytes > UINT32_MAX || saved.records > TLSF_HEAP_RECORDS_MOST
-        || length != TLSF_IMAGE_BYTES(saved.records)) {
+    if (saved.magic != SAVED || saved.most_bytes > UINT32_MAX
+        || saved.records > TLSF_HEAP_RECORDS_MOST || length != TLSF_IMAGE_BYTES(saved.records)) {
         return TLSF_BROKEN_HEAD;
     }
     uint32_t records = (uint32_t)saved.records;
-    if (!tlsf_placed_places((uintptr_t)mem, bytes, sizeof *control, records, UINTPTR_MAX, &places)) {
+    if (!tlsf_placed_places((uintptr_t)mem, bytes, sizeof *control, records, UINTPTR_MAX,
+                            &places)) {
         return TLSF_BAD_MEMORY;
     }
     *control = (struct control){.records = records, .at.live.most_bytes = saved.most_bytes};
-    int status = (int)tlsf_heap_load_in((void *)(uintptr_t)places.table, TLSF_HEAP_TABLE_BYTES(records),
-                                   &table[sizeof saved], length - sizeof saved, &control->at.heap);
+    int status =
+        (int)tlsf_heap_load_in((void *)(uintptr_t)places.table, TLSF_HEAP_TABLE_BYTES(records),
+                               &table[sizeof saved], length - sizeof saved, &control->at.heap);
     tlsf_memory rest = {(void *)(uintptr_t)places.pool, (size_t)places.bytes};
     status = status == 0 ? take_pools(control, &saved, &rest, memory, out) : status;
     if (status != 0) {

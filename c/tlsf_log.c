@@ -73,7 +73,8 @@ static void add_head(struct text *text, const void *from, const char *sign)
 }
 
 /* `+`, `>` or `!`, with a pointer and a size. */
-static void add_line(struct text *text, const void *from, const char *sign, const void *ptr, size_t bytes)
+static void add_line(struct text *text, const void *from, const char *sign, const void *ptr,
+                     size_t bytes)
 {
     add_head(text, from, sign);
     add_pointer(text, ptr);
@@ -161,7 +162,8 @@ void *__wrap_tlsf_memalign(tlsf_t tlsf, size_t align, size_t bytes)
 }
 
 /* What a realloc did: it was a malloc, a free, refused, or gave a block for a block. */
-static void add_realloc(struct text *text, const void *from, const void *ptr, const void *given, size_t bytes)
+static void add_realloc(struct text *text, const void *from, const void *ptr, const void *given,
+                        size_t bytes)
 {
     if (ptr == NULL) {
         add_line(text, from, "+ ", given, bytes);
@@ -200,7 +202,8 @@ void __wrap_tlsf_free(tlsf_t tlsf, void *ptr)
     TLSF_LOG_UNLOCK();
 }
 
-/* ---- the ring. What is written is there before its place is told, and what is taken was read before. */
+/* ---- the ring. What is written is there before its place is told, and what is taken was read
+ * before. */
 
 static size_t filled(const tlsf_log_ring *ring)
 {

@@ -2,22 +2,23 @@
  *
  * A program tells a few sizes, and how many blocks of each it holds at once. Each of these is a
  * part: a heap of its own, all of whose blocks have one size. A request is served by the first part
- * whose size is enough, and is rounded up to that size. So a part's free memory never lies in pieces
- * that are too small. A request is refused exactly where its part holds as many blocks as were told,
- * or where it is larger than the last part's size. The price is that a part's room serves no other
- * size.
+ * whose size is enough, and is rounded up to that size. So a part's free memory never lies in
+ * pieces that are too small. A request is refused exactly where its part holds as many blocks as
+ * were told, or where it is larger than the last part's size. The price is that a part's room
+ * serves no other size.
  *
- * The numbers of a program stand in a log of it: a part `up to 64: 2130 blocks` is 64 and 2130 here.
- * The 8 bytes that tlsf.h puts in front of a block are counted in this header.
+ * The numbers of a program stand in a log of it: a part `up to 64: 2130 blocks` is 64 and 2130
+ * here. The 8 bytes that tlsf.h puts in front of a block are counted in this header.
  *
  * The law behind it is proved: laws::blocks_asked_of_one_size_are_enough of tlsf_c. It is about the
  * calls that tlsf.c stands on, in whatever order, by a program that frees only what it holds. Each
- * block with its front has one size, the lowest of a class. This header isn't proved, nor is the C of
- * tlsf.h around the proved calls.
+ * block with its front has one size, the lowest of a class. This header isn't proved, nor is the C
+ * of tlsf.h around the proved calls.
  *
- * All memory is handed in, and begins at a multiple of 8. Until the parts are gone, the program uses
- * only its blocks in it. Only one call on the parts runs at a time. A call takes the steps of one of
- * tlsf.h, and looks at eight sizes or addresses at most. A realloc that moves its block takes two.
+ * All memory is handed in, and begins at a multiple of 8. Until the parts are gone, the program
+ * uses only its blocks in it. Only one call on the parts runs at a time. A call takes the steps of
+ * one of tlsf.h, and looks at eight sizes or addresses at most. A realloc that moves its block
+ * takes two.
  */
 #ifndef TLSF_PARTS_H
 #define TLSF_PARTS_H
@@ -33,16 +34,17 @@ extern "C" {
 
 #define TLSF_PARTS_MOST 8u
 
-/* What is told of a part: the most bytes of a request that it serves, and how many blocks it has. */
+/* What is told of a part: the most bytes of a request that it serves, and how many blocks it
+ * has. */
 typedef struct tlsf_part {
     uint32_t largest;
     uint32_t blocks;
 } tlsf_part;
 
-/* A part in use: its heap, the address of its first block, its bytes from there on, and the bytes from
- * one block to the next. A program doesn't read or write it. A block's pointer is where it begins, or
- * further on where an alignment was asked for. `further` has a bit for each block: where it is set, the
- * block begins with its pointer. */
+/* A part in use: its heap, the address of its first block, its bytes from there on, and the bytes
+ * from one block to the next. A program doesn't read or write it. A block's pointer is where it
+ * begins, or further on where an alignment was asked for. `further` has a bit for each block: where
+ * it is set, the block begins with its pointer. */
 struct tlsf_part_heap {
     tlsf_t heap;
     unsigned char *first;
@@ -52,7 +54,8 @@ struct tlsf_part_heap {
     tlsf_part told;
 };
 
-/* All parts. It lies at the start of the memory handed in, and a program doesn't read or write it. */
+/* All parts. It lies at the start of the memory handed in, and a program doesn't read or write
+ * it. */
 typedef struct tlsf_parts {
     struct tlsf_part_heap parts[TLSF_PARTS_MOST];
     uint32_t count;
@@ -63,8 +66,8 @@ typedef struct tlsf_parts {
     size_t refusals[TLSF_REFUSALS];
 } tlsf_parts;
 
-/* The bytes of memory that parts take, as a constant expression. The parts are a list, so that their
- * numbers are written once:
+/* The bytes of memory that parts take, as a constant expression. The parts are a list, so that
+ * their numbers are written once:
  *
  *     #define PARTS(part) part(64, 2130) part(2048, 41)
  *     _Alignas(8) static unsigned char memory[TLSF_PARTS_BYTES(PARTS)];
@@ -101,7 +104,8 @@ static inline size_t tlsf_parts_bytes(const tlsf_part *told, uint32_t count)
 }
 
 /* Each refusal comes here, whether a part's heap refuses or no part has a call to make. */
-static inline void tlsf_parts_tell(enum tlsf_refusal what, const void *ptr, size_t bytes, void *user)
+static inline void tlsf_parts_tell(enum tlsf_refusal what, const void *ptr, size_t bytes,
+                                   void *user)
 {
     tlsf_parts *parts = (tlsf_parts *)user;
     (void)ptr;
@@ -131,8 +135,8 @@ static inline bool tlsf_parts_add(tlsf_parts *parts, unsigned char *at, tlsf_par
     return part->heap != NULL && tlsf_add_pool(part->heap, pool, part->bytes) != NULL;
 }
 
-/* Makes these parts in `bytes` bytes of memory. Answers a null pointer where tlsf_parts_bytes is 0 or
- * more than these bytes, or where mem begins at no multiple of 8. */
+/* Makes these parts in `bytes` bytes of memory. Answers a null pointer where tlsf_parts_bytes is 0
+ * or more than these bytes, or where mem begins at no multiple of 8. */
 static inline tlsf_parts *tlsf_parts_create(void *mem, size_t bytes, const tlsf_part *told,
                                             uint32_t count)
 {
@@ -161,9 +165,10 @@ static inline void tlsf_parts_destroy(tlsf_parts *parts)
     }
 }
 
-/* Sets the hook that is told of each refusal from now on, as that of tlsf.h: with the bytes that the
- * program asked for. A request above the last part's size is TLSF_REFUSED_NO_FIT. */
-static inline void tlsf_parts_set_refusal_hook(tlsf_parts *parts, tlsf_refusal_hook hook, void *user)
+/* Sets the hook that is told of each refusal from now on, as that of tlsf.h: with the bytes that
+ * the program asked for. A request above the last part's size is TLSF_REFUSED_NO_FIT. */
+static inline void tlsf_parts_set_refusal_hook(tlsf_parts *parts, tlsf_refusal_hook hook,
+                                               void *user)
 {
     if (parts != NULL) {
         parts->hook = hook;
@@ -211,7 +216,8 @@ static inline struct tlsf_part_heap *tlsf_parts_of(tlsf_parts *parts, const void
 }
 
 /* Which of its part's blocks one is. */
-static inline size_t tlsf_parts_number(const struct tlsf_part_heap *part, const unsigned char *block)
+static inline size_t tlsf_parts_number(const struct tlsf_part_heap *part,
+                                       const unsigned char *block)
 {
     return ((uintptr_t)block - (uintptr_t)part->first) / part->block;
 }
@@ -229,13 +235,15 @@ static inline unsigned char *tlsf_parts_pointer(const struct tlsf_part_heap *par
 }
 
 /* The block's pointer is where it begins, from now on. */
-static inline void tlsf_parts_at_start(const struct tlsf_part_heap *part, const unsigned char *block)
+static inline void tlsf_parts_at_start(const struct tlsf_part_heap *part,
+                                       const unsigned char *block)
 {
     size_t number = tlsf_parts_number(part, block);
     part->further[number / 8u] &= (unsigned char)~(1u << (number % 8u));
 }
 
-/* The block's pointer is this one further on. In front of it stand zeros, as in front of no block. */
+/* The block's pointer is this one further on. In front of it stand zeros, as in front of no
+ * block. */
 static inline void tlsf_parts_further(const struct tlsf_part_heap *part, unsigned char *block,
                                       unsigned char *ptr)
 {
@@ -264,8 +272,8 @@ static inline void *tlsf_parts_malloc(tlsf_parts *parts, size_t bytes)
     return tlsf_parts_ask(parts, bytes, bytes);
 }
 
-/* As tlsf_parts_malloc, but the block begins at a multiple of `align`, which is a power of two. Above
- * 16 it is served by the part for `bytes` + `align` - 16 bytes. */
+/* As tlsf_parts_malloc, but the block begins at a multiple of `align`, which is a power of two.
+ * Above 16 it is served by the part for `bytes` + `align` - 16 bytes. */
 static inline void *tlsf_parts_aligned_alloc(tlsf_parts *parts, size_t align, size_t bytes)
 {
     bool good = align != 0u && (align & (align - 1u)) == 0u;
@@ -339,9 +347,9 @@ static inline void *tlsf_parts_to_start(const struct tlsf_part_heap *part, unsig
     return block;
 }
 
-/* Gives a live block room for `bytes` bytes, at a multiple of 16. Where its part is the one for these
- * bytes, it isn't refused. Else it moves to that part, with its bytes copied. A refused call answers
- * a null pointer, and the block stays as it was. With a null pointer the call is a
+/* Gives a live block room for `bytes` bytes, at a multiple of 16. Where its part is the one for
+ * these bytes, it isn't refused. Else it moves to that part, with its bytes copied. A refused call
+ * answers a null pointer, and the block stays as it was. With a null pointer the call is a
  * tlsf_parts_malloc. For 0 bytes it is a tlsf_parts_free, and answers a null pointer. */
 static inline void *tlsf_parts_realloc(tlsf_parts *parts, void *ptr, size_t bytes)
 {
@@ -375,8 +383,8 @@ typedef struct tlsf_part_figures {
     size_t refused;
 } tlsf_part_figures;
 
-/* Puts the figures of the part of this number, from 0 on, into *figures. Answers 0. Where there is no
- * such part it answers -1, and *figures stays as it was. */
+/* Puts the figures of the part of this number, from 0 on, into *figures. Answers 0. Where there is
+ * no such part it answers -1, and *figures stays as it was. */
 static inline int tlsf_parts_stats(const tlsf_parts *parts, uint32_t number,
                                    tlsf_part_figures *figures)
 {

@@ -1,7 +1,8 @@
 // tlsf_parts.hpp: a memory resource of C++17 over the parts of tlsf_parts.h, for std::pmr's
 // containers. It isn't proved.
 //
-// It takes no memory but the parts'. Only one call on the parts runs at a time, as with tlsf_parts.h.
+// It takes no memory but the parts'. Only one call on the parts runs at a time, as with
+// tlsf_parts.h.
 #ifndef TLSF_PARTS_HPP
 #define TLSF_PARTS_HPP
 
@@ -20,18 +21,13 @@ class tlsf_parts_resource : public std::pmr::memory_resource {
 public:
     /// A resource over parts that the program made. The program ends them, after the last container
     /// is gone.
-    explicit tlsf_parts_resource(tlsf_parts *parts) noexcept : parts_(parts)
-    {
-    }
+    explicit tlsf_parts_resource(tlsf_parts *parts) noexcept : parts_(parts) {}
 
     tlsf_parts_resource(const tlsf_parts_resource &) = delete;
     tlsf_parts_resource &operator=(const tlsf_parts_resource &) = delete;
 
     /// The parts: for tlsf_parts_stats and tlsf_parts_check.
-    tlsf_parts *parts() const noexcept
-    {
-        return parts_;
-    }
+    tlsf_parts *parts() const noexcept { return parts_; }
 
 protected:
     /// Answers a block at a multiple of `align`, of the part for these bytes. Throws std::bad_alloc

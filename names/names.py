@@ -1,4 +1,5 @@
-"""The names of frames: function, file and line, by binutils. Frames in inlined calls have several."""
+"""The names of frames: function, file and line, by binutils. Frames in inlined calls have
+several."""
 import os
 import re
 import shutil
@@ -15,11 +16,16 @@ from builds import Places
 from stacks import path_of
 
 # Libraries whose frames are of the standard library, whatever they are called.
-STANDARD_MODULE = re.compile(r"(?:libc|libm|libdl|librt|libpthread|libstdc\+\+|libc\+\+|libc\+\+abi|libgcc_s|ld|ld-linux[-\w]*)[-.\d]*\.so")
-STANDARD_FILE = re.compile(r".*/include/(?:[-\w.]+/)?c\+\+/v?\d|/rustc/|/rust/deps/|.*/rustc-\d[^/]*/(?:library|vendor)/|.*/rustlib/src/rust/library/|library/(?:alloc|core|std)/src/")
-STANDARD_NAME = re.compile(r"execute_native_thread_routine$|(?:std|core|alloc|hashbrown|__gnu_cxx|__cxxabiv1)::|operator (?:new|delete)\b|__rust_|__rdl_|__rustc|"
-                           r"<[^ :]* as (?:std|core|alloc)::|<[&*\[]*(?:mut )?(?:std|core|alloc|hashbrown)::")
-CLONE = re.compile(r" \[clone [^\]]*\]|\[abi:\w+\]|::h[0-9a-f]{16}$|(?<=\w)\[[0-9a-f]{16}\]|(?:\.(?:constprop|isra|part|cold|llvm|lto_priv|localalias)(?:\.\d+)*)+$")
+STANDARD_MODULE = re.compile(
+    r"(?:libc|libm|libdl|librt|libpthread|libstdc\+\+|libc\+\+|libc\+\+abi|libgcc_s|ld|ld-linux[-\w]*)[-.\d]*\.so")
+STANDARD_FILE = re.compile(
+    r".*/include/(?:[-\w.]+/)?c\+\+/v?\d|/rustc/|/rust/deps/|.*/rustc-\d[^/]*/(?:library|vendor)/|.*/rustlib/src/rust/library/|library/(?:alloc|core|std)/src/")
+STANDARD_NAME = re.compile(
+    r"execute_native_thread_routine$|(?:std|core|alloc|hashbrown|__gnu_cxx|__cxxabiv1)::|operator "
+    r"(?:new|delete)\b|__rust_|__rdl_|__rustc|"
+    r"<[^ :]* as (?:std|core|alloc)::|<[&*\[]*(?:mut )?(?:std|core|alloc|hashbrown)::")
+CLONE = re.compile(r" \[clone "
+                   r"[^\]]*\]|\[abi:\w+\]|::h[0-9a-f]{16}$|(?<=\w)\[[0-9a-f]{16}\]|(?:\.(?:constprop|isra|part|cold|llvm|lto_priv|localalias)(?:\.\d+)*)+$")
 OPERATOR = re.compile(r"operator *(?:<=>|<<=|>>=|->\*|<<|>>|<=|>=|->|\(\)|<|>)")
 LINE = re.compile(r"(.*):(\d+|\?)(?: \(discriminator \d+\))?", re.S)
 LLVM = "llvm-addr2line"
@@ -30,7 +36,8 @@ MOST_BARE = 4
 
 
 def without_brackets(name, opening="(<", closing=")>"):
-    """A demangled name without what stands in brackets, but for names of operators and for a type in front, as of Rust."""
+    """A demangled name without what stands in brackets, but for names of operators and for a type
+    in front, as of Rust."""
     kept, depth, at = [], 0, 0
     while at < len(name):
         found = OPERATOR.match(name, at) if depth == 0 else None
@@ -48,7 +55,8 @@ def without_brackets(name, opening="(<", closing=")>"):
 
 
 def end_of_type(name):
-    """Where the type that a name of Rust has in front ends, as in `<shop::Item as core::clone::Clone>::clone`."""
+    """Where the type that a name of Rust has in front ends, as in `<shop::Item as
+    core::clone::Clone>::clone`."""
     depth = 0
     for at, byte in enumerate(name):
         depth += (byte == "<") - (byte == ">" and name[at - 1] != "-")
@@ -67,12 +75,17 @@ def without_result(name):
 def whole_name(name):
     """A demangled name with what tells it from others: its arguments, and those of its template."""
     name = CLONE.sub("", name.removeprefix("__GI_")).replace("(anonymous namespace)", "{anonymous}")
-    return name.replace("std::__cxx11::basic_string<char, std::char_traits<char>, std::allocator<char> >", "std::string").replace("std::__cxx11::", "std::").replace(" >", ">")
+    return name.replace("std::__cxx11::basic_string<char, std::char_traits<char>, "
+                        "std::allocator<char> >", "std::string").replace("std::__cxx11::",
+                                                                         "std::").replace(" >", ">")
 
 
 def short_name(name):
     """A demangled name as it is told: `std::vector::push_back`, and not its arguments."""
-    name = CLONE.sub("", name.removeprefix("__GI_")).replace("(anonymous namespace)", "{anonymous}").replace("std::__cxx11::basic_string", "std::string")
+    name = CLONE.sub("", name.removeprefix("__GI_")).replace("(anonymous namespace)",
+                                                             "{anonymous}").replace(
+                                                                 "std::__cxx11::basic_string",
+                                                                 "std::string")
     name = name.replace("std::__cxx11::", "std::").replace("::<", "<")
     if name.startswith("<"):
         end = end_of_type(name)
@@ -82,8 +95,8 @@ def short_name(name):
 
 @dataclass(frozen=True)
 class Call:
-    """One call of a frame: its function, or nothing, and where that stands. A call without a line has a symbol and an offset in
-    it, or an offset in its module alone."""
+    """One call of a frame: its function, or nothing, and where that stands. A call without a line
+    has a symbol and an offset in it, or an offset in its module alone."""
     function: str
     file: str
     line: int
@@ -96,9 +109,11 @@ class Call:
 
     @cached_property
     def is_standard(self):
-        """Whether it is of the standard library: by its module, its file, or its name where no file is known."""
+        """Whether it is of the standard library: by its module, its file, or its name where no file
+        is known."""
         return bool(STANDARD_MODULE.match(os.path.basename(self.module))
-                    or (STANDARD_FILE.match(self.file) if self.file else STANDARD_NAME.match(self.function)))
+                    or (STANDARD_FILE.match(self.file) if self.file
+                        else STANDARD_NAME.match(self.function)))
 
     @cached_property
     def briefly(self):
@@ -111,16 +126,19 @@ class Call:
             return MORE_CALLS
         function = self.whole or self.function if whole else self.function
         if self.file:
-            place = (self.file if paths else os.path.basename(self.file)) + (f":{self.line}" if self.line else "")
+            place = (self.file if paths else os.path.basename(self.file)) + (f":{self.line}"
+                                                                             if self.line else "")
             return f"{function} {place}" if function else place
         module = os.path.basename(self.module)
-        return f"{function}+0x{self.offset:x} {module}" if function else f"{module}:[0x{self.offset:x}]"
+        return (f"{function}+0x{self.offset:x} {module}" if function
+                else f"{module}:[0x{self.offset:x}]")
 
 
 def output_of(words, given=""):
     """What a tool of binutils writes, or nothing where it fails."""
-    run = subprocess.run(words, input=given.encode("utf-8", "surrogateescape"), stdout=subprocess.PIPE, stderr=subprocess.DEVNULL,
-                         check=False, env={**os.environ, "LC_ALL": "C"})
+    run = subprocess.run(words, input=given.encode("utf-8", "surrogateescape"),
+                         stdout=subprocess.PIPE, stderr=subprocess.DEVNULL, check=False,
+                         env={**os.environ, "LC_ALL": "C"})
     return run.stdout.decode("utf-8", "surrogateescape")
 
 
@@ -128,23 +146,28 @@ def processor_of(path):
     """The number that ELF has for the processor of a file, or nothing."""
     with open(path, "rb") as file:
         head = file.read(20)
-    return int.from_bytes(head[18:20], "big" if head[5] == 2 else "little") if head[:4] == b"\x7fELF" and len(head) == 20 else None
+    return int.from_bytes(head[18:20], "big" if head[5] == 2
+                          else "little") if head[:4] == b"\x7fELF" and len(head) == 20 else None
 
 
 def base_of(path):
-    """The page of the lowest address that a file is linked for, or None where it is no object. It is 0 for a board's program, whose log
-    has addresses as they are: it is for another processor, and no loader is named."""
+    """The page of the lowest address that a file is linked for, or None where it is no object. It
+    is 0 for a board's program, whose log has addresses as they are: it is for another processor,
+    and no loader is named."""
     headers = [line.split() for line in output_of(["readelf", "-lW", "--", path]).splitlines()]
     bases = [int(words[2], 16) & ~4095 for words in headers if words[:1] == ["LOAD"]]
-    is_for_board = processor_of(path) != processor_of(sys.executable) and not any(words[:1] == ["INTERP"] for words in headers)
+    is_for_board = (processor_of(path) != processor_of(sys.executable)
+                    and not any(words[:1] == ["INTERP"] for words in headers))
     return 0 if bases and is_for_board else bases[0] if bases else None
 
 
 def lines_of(path, addresses, reader="addr2line"):
-    """For each address its calls, innermost first, as function, file, line and the function's whole name, where one is known. Each is asked for twice: the first
-    answer gives an inlined function that has no linker's name that of the function around it."""
+    """For each address its calls, innermost first, as function, file, line and the function's whole
+    name, where one is known. Each is asked for twice: the first answer gives an inlined function
+    that has no linker's name that of the function around it."""
     found = defaultdict(list)
-    told = output_of([reader, "-a", "-f", "-i", "-C", "-e", path], "".join(f"0x{address:x}\n" * 2 for address in addresses))
+    told = output_of([reader, "-a", "-f", "-i", "-C", "-e", path],
+                     "".join(f"0x{address:x}\n" * 2 for address in addresses))
     # Some names of C++ are told by binutils alone.
     lines = iter((output_of(["c++filt"], told) if reader == LLVM else told).splitlines())
     address = None
@@ -161,8 +184,8 @@ def lines_of(path, addresses, reader="addr2line"):
 
 
 def debug_file_of(build_id):
-    """The file of debug information that debuginfod's client has for a build id; or nothing. The client is asked only where a server is
-    named, as it is itself."""
+    """The file of debug information that debuginfod's client has for a build id; or nothing. The
+    client is asked only where a server is named, as it is itself."""
     if not build_id or not os.environ.get("DEBUGINFOD_URLS") or not shutil.which("debuginfod-find"):
         return None
     found = output_of(["debuginfod-find", "debuginfo", build_id]).strip()
@@ -176,11 +199,14 @@ def build_id_of(path):
 
 
 def has_debug_file(path):
-    """Whether debug information of a file is installed where addr2line looks for it: by its build id, or by the name that it gives."""
+    """Whether debug information of a file is installed where addr2line looks for it: by its build
+    id, or by the name that it gives."""
     build_id, folder = build_id_of(path), os.path.dirname(os.path.realpath(path))
     found = re.search(r"\]\s+(\S.*)", output_of(["readelf", "-p", ".gnu_debuglink", "--", path]))
-    links = [f"{home}/{found[1].strip()}" for home in (folder, f"{folder}/.debug", f"/usr/lib/debug{folder}")] if found else []
-    return any(map(os.path.isfile, [f"/usr/lib/debug/.build-id/{build_id[:2]}/{build_id[2:]}.debug", *links]))
+    links = [f"{home}/{found[1].strip()}" for home in (folder, f"{folder}/.debug",
+                                                       f"/usr/lib/debug{folder}")] if found else []
+    return any(map(os.path.isfile, [f"/usr/lib/debug/.build-id/{build_id[:2]}/{build_id[2:]}.debug",
+                                    *links]))
 
 
 def has_line_table(path):
@@ -190,13 +216,15 @@ def has_line_table(path):
 
 def demangled(names):
     """Each name as its language has it."""
-    return dict(zip(names, output_of(["c++filt"], "".join(name + "\n" for name in names)).splitlines()))
+    return dict(zip(names, output_of(["c++filt"], "".join(name + "\n"
+                                                          for name in names)).splitlines()))
 
 
 def symbols_in(path):
     """The code of a file by its symbols: start, size and name of each, in order."""
     symbols = set()
-    for words in (["nm", "-S", "--defined-only", "--", path], ["nm", "-D", "-S", "--defined-only", "--", path]):
+    for words in (["nm", "-S", "--defined-only", "--", path],
+                  ["nm", "-D", "-S", "--defined-only", "--", path]):
         for line in output_of(words).splitlines():
             parts = line.split(" ", 3)
             if len(parts) == 4 and parts[2] in "tTwWi":
@@ -213,12 +241,15 @@ def symbols_of(path, addresses):
         if at >= 0 and address - starts[at] < symbols[at][1]:
             found[address] = symbols[at][2], starts[at]
     plain = demangled(sorted({name for name, _ in found.values()}))
-    return {address: (short_name(plain.get(name, name)), whole_name(plain.get(name, name)), start) for address, (name, start) in found.items()}
+    return {address: (short_name(plain.get(name, name)), whole_name(plain.get(name, name)), start)
+            for address, (name, start) in found.items()}
 
 
 def starts_of(path):
-    """Where each function of a file begins, by the table that exceptions are thrown with, which no stripping takes away."""
-    found = re.search(r" \.eh_frame_hdr +\S+ +([0-9a-f]+) ([0-9a-f]+) ([0-9a-f]+)", output_of(["readelf", "-SW", "--", path]))
+    """Where each function of a file begins, by the table that exceptions are thrown with, which no
+    stripping takes away."""
+    found = re.search(r" \.eh_frame_hdr +\S+ +([0-9a-f]+) ([0-9a-f]+) ([0-9a-f]+)",
+                      output_of(["readelf", "-SW", "--", path]))
     if not found:
         return []
     address, offset, size = (int(number, 16) for number in found.groups())
@@ -233,12 +264,14 @@ def starts_of(path):
 
 
 class Module:
-    """A program or library of a log: the calls of its frames, whether a file of it can be read, and whether a line is known of one. Where
-    the log has another build id than each file there are no names: they would be of another build."""
+    """A program or library of a log: the calls of its frames, whether a file of it can be read, and
+    whether a line is known of one. Where the log has another build id than each file there are no
+    names: they would be of another build."""
 
     def __init__(self, name, offsets, build_id="", places=Places()):
         # A name may stand as it is, or with its odd bytes told.
-        self.path = name if os.path.isfile(places.below(name)) else path_of(name).decode("utf-8", "surrogateescape")
+        self.path = (name if os.path.isfile(places.below(name))
+                     else path_of(name).decode("utf-8", "surrogateescape"))
         self.build_id = build_id
         self.files = self.same_files(places)
         self.file = self.files[0] if self.files else self.path
@@ -253,26 +286,36 @@ class Module:
         self.base, self.calls = self.base or 0, {}
         for offset in offsets:
             address = addresses.get(offset)
-            self.calls[offset] = [Call(*call, self.path, 0, whole=whole) for *call, whole in lines.get(address, [])] or [self.by_symbol(offset, address, symbols)]
+            self.calls[offset] = [Call(*call, self.path, 0, whole=whole)
+                                  for *call, whole in lines.get(address,
+                                                                [])] or [self.by_symbol(offset,
+                                                                                        address,
+                                                                                        symbols)]
 
     def same_files(self, places):
-        """The files that are this build, or may be it where the log doesn't tell: the likely first."""
-        here = [file for file in places.candidates(self.path, self.build_id) if base_of(file) is not None]
-        same = [file for file in here if build_id_of(file) == self.build_id] if self.build_id else here[:1]
+        """The files that are this build, or may be it where the log doesn't tell: the likely
+        first."""
+        here = [file for file in places.candidates(self.path, self.build_id) if base_of(file)
+                is not None]
+        same = [file for file in here if build_id_of(file)
+                == self.build_id] if self.build_id else here[:1]
         if self.build_id and not same and (fetched := debug_file_of(self.build_id)):
             same = [fetched]
         self.is_same, self.is_other = bool(self.build_id and same), bool(here and not same)
-        self.is_elsewhere = bool(self.build_id and not here and not same and self.path.startswith("/"))
+        self.is_elsewhere = bool(self.build_id and not here and not same
+                                 and self.path.startswith("/"))
         return same
 
     @property
     def lacks_lines(self):
         """Whether it is one of the program's, and has no debug information."""
-        return (self.is_object and not self.has_lines and not STANDARD_MODULE.match(os.path.basename(self.path))
+        return (self.is_object and not self.has_lines
+                and not STANDARD_MODULE.match(os.path.basename(self.path))
                 and not any(map(has_line_table, self.files)))
 
     def lines_at(self, addresses):
-        """The calls at addresses whose lines are known: by a file, by debug information that is installed for it, or by debuginfod."""
+        """The calls at addresses whose lines are known: by a file, by debug information that is
+        installed for it, or by debuginfod."""
         has_table = False
         for file in self.files:
             is_table = has_line_table(file)
@@ -291,7 +334,8 @@ class Module:
         """The symbols at addresses, of the first file that has them."""
         found = {}
         for file in self.files:
-            found = {**symbols_of(file, [address for address in addresses if address not in found]), **found}
+            found = {**symbols_of(file, [address for address in addresses if address not in found]),
+                     **found}
             if len(found) == len(addresses):
                 break
         return found
@@ -300,19 +344,24 @@ class Module:
         """The call at an address that has no line."""
         name, whole, start = symbols.get(address, ("", "", None))
         at = bisect_right(self.starts, address) - 1 if address is not None and start is None else -1
-        return Call(name, "", 0, self.path, offset if start is None else address + 1 - start, self.starts[at] - self.base if at >= 0 else 0,
-                    whole)
+        return Call(name, "", 0, self.path, offset if start is None else address + 1 - start,
+                    self.starts[at] - self.base if at >= 0 else 0, whole)
 
 
 class Names:
-    """The calls of all frames. Each module is asked once. Build ids are those that a log tells of its modules."""
+    """The calls of all frames. Each module is asked once. Build ids are those that a log tells of
+    its modules."""
 
     def __init__(self, frames, build_ids=None, places=Places()):
         offsets = defaultdict(set)
         for frame in frames:
             offsets[frame.module].add(frame.offset)
         with ThreadPoolExecutor(4) as pool:
-            self.modules = dict(zip(offsets, pool.map(lambda name: Module(name, sorted(offsets[name]), (build_ids or {}).get(name, ""), places), offsets)))
+            self.modules = dict(zip(offsets, pool.map(lambda name: Module(name,
+                                                                          sorted(offsets[name]),
+                                                                          (build_ids
+                                                                           or {}).get(name, ""),
+                                                                          places), offsets)))
 
     def calls(self, frame):
         """The calls of a frame, innermost first: at least one."""
@@ -320,14 +369,18 @@ class Names:
 
 
 def told_others(modules):
-    """What is said of each file that is another build than the one that ran, and of those that aren't here."""
-    others = [f"{module.path} is another build than the one that ran: its names aren't told" for module in modules if module.is_other]
-    return others + [f"{module.path} isn't here: --sysroot can name its root, or --names a file of this build" for module in modules
-                     if module.is_elsewhere]
+    """What is said of each file that is another build than the one that ran, and of those that
+    aren't here."""
+    others = [f"{module.path} is another build than the one that ran: its names aren't told"
+              for module in modules if module.is_other]
+    return others + [f"{module.path} isn't here: --sysroot can name its root, or --names a file of "
+                     f"this build" for module in modules if module.is_elsewhere]
 
 
 def told_bare(modules):
     """What is said of the program's files that have no debug information, or nothing."""
     bare = sorted(os.path.basename(module.path) for module in modules if module.lacks_lines)
     more = f" and {len(bare) - MOST_BARE} more" if len(bare) > MOST_BARE else ""
-    return bare and f"no lines are known of {', '.join(bare[:MOST_BARE])}{more}: compile with -g, or install their debug information"
+    return (bare
+            and f"no lines are known of {', '.join(bare[:MOST_BARE])}{more}: compile with -g, or "
+            f"install their debug information")

@@ -1,10 +1,12 @@
-"""The stacks of a log: frames of a location, and the stacks that a log tells once, as docs/FORMATS.md has them."""
+"""The stacks of a log: frames of a location, and the stacks that a log tells once, as
+docs/FORMATS.md has them."""
 import gc
 import re
 from collections import namedtuple
 from urllib.parse import unquote_to_bytes
 
-# A frame: the path of its module as it stands in a location, and the address that it returns to, in the module.
+# A frame: the path of its module as it stands in a location, and the address that it returns to, in
+# the module.
 Frame = namedtuple("Frame", "module offset")
 
 NUMBER = re.compile(r"s[1-9][0-9]*")
@@ -15,6 +17,8 @@ PART = re.compile(rb"@ ([msi])([0-9]+)([=+])([\x21-\x7e\x80-\xff]*)")
 SHARED = re.compile(r"s[0-9]+\.([0-9]+)")
 TOLD_FRAME = re.compile(r"(?:([0-9]+):)?([0-9a-f]+)")
 FRAME = re.compile(r"(?:(.+):)?\[0x([0-9a-f]+)\]", re.S)
+# A location whose stack has more calls than it tells.
+CUT = re.compile(r"(?:^|<)\?:(?:\[0x[0-9a-f]+\]<)*\[0x0\]\Z")
 GLIBC_FRAME = re.compile(r"(.*):(?:\(.*\))?\[0x([0-9a-f]+)\]", re.S)
 
 
@@ -39,7 +43,8 @@ def list_of(frames):
 
 
 def lines_without_effect(log):
-    """The number of each line that has no effect, and what stands in front of that. All others are passed over at once."""
+    """The number of each line that has no effect, and what stands in front of that. All others are
+    passed over at once."""
     number, rest = 0, b""
     while piece := log.read(PIECE):
         piece = rest + piece
@@ -62,7 +67,8 @@ def parts_of(log):
 
 
 def whole_parts(parts):
-    """Each module and stack with its whole text, in order. What goes on without a beginning is left out."""
+    """Each module and stack with its whole text, in order. What goes on without a beginning is left
+    out."""
     begun = None
     for letter, number, sign, text in parts:
         if sign == "=":
@@ -76,8 +82,8 @@ def whole_parts(parts):
 
 
 class Stacks:
-    """The stacks that a log tells, or those of them that are wanted, each as a linked list from its nearest frame on: a frame, and the list
-    of those that called it."""
+    """The stacks that a log tells, or those of them that are wanted, each as a linked list from its
+    nearest frame on: a frame, and the list of those that called it."""
 
     def __init__(self, log=None, wanted=None):
         self.modules, self.lists, self.known = {}, {}, {}
@@ -124,6 +130,13 @@ class Stacks:
         """The frames of a stack's number, the nearest first; none where the log doesn't tell it."""
         return list(frames_in(self.lists.get(location)))
 
+    def is_cut(self, location):
+        """Whether a location's stack has more calls, for which its last frame stands."""
+        last = None
+        for last in frames_in(self.lists.get(location)):
+            pass
+        return last == ("?", 0) if last else bool(CUT.search(location))
+
     def whole(self, location):
         """A location with its frames for a stack's number; else as it is."""
         return joined(self.frames(location)) or location
@@ -132,17 +145,19 @@ class Stacks:
 def times_of(path):
     """The lines that tell a log's age: the number of each, and milliseconds."""
     with open(path, "rb") as log:
-        return [(number, int(found[1])) for number, line in lines_without_effect(log) if (found := TIME.fullmatch(line))]
+        return [(number, int(found[1])) for number, line in lines_without_effect(log)
+                if (found := TIME.fullmatch(line))]
 
 
 def joined(frames):
     """Frames as they stand in a location."""
-    return "<".join((f"{frame.module}:" if k == 0 or frames[k - 1].module != frame.module else "") + f"[0x{frame.offset:x}]"
-                    for k, frame in enumerate(frames))
+    return "<".join((f"{frame.module}:" if k == 0 or frames[k - 1].module != frame.module else "")
+                    + f"[0x{frame.offset:x}]" for k, frame in enumerate(frames))
 
 
 def frames_of(location):
-    """The frames of a location. What isn't a stack may be one frame with any path, as glibc's tracer writes it."""
+    """The frames of a location. What isn't a stack may be one frame with any path, as glibc's
+    tracer writes it."""
     frames, module = [], None
     for part in location.split("<"):
         found = FRAME.fullmatch(part)

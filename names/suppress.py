@@ -1,12 +1,13 @@
-"""Sites that are known and left out: suppressions of valgrind's Memcheck (`Memcheck:Leak`, `fun:`, `obj:`, `...`), and `leak:` lines of
-LeakSanitizer."""
+"""Sites that are known and left out: suppressions of valgrind's Memcheck (`Memcheck:Leak`, `fun:`,
+`obj:`, `...`), and `leak:` lines of LeakSanitizer."""
 import re
 from dataclasses import dataclass
 from fnmatch import fnmatchcase
 
 from names import demangled, short_name, symbols_in
 
-ALLOCATORS = ("malloc", "calloc", "realloc", "memalign", "aligned_alloc", "posix_memalign", "_Znwm", "_Znam")
+ALLOCATORS = ("malloc", "calloc", "realloc", "memalign", "aligned_alloc", "posix_memalign", "_Znwm",
+              "_Znam")
 ANY_FRAMES = "..."
 KINDS_LINE, LEAK_KINDS = "match-leak-kinds:", ("definite", "indirect", "possible", "reachable")
 # A name as the linker has it, with a `*`: it is compared with the symbols of the modules.
@@ -23,12 +24,14 @@ class AnyCall:
     pattern: re.Pattern
 
     def matches(self, calls, _):
-        return any(self.pattern.search(text) for call in calls for text in (call.function, call.file, call.module) if text)
+        return any(self.pattern.search(text) for call in calls
+                   for text in (call.function, call.file, call.module) if text)
 
 
 @dataclass(frozen=True)
 class FirstCalls:
-    """Valgrind's: patterns of the innermost calls, each with its kind, and the kinds of leaks that it is for; of all where it names none."""
+    """Valgrind's: patterns of the innermost calls, each with its kind, and the kinds of leaks that
+    it is for; of all where it names none."""
     frames: tuple
     kinds: frozenset = frozenset()
 
@@ -61,7 +64,8 @@ def frame_of(line):
     if line == ANY_FRAMES:
         return ANY_FRAMES, ""
     if kind == "fun" and pattern.startswith("_Z"):
-        return (MANGLED, pattern) if "*" in pattern or "?" in pattern else (kind, short_name(demangled([pattern])[pattern]))
+        return ((MANGLED, pattern) if "*" in pattern or "?" in pattern
+                else (kind, short_name(demangled([pattern])[pattern])))
     if kind == "fun":
         return kind, pattern
     if kind == "obj":
@@ -78,15 +82,17 @@ def kinds_in(line):
 
 
 def first_calls(lines):
-    """The suppression of lines between braces: its name, its kind, and frames; or nothing where it is of no leak. The call of malloc in
-    front isn't told in a stack."""
+    """The suppression of lines between braces: its name, its kind, and frames; or nothing where it
+    is of no leak. The call of malloc in front isn't told in a stack."""
     if len(lines) < 3 or ":" not in lines[1]:
         raise Malformed(lines[0] if lines else "}")
     if not lines[1].split(":")[1].startswith("Leak"):
         return None
     frames = [line for line in lines[2:] if not line.startswith(KINDS_LINE)]
-    kinds = frozenset(kind for line in lines[2:] if line.startswith(KINDS_LINE) for kind in kinds_in(line))
-    if frames and frames[0].startswith("fun:") and any(fnmatchcase(name, frames[0][4:]) for name in ALLOCATORS):
+    kinds = frozenset(kind for line in lines[2:] if line.startswith(KINDS_LINE)
+                      for kind in kinds_in(line))
+    if frames and frames[0].startswith("fun:") and any(fnmatchcase(name, frames[0][4:])
+                                                       for name in ALLOCATORS):
         frames = frames[1:]
     return FirstCalls(tuple(frame_of(line) for line in frames), kinds)
 
@@ -122,13 +128,20 @@ def suppressions_in(text):
 
 
 def by_symbols(suppressions, paths):
-    """Suppressions in which the functions of these files stand for each name of the linker's with a `*`."""
-    wanted = {pattern for one in suppressions if isinstance(one, FirstCalls) for kind, pattern in one.frames if kind == MANGLED}
-    symbols = {name for path in paths for _, _, name in symbols_in(path) if name.startswith("_Z")} if wanted else set()
-    fitting = {pattern: [name for name in symbols if fnmatchcase(name, pattern)] for pattern in wanted}
-    plain = demangled(sorted({name for names in fitting.values() for name in names})) if symbols else {}
-    told = {pattern: frozenset(short_name(plain[name]) for name in names) for pattern, names in fitting.items()}
-    return [FirstCalls(tuple((kind, told.get(pattern, pattern) if kind == MANGLED else pattern) for kind, pattern in one.frames), one.kinds)
+    """Suppressions in which the functions of these files stand for each name of the linker's with a
+    `*`."""
+    wanted = {pattern for one in suppressions if isinstance(one, FirstCalls)
+              for kind, pattern in one.frames if kind == MANGLED}
+    symbols = {name for path in paths for _, _, name in symbols_in(path)
+               if name.startswith("_Z")} if wanted else set()
+    fitting = {pattern: [name for name in symbols if fnmatchcase(name, pattern)]
+               for pattern in wanted}
+    plain = demangled(sorted({name for names in fitting.values()
+                              for name in names})) if symbols else {}
+    told = {pattern: frozenset(short_name(plain[name]) for name in names)
+            for pattern, names in fitting.items()}
+    return [FirstCalls(tuple((kind, told.get(pattern, pattern) if kind == MANGLED else pattern)
+                             for kind, pattern in one.frames), one.kinds)
             if isinstance(one, FirstCalls) else one for one in suppressions]
 
 

@@ -3,8 +3,8 @@ import html
 
 
 def shown(raw):
-    """Bytes as text, from which they can be told: a byte that isn't UTF-8 is \\xNN, a character that nobody sees \\u{N}, and a
-    backslash stands twice."""
+    """Bytes as text, from which they can be told: a byte that isn't UTF-8 is \\xNN, a character
+    that nobody sees \\u{N}, and a backslash stands twice."""
     text = raw.replace(b"\\", b"\\\\").decode("utf-8", "backslashreplace")
     if text.isprintable():
         return text

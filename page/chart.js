@@ -13,7 +13,8 @@ function ticks(most, count) {
 
 // Bytes at a tick, in larger units where there are many, or where there is little room.
 function shortBytes(value, most, narrow) {
-  const units = [[1e9, "GB"], [1e6, "MB"], ...(narrow ? [[1e3, "kB"]] : [])];
+  const units = [[1e18, "EB"], [1e15, "PB"], [1e12, "TB"], [1e9, "GB"], [1e6, "MB"],
+    ...(narrow ? [[1e3, "kB"]] : [])];
   const unit = units.find(([size]) => most >= (narrow ? 2 : 10) * size);
   return unit ? `${value / unit[0]} ${unit[1]}` : told(value);
 }
@@ -34,7 +35,9 @@ function seriesOf() {
     const values = [];
     let held = 0, at = 0;
     for (let point = 0; point < data.points.length; point++) {
-      for (; at < changes.length && changes[at] <= point; at += 6) held += changes[at + 1];
+      for (; at < changes.length && changes[at] <= point; at += 6) {
+        held = plus(held, changes[at + 1]);
+      }
       values.push(held);
     }
     return values;
@@ -48,19 +51,23 @@ function areOthers(group) {
 
 // The greatest groups, the greatest first, and the rest as one, which names its own greatest.
 function bandsOf(groups) {
-  groups.forEach((group) => { group.most = Math.max(...group.numbers); group.peak = group.numbers[data.peak]; });
+  groups.forEach((group) => {
+    group.most = mostOf(group.numbers);
+    group.peak = group.numbers[data.peak];
+  });
   const held = groups.filter((group) => group.most > 0 && !areOthers(group)), others = groups.filter(areOthers);
-  held.sort((one, other) => other.most - one.most || (one.told < other.told ? -1 : 1));
-  const whole = groups.reduce((sum, group) => sum + group.peak, 0);
-  const shown = held.slice(0, MOST_BANDS).reduce((sum, group) => sum + group.peak, 0);
-  if (shown < SHARE_OF_PEAK * whole) held.sort((one, other) => other.peak - one.peak || (one.told < other.told ? -1 : 1));
+  held.sort((one, other) => falling(one.most, other.most) || (one.told < other.told ? -1 : 1));
+  const peaks = (some) => sumOf(some.map((group) => group.peak)), whole = peaks(groups);
+  if (shareOf(peaks(held.slice(0, MOST_BANDS)), whole) < SHARE_OF_PEAK) {
+    held.sort((one, other) => falling(one.peak, other.peak) || (one.told < other.told ? -1 : 1));
+  }
   const bands = held.slice(0, MOST_BANDS).map((group, at) => ({ name: `s${at}`, told: group.told, values: group.numbers }));
   const rest = held.slice(MOST_BANDS);
   if (rest.length) {
     const greatest = rest.reduce((best, group) => group.most > best.most ? group : best), all = [...rest, ...others];
-    const values = data.points.map((_, point) => all.reduce((sum, group) => sum + group.numbers[point], 0));
+    const values = data.points.map((_, point) => sumOf(all.map((group) => group.numbers[point])));
     bands.push({ name: "rest", told: `${counted(rest.length, "other")}${others.length ? " and more" : ""}, with ` +
-      `${(100 * values[data.peak] / Math.max(whole, 1)).toFixed(0)} % of the peak, the greatest ${greatest.told}`, values });
+      `${percent(values[data.peak], whole)} of the peak, the greatest ${greatest.told}`, values });
   }
   return bands;
 }
@@ -83,7 +90,7 @@ class Frame {
   }
 
   y(value) {
-    return this.bottom - (this.bottom - TOP) * value / this.most;
+    return this.bottom - (this.bottom - TOP) * Number(value) / this.most;
   }
 
   // Bytes at the left, and below what `named` tells of each tick.
@@ -145,7 +152,7 @@ class Chart {
 
   // Draws the chart for the width that there is.
   redraw() {
-    const most = Math.max(...data.points.map((point) => Math.max(point[1], point[3] || 0)));
+    const most = Number(mostOf(data.points.flatMap(([, bytes, , reach]) => [bytes, reach || 0])));
     this.frame = new Frame(this.box, this.span, most);
     const seconds = data.ages.length && !this.frame.narrow;
     const axes = this.frame.axes((line) => told(line) + (seconds ? ` · ${secondsAt(line).toFixed(1)} s` : ""),
@@ -162,7 +169,7 @@ class Chart {
   areas() {
     let below = this.lines.map(() => 0);
     return this.bands.map((band) => {
-      const above = band.values.map((value, point) => value + below[point]);
+      const above = band.values.map((value, point) => plus(value, below[point]));
       const path = draw("path", { class: band.name, d: this.frame.steps(this.lines, above) + this.frame.back(this.lines, below) }, draw("title", {}, band.told));
       below = above;
       return path;
@@ -237,7 +244,8 @@ class Chart {
   // Who holds how much at the point that was last told.
   tellWords() {
     const point = this.at, [line, bytes, blocks, reach, , largest] = data.points[point];
-    const groups = between(0, point).filter((group) => group.numbers[AFTER]).sort((one, other) => other.numbers[AFTER] - one.numbers[AFTER]).slice(0, 5);
+    const groups = between(0, point).filter((group) => group.numbers[AFTER])
+      .sort(fallingBy((group) => group.numbers[AFTER])).slice(0, 5);
     const words = groups.map((group) => `${told(group.numbers[AFTER])} at ${group.told}`).join("; ");
     const heap = data.fits ? `, reach ${told(reach)}, largest free block ${told(largest)}` : "";
     find("readout").replaceChildren(isolated(`Line ${told(line)}${point === data.peak && bytes ? " (peak)" : ""}: ${counted(bytes, "byte")} in ` +

@@ -7,7 +7,8 @@ MOST_SITES, MOST_TEXT = 5000, 1_200_000
 
 
 def name_of(log, site):
-    """What a site is compared by: its function and file, and no line, since a line that is inserted moves those behind it."""
+    """What a site is compared by: its function and file, and no line, since a line that is inserted
+    moves those behind it."""
     function = log.sites[site].function
     return " ".join(filter(None, (function.short, function.file))) or NO_NAME
 
@@ -16,25 +17,29 @@ def sums_by_name(log):
     """Bytes at the end and at the peak, and calls, of the sites of each function."""
     sums = {}
     for site, location in enumerate(log.locations):
-        numbers = (log.at_end.get(location, (0, 0))[0], log.at_peak.get(location, (0, 0))[0], log.calls[site])
+        numbers = (log.at_end.get(location, (0, 0))[0], log.at_peak.get(location, (0, 0))[0],
+                   log.calls[site])
         name = name_of(log, site)
         sums[name] = tuple(one + other for one, other in zip(sums.get(name, (0, 0, 0)), numbers))
     return sums
 
 
 def rows_of(old, new):
-    """For each name what grew at the end and at the peak, and calls: each as growth, old, new; those that grew most first."""
+    """For each name what grew at the end and at the peak, and calls: each as growth, old, new;
+    those that grew most first."""
     one, other = sums_by_name(old), sums_by_name(new)
     rows = []
     for name in {**one, **other}:
         numbers = zip(one.get(name, (0, 0, 0)), other.get(name, (0, 0, 0)))
-        rows.append((name, [number for before, after in numbers for number in (after - before, before, after)]))
+        rows.append((name, [number for before, after in numbers
+                            for number in (after - before, before, after)]))
     return sorted(rows, key=lambda row: (-row[1][0], -row[1][3], row[0]))
 
 
 def kept_rows(rows):
     """The rows for which there is room, and the rest as one: those that changed least."""
-    order = sorted(rows, key=lambda row: max(abs(row[1][0]), abs(row[1][3]), abs(row[1][6])), reverse=True)
+    order = sorted(rows, key=lambda row: max(abs(row[1][0]), abs(row[1][3]), abs(row[1][6])),
+                   reverse=True)
     kept, text = [], 0
     for name, numbers in order[:MOST_SITES]:
         text += len(name)
@@ -43,7 +48,8 @@ def kept_rows(rows):
         kept.append([name, *numbers])
     rest = order[len(kept):]
     if rest:
-        kept.append([f"{counted(len(rest), 'other function')} together", *map(sum, zip(*(numbers for _, numbers in rest)))])
+        kept.append([f"{counted(len(rest), 'other function')} together",
+                     *map(sum, zip(*(numbers for _, numbers in rest)))])
     return kept
 
 
@@ -54,8 +60,10 @@ def all_rows(old, new):
 
     pairs = [("Lines", old.lines, new.lines), ("Sites", len(old.locations), len(new.locations)),
              ("Functions", len(old.function_ids), len(new.function_ids)),
-             ("Calls", sum(old.calls), sum(new.calls)), ("Bytes asked for", sum(old.asked), sum(new.asked))]
-    for name, line in (("at the peak", lambda log: log.peak), ("at the end", lambda log: log.lines)):
+             ("Calls", sum(old.calls), sum(new.calls)), ("Bytes asked for", sum(old.asked),
+                                                         sum(new.asked))]
+    for name, line in (("at the peak", lambda log: log.peak),
+                       ("at the end", lambda log: log.lines)):
         one, other = row_at(old, line(old)), row_at(new, line(new))
         pairs += [(f"Bytes {name}", one[1], other[1]), (f"Blocks {name}", one[2], other[2])]
         pairs += [(f"Reach {name}", one[3], other[3])] if old.fits and new.fits else []
@@ -75,8 +83,7 @@ def head_of(old, new, rows):
     yield "Grew at the peak", grown_words(at_peak, 3)
     for log in (old, new):
         if not log.fits:
-            yield "Refused", f"{log.name}: one heap refuses {counted(log.refused, 'line')}, the first is line {log.first_refused:,}. " \
-                "The sums here are those without a heap."
+            yield "Refused", f"{log.name}: one heap refuses {counted(log.refused, 'line')}, the first is line {log.first_refused:,}. " "The sums here are those without a heap."
 
 
 def change_words(numbers):
@@ -95,7 +102,8 @@ def grown_words(row, at):
 
 def head_html(lines):
     """The head's lines."""
-    return "".join(f'<p><b>{escaped(name)}</b> <span id="{name.lower().replace(" ", "-")}"><bdi>{escaped(text)}</bdi></span></p>\n'
+    return "".join(f'<p><b>{escaped(name)}</b> <span '
+                   f'id="{name.lower().replace(" ", "-")}"><bdi>{escaped(text)}</bdi></span></p>\n'
                    for name, text in lines)
 
 
@@ -104,7 +112,10 @@ def comparison_of(folder, old, new):
     for log in (old, new):
         log.tell_by(old.functions.general | new.functions.general)
     rows = rows_of(old, new)
-    data = {"rows": kept_rows(rows), "all": all_rows(old, new), "points": [[list(row[:3]) for row in log.rows] for log in (old, new)]}
+    data = {"rows": kept_rows(rows), "all": all_rows(old, new),
+            "points": [[list(row[:3]) for row in log.rows] for log in (old, new)]}
     title = f"{old.name} and {new.name}: what grew"
-    return write_document(folder, "comparison.html", title, data, {
-        "head": head_html(head_of(old, new, rows)), "old": escaped(f"{old.name} (old)"), "new": escaped(f"{new.name} (new)")})
+    return write_document(folder, "comparison.html", title, data,
+                          {"head": head_html(head_of(old, new, rows)),
+                           "old": escaped(f"{old.name} (old)"),
+                           "new": escaped(f"{new.name} (new)")})

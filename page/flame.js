@@ -43,8 +43,8 @@ class Flame {
     if (width < 1) return;
     this.place(node, x, width);
     let at = x;
-    for (const child of [...node.children].sort((one, other) => this.value(other) - this.value(one))) {
-      const part = width * this.value(child) / (this.value(node) || 1);
+    for (const child of [...node.children].sort(fallingBy((each) => this.value(each)))) {
+      const part = width * shareOf(this.value(child), this.value(node));
       this.spread(child, at, part);
       at += part;
     }
@@ -52,7 +52,7 @@ class Flame {
 
   place(node, x, width) {
     this.depth = Math.max(this.depth, node.depth);
-    const y = node.depth * FLAME_ROW, part = 100 * this.value(node) / (this.value(this.root) || 1);
+    const y = node.depth * FLAME_ROW, part = 100 * shareOf(this.value(node), this.value(this.root));
     const unit = ["byte", "byte", "call", "temporary block"][this.measure];
     const words = `${node.name}: ${counted(this.value(node), unit)}, ${part.toFixed(1)} %`;
     const letters = Math.floor((width - 6) / 7);

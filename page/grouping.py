@@ -18,7 +18,8 @@ def groups_of(log):
     groups = {}
     for site, of in enumerate(log.function_of):
         groups.setdefault(of, []).append(site)
-    return [Group(log.functions.label(log.sites[sites[0]].function), sites) for sites in groups.values()]
+    return [Group(log.functions.label(log.sites[sites[0]].function), sites)
+            for sites in groups.values()]
 
 
 def held_by(part, log, group):
@@ -41,11 +42,13 @@ def series_of(log, groups):
 
 
 def stacked(log, groups):
-    """The greatest groups with their bytes at each point, the greatest first, and the rest as one."""
+    """The greatest groups with their bytes at each point, the greatest first, and the rest as
+    one."""
     series = series_of(log, groups)
     most = [max(values, default=0) for values in series]
     peak = [held_by(log.at_peak, log, group) for group in groups]
-    order = sorted((row for row in range(len(groups)) if most[row] > 0), key=lambda row: (-most[row], groups[row].told))
+    order = sorted((row for row in range(len(groups)) if most[row] > 0),
+                   key=lambda row: (-most[row], groups[row].told))
     if sum(peak[row] for row in order[:TOP]) < SHARE * sum(peak):
         order.sort(key=lambda row: (-peak[row], groups[row].told))
     bands = [Band(f"s{at}", groups[row].told, series[row]) for at, row in enumerate(order[:TOP])]
@@ -54,5 +57,7 @@ def stacked(log, groups):
         values = [sum(held) for held in zip(*(series[row] for row in rest))]
         greatest = max(rest, key=lambda row: most[row])
         share = 100 * sum(peak[row] for row in rest) / max(sum(peak), 1)
-        bands.append(Band("rest", f"{counted(len(rest), 'other')}, with {share:.0f} % of the peak, the greatest {groups[greatest].told}", values))
+        bands.append(Band("rest",
+                          f"{counted(len(rest), 'other')}, with {share:.0f} % of the peak, the "
+                          f"greatest {groups[greatest].told}", values))
     return bands

@@ -7,10 +7,11 @@ const KIND_NAMES = ["too long", "not a line", "not held", "already held", "refus
 // The groups that hold most, by one of their numbers, in words, each with its share.
 function greatest(groups, place) {
   const held = groups.map((group) => [group.numbers[place], group.told]);
-  held.sort(([one, name], [other, otherName]) => other - one || (name < otherName ? -1 : 1));
-  const whole = held.reduce((sum, [bytes]) => sum + bytes, 0);
+  const byName = ([, one], [, other]) => one < other ? -1 : 1;
+  held.sort((one, other) => falling(one[0], other[0]) || byName(one, other));
+  const whole = sumOf(held.map(([bytes]) => bytes));
   return held.slice(0, NAMED).filter(([bytes]) => bytes)
-    .map(([bytes, name]) => `${name}: ${told(bytes)} (${(100 * bytes / whole).toFixed(0)} %)`).join("; ");
+    .map(([bytes, name]) => `${name}: ${told(bytes)} (${percent(bytes, whole)})`).join("; ");
 }
 
 // ---- who grows steadily
@@ -47,13 +48,14 @@ function beginsOfEighths(end) {
 
 // A group as it grows: its floors, and whether it holds at the end what it grew to.
 function growthOf(group, begins) {
-  const { numbers } = group, floors = begins.slice(0, EIGHTHS).map((begin) => Math.min(...numbers.slice(begin, begins[EIGHTHS])));
+  const { numbers } = group, floorFrom = (begin) => leastOf(numbers.slice(begin, begins[EIGHTHS]));
+  const floors = begins.slice(0, EIGHTHS).map(floorFrom);
   return { group, floors, isKept: numbers[numbers.length - 1] >= floors[EIGHTHS - 1] };
 }
 
 // By how much the floor rose up to a part, by default the last; those that rose most come first.
-const rise = ({ floors }, part = EIGHTHS - 1) => floors[part] - floors[0];
-const inOrder = (growths, part) => growths.sort((one, other) => rise(other, part) - rise(one, part));
+const rise = ({ floors }, part = EIGHTHS - 1) => minus(floors[part], floors[0]);
+const inOrder = (growths, part) => growths.sort(fallingBy((growth) => rise(growth, part)));
 
 function isSteady({ floors }) {
   const quarters = floors.filter((_, part) => part % 2 === 0);
@@ -98,8 +100,9 @@ const areTooFew = (begins) => begins.some((begin, part) => begin >= begins[part 
 function growsSteadily(groups, totals) {
   const end = pointBeforeEnd(), begins = beginsOfEighths(end);
   if (areTooFew(begins)) return "Not told: too few lines are drawn.";
-  const held = groups.filter((group) => !areOthers(group)).map((group) => [group, Math.max(...group.numbers)]);
-  const looked = held.sort(([, one], [, other]) => other - one).slice(0, MOST_LOOKED_AT).map(([group]) => group);
+  const held = groups.filter((group) => !areOthers(group));
+  const looked = held.map((group) => [group, mostOf(group.numbers)])
+    .sort(fallingBy(([, most]) => most)).slice(0, MOST_LOOKED_AT).map(([group]) => group);
   const growers = inOrder(looked.map((group) => growthOf(group, begins)).filter(isSteady));
   return growers.length ? steadyWords(growers, end, totals) : mostGrownWords(looked, totals);
 }
@@ -136,10 +139,9 @@ function withinWords(limits) {
 
 // What `fit` tells, in a line, and what the sure pool rests on.
 function poolWords() {
-  const { refused, firstRefused, limits } = data.head, fit = Object.fromEntries(data.fit);
+  const { limits } = data.head, fit = Object.fromEntries(data.fit);
   if (!data.fits) {
-    return `No single heap serves this log: the one tried refuses ${counted(refused, "line")}, the first is line ${told(firstRefused)}. ` +
-      partsWords(fit);
+    return `No single heap serves this log. ${partsWords(fit)}`;
   }
   const [sure, safe, least] = ["sure", "safe", "least"].map((name) => poolBytes(fit, `${name} pool`));
   const records = isNumber(fit.records) ? told(Number(fit.records)) : fit.records;
@@ -150,6 +152,27 @@ function poolWords() {
   return (sure ? `sure ${sure}; ` : "none is sure; ") + served + (sure ? ` The sure pool serves any log ${withinWords(limits)}.` : needs);
 }
 
+// ---- what the log lacks, a line each, in front of all others
+
+// Whether the process went on without its log: what isn't freed there may have been freed later.
+const wentOn = () => data.head.end === "left";
+
+function lackLines() {
+  const { end, missed, refused, firstRefused, sites, cutStacks } = data.head;
+  return [
+    wentOn() && ["Cut", "The log could not go on, and its process did: what was freed later " +
+      "isn't known, so no leak is told."],
+    missed && ["Lost", "The log's ring had no room for at least " +
+      `${counted(exact(missed), "call")}, and they are lost.`],
+    end === "ended" && ["No end", "A signal ended the process, or lines are missing: so what " +
+      "isn't freed here may have been."],
+    !data.fits && ["Refused", `One heap refuses ${counted(refused, "line")}, the first is line ` +
+      `${told(firstRefused)}: sums here are those without a heap.`],
+    cutStacks && ["Stacks cut", `The stacks of ${told(cutStacks)} of ${counted(sites, "site")} ` +
+      "are cut: tlsf-trace --frames tells more of their calls."],
+  ].filter(Boolean);
+}
+
 // ---- its lines
 
 function readWords() {
@@ -158,16 +181,8 @@ function readWords() {
   // Without names each site is a function for itself.
   const functions = data.named ? ` in ${counted(data.functions.length - 1, "function")}` : "";
   return `${data.log}: ${counted(data.lines, "line")}, ${counted(sites, "site")}${functions}, ` +
-    (each ? `${counted(data.faulty, "diagnostic")} (${each}).` : "no diagnostic.") +
-    (data.head.end === "ended" ? " It has no end: a signal ended its process, or lines are missing." : "");
-}
-
-// Whether the process went on without its log: what isn't freed there may have been freed later.
-const wentOn = () => data.head.end === "left";
-
-// The first line of such a log.
-function cutLines() {
-  return wentOn() ? [["Cut", "The log could not go on, and its process did: what was freed later isn't known, so no leak is told."]] : [];
+    (each ? `${counted(data.faulty, "diagnostic")}, the first of line ` +
+      `${told(data.diagnostics[0][0])} (${each}).` : "no diagnostic.");
 }
 
 // The parts of what isn't freed, where they are known.
@@ -211,7 +226,6 @@ function headLines() {
   const groups = grouped(totalRows, data.totals), atPeak = data.points[data.peak], atEnd = data.points[data.points.length - 1];
   const holders = atPeak[1] ? `. ${greatest(groups, PLACES[0])}` : "";
   return [
-    ...cutLines(),
     ["Read", readWords()],
     ...bareLines(),
     ["Peak", `${counted(atPeak[1], "byte")} in ${counted(atPeak[2], "block")}, after line ${told(atPeak[0])}${holders}.`],
@@ -221,7 +235,13 @@ function headLines() {
   ];
 }
 
+// Lines as elements, with an attribute of each.
+function lineElements(lines, look) {
+  return lines.map(([name, words]) => make("p", look, make("b", {}, name), " ",
+    make("span", { id: name.toLowerCase().replaceAll(" ", "-") }, isolated(words))));
+}
+
 function showHead() {
-  find("head").replaceChildren(...headLines().map(([name, words]) => make("p", {}, make("b", {}, name), " ",
-    make("span", { id: name.toLowerCase().replaceAll(" ", "-") }, isolated(words)))));
+  find("head").replaceChildren(...lineElements(lackLines(), { class: "lack" }),
+    ...lineElements(headLines(), {}));
 }

@@ -1,4 +1,5 @@
-"""Reads a log for what no report tells: what each site holds, asks for and gives back between the points."""
+"""Reads a log for what no report tells: what each site holds, asks for and gives back between the
+points."""
 import sys
 import time
 from array import array
@@ -27,7 +28,8 @@ class Numbers(dict):
 
 
 class Sites(dict):
-    """What happened at each site since the last point, by its location; the empty one is that of lines without any."""
+    """What happened at each site since the last point, by its location; the empty one is that of
+    lines without any."""
 
     def __missing__(self, location):
         counts = self[location] = [0, 0, 0, 0, 0]
@@ -61,15 +63,18 @@ def parts_of(words):
 
 
 class Reading:
-    """A log that is read line by line. Lines that a report found something wrong with are read by what it says."""
+    """A log that is read line by line. Lines that a report found something wrong with are read by
+    what it says."""
 
     def __init__(self):
         self.held, self.sites, self.numbers, self.aligned = {}, Sites(), Numbers(), set()
         self.last = self.taken = None
 
     def take_whole(self, lines):
-        """Reads lines without a diagnostic: each is well formed, and served. The two frequent forms come first."""
-        held, sites, numbers, free, last = self.held, self.sites, self.numbers, self.held.pop, self.last
+        """Reads lines without a diagnostic: each is well formed, and served. The two frequent forms
+        come first."""
+        held, sites, numbers, free, last = (self.held, self.sites, self.numbers, self.held.pop,
+                                            self.last)
         for line in lines:
             words = line.split()
             if len(words) == 4 and words[2] == b"-":
@@ -118,7 +123,8 @@ class Reading:
         return form == b">" or form == b"*"
 
     def take_faulty(self, line, kinds):
-        """Reads a line with diagnostics. What is held after it is as docs/FORMATS.md, "What a line does", has it."""
+        """Reads a line with diagnostics. What is held after it is as docs/FORMATS.md, "What a line
+        does", has it."""
         self.last = None
         if not kinds.isdisjoint((TOO_LONG, NOT_A_LINE, HALF, STRAY, ALREADY_HELD)):
             return
@@ -133,16 +139,20 @@ class Reading:
 
 def snapshot(reading, indices):
     """What has changed at each site since the snapshot before."""
-    changes = array("q")
+    changes = []
     for location, (asked, calls, freed, frees, temporary) in reading.sites.items():
         index = indices.setdefault(location, len(indices))
-        changes.extend((index, asked - freed, calls - frees, calls, asked, temporary))
+        changes += (index, asked - freed, calls - frees, calls, asked, temporary)
     reading.sites.clear()
-    return changes
+    try:
+        return array("q", changes)
+    except OverflowError:
+        return changes
 
 
 def faulty_lines(found):
-    """The numbers of lines with diagnostics, each with the kinds of these, and one behind all at the end."""
+    """The numbers of lines with diagnostics, each with the kinds of these, and one behind all at
+    the end."""
     number, kinds = 0, set()
     for line, kind, _ in found:
         if line != number and kinds:
@@ -169,8 +179,8 @@ def read_up_to(log, reading, number, point, faulty, bad):
 
 
 def read_log(path, points, found, progress):
-    """The locations of a log in order of appearance, and for each point the changes since the one before: by site, and by power of
-    two the calls and bytes. And what was asked for."""
+    """The locations of a log in order of appearance, and for each point the changes since the one
+    before: by site, and by power of two the calls and bytes. And what was asked for."""
     reading, indices = Reading(), {}
     faulty = faulty_lines(found)
     bad = next(faulty)

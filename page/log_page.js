@@ -24,8 +24,12 @@ function peakTable() {
   const table = new Table(find("table-peak"), "Held at the peak", [SITE, number("Bytes"), number("Blocks"), share("Of all bytes")], 1);
   return () => {
     const groups = grouped(totalRows, data.totals);
-    const all = groups.reduce((sum, group) => sum + group.numbers[0], 0) || 1;
-    table.set(groups.filter((group) => group.numbers[1]).map((group) => [group, group.numbers[0], group.numbers[1], group.numbers[0] / all]));
+    const all = sumOf(groups.map((group) => group.numbers[0]));
+    const held = groups.filter(({ numbers }) => numbers[1]);
+    table.set(held.map((group) => {
+      const [bytes, blocks] = group.numbers;
+      return [group, bytes, blocks, shareOf(bytes, all)];
+    }));
   };
 }
 
@@ -41,11 +45,12 @@ function leakTable() {
       const row = totalRows[at], key = keyOf(row);
       const [group, sums, apart] = groups.get(key) || [{ key, told: nameOf(row), rows: [] }, [0, 0, first, last, least, most], lost.map(() => 0)];
       group.rows.push(row);
-      groups.set(key, [group, [sums[0] + bytes, sums[1] + blocks, Math.min(sums[2], first), Math.max(sums[3], last),
-        Math.min(sums[4], least), Math.max(sums[5], most)], apart.map((sum, place) => sum + lost[place])]);
+      groups.set(key, [group, [plus(sums[0], bytes), sums[1] + blocks, Math.min(sums[2], first),
+        Math.max(sums[3], last), leastOf([sums[4], least]), mostOf([sums[5], most])],
+      apart.map((sum, place) => plus(sum, lost[place]))]);
     }
     // Where nothing more is lost, those first that hold most.
-    const inOrder = [...groups.values()].sort(([, [one]], [, [other]]) => other - one);
+    const inOrder = [...groups.values()].sort(fallingBy(([, [bytes]]) => bytes));
     table.set(inOrder.map(([group, sums, apart]) => [group, ...apart, ...sums]));
   };
 }
@@ -53,7 +58,9 @@ function leakTable() {
 function tablesOfRange() {
   const tables = {
     grown: new Table(find("table-grown"), "Grown", [SITE, grown("Grown by"), number("Bytes before"), number("Bytes after"),
-      number("Blocks before"), number("Blocks after")], 1),
+      number("Blocks before"), number("Blocks after")], 1).folding(
+      ([, bytes, , , before, after]) => !bytes && before === after,
+      (count) => `${counted(count, CHOICES[choice], MANY[choice])} without a change`),
     calls: new Table(find("table-calls"), "Calls", [SITE, number("Calls"), number("Bytes asked for")], 1),
     temporary: new Table(find("table-temporary"), "Temporary", [SITE, number("Temporary blocks"), number("Calls"), share("Of the calls")], 1),
     sizes: new Table(find("table-sizes"), "Sizes", [{ name: "Bytes of a block", show: (size) => sizeName(Math.log2(size)) }, number("Calls"),
@@ -66,7 +73,8 @@ function showRange(tables, from, to) {
   const groups = between(from, to);
   const range = `lines ${told(data.points[from][0] + (from < to ? 1 : 0))} to ${told(data.points[to][0])}`;
   tables.grown.set(groups.filter(({ numbers }) => numbers[CALLS] || numbers[BEFORE] || numbers[AFTER]).map((group) => [group,
-    group.numbers[AFTER] - group.numbers[BEFORE], ...group.numbers.slice(0, 4)]), `Grown by ${CHOICES[choice]}, ${range}`);
+    minus(group.numbers[AFTER], group.numbers[BEFORE]), ...group.numbers.slice(0, 4)]),
+  `Grown by ${CHOICES[choice]}, ${range}`);
   tables.calls.set(groups.filter(({ numbers }) => numbers[CALLS]).map((group) => [group, group.numbers[CALLS], group.numbers[ASKED]]),
     `Calls by ${CHOICES[choice]}, ${range}`);
   tables.temporary.set(groups.filter(({ numbers }) => numbers[TEMPORARY]).map((group) => [group, group.numbers[TEMPORARY], group.numbers[CALLS],

@@ -75,8 +75,8 @@ class TimeChart(Chart):
             told = seconds(time)
             at_end = self.x(time) + HALF * len(told) > self.width
             x, anchor = (self.width - 1, "end") if at_end else (number(self.x(time)), "middle")
-            parts.append(f'<path class="grid" d="M{number(self.x(time))} {BOTTOM}v5"/><text x="{x}" '
-                         f'y="{BOTTOM + 18}" text-anchor="{anchor}">{told}</text>')
+            parts.append(f'<path class="grid" d="M{number(self.x(time))} {BOTTOM}v5"/><text '
+                         f'x="{x}" ' f'y="{BOTTOM + 18}" text-anchor="{anchor}">{told}</text>')
         parts.append(f'<text class="soft" x="{number((self.left + self.right) / 2)}" '
                      f'y="{BOTTOM + 35}" text-anchor="middle">seconds since the log began</text>')
         return "".join(parts)
@@ -154,8 +154,8 @@ def chart_of(over_time):
     return (f'<section>\n<h2>Bytes held over time</h2>\n<div id="chart">{drawings}</div>\n'
             f'<ul id="legend">{legend_of(bands)}</ul>\n'
             f'<p class="hint">{escaped(" ".join(hints_of(over_time, points)))}</p>\n'
-            f"<details><summary>The chart's numbers</summary>{point_table(points, bands)}</details>\n"
-            "</section>\n")
+            f"<details><summary>The chart's "
+            f"numbers</summary>{point_table(points, bands)}</details>\n" "</section>\n")
 
 
 # ---- tables
@@ -197,6 +197,11 @@ def numbers_of(over_time, numbers):
             *(f"{value:,}" for pair in numbers[count:] for value in pair)]
 
 
+def sums_of(numbers):
+    """The numbers of some rows, bytes and blocks each, together."""
+    return [tuple(map(sum, zip(*pairs))) for pairs in zip(*numbers)]
+
+
 def kept_rows(rows, what):
     """The rows for which there is room, and the others as one."""
     text, count = 0, 0
@@ -206,20 +211,38 @@ def kept_rows(rows, what):
     rest = rows[count:]
     if not rest:
         return rows
-    sums = [tuple(map(sum, zip(*pairs))) for pairs in zip(*(numbers for _, numbers in rest))]
+    sums = sums_of([numbers for _, numbers in rest])
     return [*rows[:count], (f"{counted(len(rest), f'other {what}')} together", sums)]
+
+
+def is_still(over_time, numbers):
+    """Whether what a row tells is the same at all times."""
+    return (len(over_time.points) > 1 and numbers[0] == (0, 0)
+            and all(held == numbers[1] for held in numbers[2:]))
 
 
 def grown_table(over_time, what, name_of):
     """Who grew between the last two snapshots, and what they hold. In front stands the sum of all,
-    which is the report's."""
+    which is the report's. Those without a change stand apart, folded."""
     title = "Held"
     if len(over_time.points) > 1:
         before, last = (seconds(point.milliseconds) for point in over_time.points[-2:])
         title = f"Grown from {before} to {last} seconds"
-    rows = [("In all", over_time.sums), *kept_rows(over_time.rows(name_of), what)]
-    return table_of(f"{what}s", title, [what.capitalize(), *columns_of(over_time)],
-                    [[name, *numbers_of(over_time, numbers)] for name, numbers in rows], "text")
+    rows, columns = over_time.rows(name_of), [what.capitalize(), *columns_of(over_time)]
+    changed, still = ([row for row in rows if is_still(over_time, row[1]) == which]
+                      for which in (False, True))
+
+    def table(name, words, first, part):
+        told = [[of, *numbers_of(over_time, numbers)]
+                for of, numbers in [first, *kept_rows(part, what)]]
+        return table_of(name, words, columns, told, "text")
+
+    grown = table(f"{what}s", title, ("In all", over_time.sums), changed)
+    if not still:
+        return grown
+    words = f"{counted(len(still), what)} without a change"
+    folded = table(f"still-{what}s", words, ("Together", sums_of([row[1] for row in still])), still)
+    return f"{grown}<details><summary>{words}</summary>{folded}</details>\n"
 
 
 def point_table(points, bands):
@@ -253,7 +276,8 @@ def held_words(over_time):
     parts = [("At first", whole[0]), ("At last", whole[-1])] if len(whole) > 1 else [
         ("At the snapshot", one) for one in whole]
     parts += [("At the end", over_time.at_end)] if over_time.at_end else []
-    told = [f"{name} {held:,} bytes in {counted(blocks, 'block')}." for name, (held, blocks) in parts]
+    told = [f"{name} {held:,} bytes in {counted(blocks, 'block')}."
+            for name, (held, blocks) in parts]
     return " ".join(told) or "Nothing is known."
 
 
@@ -264,8 +288,8 @@ def grew_words(over_time):
     held, blocks = over_time.sums[0]
     name, ((most, more), *_) = next(iter(over_time.rows(over_time.function)), ("", [(0, 0)]))
     told = f"Most: {name}, {signed(most)} bytes in {signed(more)} blocks."
-    return (f"In all {signed(held)} bytes in {signed(blocks)} blocks from the last but one to the last. "
-            f"{told if most > 0 else 'No function grew.'}")
+    return (f"In all {signed(held)} bytes in {signed(blocks)} blocks from the last but one to the "
+            f"last. " f"{told if most > 0 else 'No function grew.'}")
 
 
 def body_of(over_time):

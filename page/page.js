@@ -9,10 +9,13 @@ window.onerror = (message) => {
 };
 
 const data = JSON.parse(document.getElementById("data").textContent);
+// Where numbers stand that may be greater than JavaScript counts.
+["points", "totals", "changes", "sizes", "leaks", "lost"].forEach((part) => {
+  data[part] = exact(data[part]);
+});
 const find = (id) => document.getElementById(id);
-const told = (number) => number.toLocaleString("en-US");
+const percent = (part, whole) => `${(100 * shareOf(part, whole)).toFixed(0)} %`;
 const signed = (number) => (number > 0 ? "+" : "") + told(number);
-const counted = (number, name) => `${told(number)} ${name}${number === 1 ? "" : "s"}`;
 
 // An element with attributes, and text or children in it. Text is never read as HTML.
 function make(name, attributes = {}, ...inside) {

@@ -1,6 +1,9 @@
 // ---- sites, and the groups that they are told by
 
 const CHOICES = { function: data.named ? "function" : "return address", namespace: "namespace or crate", file: "file", module: "module", stack: "whole stack" };
+// What many of them are called, where that isn't with an s.
+const MANY = { function: `${CHOICES.function}${data.named ? "" : "e"}s`,
+  namespace: "namespaces or crates" };
 const MEASURES = ["Bytes at the peak", "Bytes at the end", "Calls", "Temporary blocks"];
 // Where each measure stands among the totals of a row.
 const PLACES = [0, 2, 4, 6];
@@ -51,7 +54,7 @@ function grouped(rows, numbers) {
     const key = keyOf(row);
     const group = groups.get(key) || { key, told: nameOf(row), rows: [], numbers: numbers[at].map(() => 0) };
     group.rows.push(row);
-    numbers[at].forEach((value, place) => { group.numbers[place] += value; });
+    group.numbers = group.numbers.map((sum, place) => plus(sum, numbers[at][place]));
     groups.set(key, group);
   });
   return [...groups.values()];
@@ -78,8 +81,9 @@ function siteElement(group) {
 }
 
 function stacksElement(group, sites) {
-  const greatest = [...sites].sort((one, other) => data.totals[other.site][0] - data.totals[one.site][0]
-    || data.totals[other.site][5] - data.totals[one.site][5]);
+  const byTotal = (place) => fallingBy(({ site }) => data.totals[site][place]);
+  const [byPeak, byAsked] = [0, 5].map(byTotal);
+  const greatest = [...sites].sort((one, other) => byPeak(one, other) || byAsked(one, other));
   const home = make("div", { class: "stacks" });
   greatest.slice(0, MOST_STACKS).forEach(({ site }) => home.append(stackElement(site)));
   const more = group.rows.reduce((sum, row) => sum + row.count, 0) - Math.min(greatest.length, MOST_STACKS);
@@ -110,17 +114,18 @@ function between(from, to) {
 }
 
 function changesBetween(changes, from, to) {
-  const sums = [...NOTHING];
+  const sums = [...NOTHING], add = (place, more) => { sums[place] = plus(sums[place], more); };
   for (let at = 0; at < changes.length && changes[at] <= to; at += 6) {
-    sums[AFTER] += changes[at + 1];
-    sums[BLOCKS_AFTER] += changes[at + 2];
+    const [, bytes, blocks, calls, asked, temporary] = changes.slice(at, at + 6);
+    add(AFTER, bytes);
+    add(BLOCKS_AFTER, blocks);
     if (changes[at] <= from) {
-      sums[BEFORE] += changes[at + 1];
-      sums[BLOCKS_BEFORE] += changes[at + 2];
+      add(BEFORE, bytes);
+      add(BLOCKS_BEFORE, blocks);
     } else {
-      sums[CALLS] += changes[at + 3];
-      sums[ASKED] += changes[at + 4];
-      sums[TEMPORARY] += changes[at + 5];
+      add(CALLS, calls);
+      add(ASKED, asked);
+      add(TEMPORARY, temporary);
     }
   }
   return sums;
@@ -128,7 +133,8 @@ function changesBetween(changes, from, to) {
 
 function sizeName(power) {
   if (power < 2) return String(power);
-  return `${told(2 ** (power - 1))} to ${told(2 ** power - 1)}`;
+  const least = 2n ** BigInt(power - 1);
+  return `${told(least)} to ${told(2n * least - 1n)}`;
 }
 
 function sizesBetween(from, to) {
@@ -137,7 +143,7 @@ function sizesBetween(from, to) {
     for (let at = 0; at < changes.length; at += 3) {
       if (changes[at] > from && changes[at] <= to) {
         calls += changes[at + 1];
-        asked += changes[at + 2];
+        asked = plus(asked, changes[at + 2]);
       }
     }
     return [2 ** power, calls, asked];

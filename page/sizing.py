@@ -1,4 +1,5 @@
-"""What the sure pool rests on: the most blocks, the most bytes, and the largest request of a log (docs/LOG.md)."""
+"""What the sure pool rests on: the most blocks, the most bytes, and the largest request of a log
+(docs/LOG.md)."""
 from collections import namedtuple
 
 from log import NIL, parts_of
@@ -18,13 +19,15 @@ def rounded(number, unit):
 
 
 def class_size(align, size):
-    """The lowest size of the first class whose blocks all hold the request, as docs/LOG.md has it."""
+    """The lowest size of the first class whose blocks all hold the request, as docs/LOG.md has
+    it."""
     needed = rounded(max(size, 1), UNIT) + max(align - UNIT, 0)
     return rounded(needed, max(UNIT, 1 << needed.bit_length() >> 6))
 
 
 def request_of(line):
-    """Alignment and size in digits that a line asks for, and its location; nothing where it asks for none."""
+    """Alignment and size in digits that a line asks for, and its location; nothing where it asks
+    for none."""
     words = line.split()
     location, form, address, size = parts_of(words)
     if form == b"*":
@@ -33,8 +36,10 @@ def request_of(line):
 
 
 def largest_of(path, requests, unserved):
-    """The first of the log's lines that ask for the most, all of which are served; of one class that with the most bytes."""
-    wanted = max(((class_size(int(align, 16), int(size, 16)), int(size, 16)), align, size) for align, size in requests)
+    """The first of the log's lines that ask for the most, all of which are served; of one class
+    that with the most bytes."""
+    wanted = max(((class_size(int(align, 16), int(size, 16)), int(size, 16)), align, size)
+                 for align, size in requests)
     with open(path, "rb") as log:
         for number, line in enumerate(log, 1):
             if line.rstrip(b"\n").endswith(b" " + wanted[2]) and number not in unserved:
@@ -45,10 +50,12 @@ def largest_of(path, requests, unserved):
 
 
 def limits_of(path, requests, unserved, fit):
-    """The three numbers of the sure pool; without one the bytes aren't known. By another class size they would be none that this
-    log can hold. Where the greatest pool refuses lines none of them is told."""
+    """The three numbers of the sure pool; without one the bytes aren't known. By another class size
+    they would be none that this log can hold. Where the greatest pool refuses lines none of them is
+    told."""
     sure, blocks, peak = (int(text) if text.isdigit() else None
-                          for text in (fit[name].split()[0] for name in ("sure pool", "held at most", "peak")))
+                          for text in (fit[name].split()[0]
+                                       for name in ("sure pool", "held at most", "peak")))
     if not requests or not fit["records"].isdigit():
         return None
     largest = largest_of(path, requests, unserved)
@@ -56,5 +63,6 @@ def limits_of(path, requests, unserved, fit):
         return Limits(blocks, None, largest)
     whole_bytes = sure - UNIT - (blocks + 1) * (largest.class_size - UNIT)
     if not peak <= whole_bytes <= peak + UNIT * blocks:
-        raise Differs(f"the numbers differ in the sure pool: {whole_bytes} bytes in units of {UNIT}, and {peak} bytes at the peak")
+        raise Differs(f"the numbers differ in the sure pool: {whole_bytes} bytes in units of "
+                      f"{UNIT}, and {peak} bytes at the peak")
     return Limits(blocks, whole_bytes, largest)

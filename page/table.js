@@ -18,6 +18,7 @@ class Table {
     const table = make("table", {}, this.caption, make("thead", {}, this.headRow), this.body);
     home.append(make("div", { class: "scroll", tabindex: 0, role: "group", "aria-label": title || "A table" }, table), make("div", { class: "tools" }, this.search, this.count, this.more));
     tables.push(this);
+    this.isStill = () => false;
     this.search.addEventListener("input", () => this.show());
     this.more.addEventListener("click", () => { this.most += MORE_ROWS; this.show(); });
   }
@@ -30,6 +31,35 @@ class Table {
       this.show();
     });
     return make("th", { scope: "col", class: column.text ? "text" : "number" }, button);
+  }
+
+  // Rows of which this holds are folded to one, which tells how many they are. A search finds them.
+  folding(isStill, words) {
+    this.isStill = isStill;
+    this.stillWords = words;
+    this.fold = make("button", { type: "button", class: "fold", "aria-expanded": "false" });
+    this.fold.addEventListener("click", () => {
+      this.fold.setAttribute("aria-expanded", String(!this.isOpen()));
+      this.show();
+      this.fold.focus();
+    });
+    return this;
+  }
+
+  isOpen() {
+    return this.fold.getAttribute("aria-expanded") === "true";
+  }
+
+  // The line of those that are folded, and below it they themselves where it is open.
+  stillLines(rows) {
+    if (!rows.length) return [];
+    this.fold.replaceChildren(this.stillWords(rows.length));
+    const cell = make("td", { class: "text", colspan: this.columns.length }, this.fold);
+    return [make("tr", {}, cell), ...this.firstLines(this.isOpen() ? rows : [])];
+  }
+
+  firstLines(rows) {
+    return rows.slice(0, this.most).map((row) => this.line(row));
   }
 
   // Other names for columns and rows.
@@ -59,11 +89,19 @@ class Table {
 
   show() {
     const rows = this.inOrder(this.found()), at = this.sorted;
+    const isFolded = (row) => !this.search.value && this.isStill(row);
+    const still = rows.filter(isFolded), changed = rows.filter((row) => !isFolded(row));
     this.heads.forEach((head, column) => head.setAttribute("aria-sort",
       column === at ? (this.falling ? "descending" : "ascending") : "none"));
-    this.body.replaceChildren(...rows.slice(0, this.most).map((row) => this.line(row)));
-    this.count.textContent = rows.length > this.most ? `${told(this.most)} of ${counted(rows.length, "row")}` : counted(rows.length, "row");
-    this.more.hidden = rows.length <= this.most;
+    this.body.replaceChildren(...this.firstLines(changed), ...this.stillLines(still));
+    this.tellCount([changed.length, still.length && this.isOpen() ? still.length : 0]);
+  }
+
+  // How many rows there are, and of how many parts the first ones are shown.
+  tellCount(parts) {
+    const all = sumOf(parts), shown = sumOf(parts.map((count) => Math.min(count, this.most)));
+    this.count.textContent = (shown < all ? `${told(shown)} of ` : "") + counted(all, "row");
+    this.more.hidden = shown === all;
   }
 
   // The rows as they are sorted: as they came, where no column is.

@@ -6,8 +6,11 @@ import json
 import re
 
 # The scripts of a page, in this order.
-SCRIPTS = ("page.js", "table.js", "sites.js", "tree.js", "flame.js", "chart.js", "heap.js", "head.js", "log_page.js", "comparison.js")
+SCRIPTS = ("numbers.js", "page.js", "table.js", "sites.js", "tree.js", "flame.js", "chart.js",
+           "heap.js", "head.js", "log_page.js", "comparison.js")
 STYLES = ("drawing.css", "page.css")
+# Up to this JavaScript counts.
+MOST_COUNTED = (1 << 53) - 1
 
 
 def text_of(folder, names):
@@ -20,9 +23,18 @@ def digest_of(script):
     return f"sha256-{base64.b64encode(hashlib.sha256(script.encode()).digest()).decode()}"
 
 
+def exact(data):
+    """Data whose numbers a script reads as they are: those that it can't count to are texts."""
+    if isinstance(data, dict):
+        return {name: exact(part) for name, part in data.items()}
+    if isinstance(data, (list, tuple)):
+        return [exact(part) for part in data]
+    return str(data) if isinstance(data, int) and abs(data) > MOST_COUNTED else data
+
+
 def json_text(data):
     """JSON that nothing in it can end."""
-    text = json.dumps(data, separators=(",", ":"), ensure_ascii=False)
+    text = json.dumps(exact(data), separators=(",", ":"), ensure_ascii=False)
     return text.replace("<", "\\u003c").replace(">", "\\u003e").replace("&", "\\u0026").replace("\u2028", "\\u2028")
 
 

@@ -16,7 +16,7 @@ class TreeNode {
 
   take(item) {
     this.items.push(item);
-    PLACES.forEach((place, at) => { this.sums[at] += item.totals[place]; });
+    PLACES.forEach((place, at) => { this.sums[at] = plus(this.sums[at], item.totals[place]); });
   }
 
   get children() {
@@ -104,7 +104,7 @@ class Tree {
   }
 
   spread(node) {
-    const inOrder = [...node.children].sort((one, other) => other.sums[this.sorted] - one.sums[this.sorted]);
+    const inOrder = [...node.children].sort(fallingBy(({ sums }) => sums[this.sorted]));
     const most = node.most || FIRST_NODES;
     for (const child of inOrder.slice(0, most)) {
       this.shown.push({ node: child, line: this.line(child) });
@@ -116,13 +116,15 @@ class Tree {
   more(node, count) {
     const button = make("button", { type: "button" }, `${counted(count, "more function")}`);
     button.addEventListener("click", () => { node.most = (node.most || FIRST_NODES) + 200; this.show(); });
-    return make("tr", {}, make("td", { class: "text", colspan: 5, style: `padding-left: ${indent(node.depth + 1)}` }, button));
+    const inside = nodeElement(node.depth + 1, "", button);
+    return make("tr", {}, make("td", { class: "text", colspan: 5 }, inside));
   }
 
   line(node) {
     const opens = node.children.length > 0;
-    const sign = make("span", { class: "sign", "aria-hidden": "true" }, opens ? (node.open ? "▾" : "▸") : "");
-    const cell = make("td", { class: node.marked ? "text marked" : "text", style: `padding-left: ${indent(node.depth)}` }, sign, isolated(node.name));
+    const sign = opens ? (node.open ? "▾" : "▸") : "";
+    const cell = make("td", { class: node.marked ? "text marked" : "text" },
+      nodeElement(node.depth, sign, isolated(node.name)));
     const line = make("tr", { tabindex: -1, "aria-level": node.depth }, cell,
       ...node.sums.map((value) => make("td", { class: "number" }, told(value))));
     if (opens) line.setAttribute("aria-expanded", String(Boolean(node.open)));
@@ -163,7 +165,8 @@ class Tree {
   }
 }
 
-// How far in a line of the tree begins; deep ones no further, so that they stay on the screen.
-function indent(depth) {
-  return `${Math.min(0.3 + 0.7 * (depth - 1), 12)}rem`;
+// What a line of the tree begins with: how far in, the style of `node` tells.
+function nodeElement(depth, sign, inside) {
+  return make("div", { class: "node", style: `--depth: ${depth - 1}` },
+    make("span", { class: "sign", "aria-hidden": "true" }, sign), inside);
 }

@@ -1,4 +1,5 @@
-"""Suppressions of all sites that bin/leaks tells, for valgrind and for LeakSanitizer. It isn't proved."""
+"""Suppressions of all sites that bin/leaks tells, for valgrind and for LeakSanitizer. It isn't
+proved."""
 import re
 from bisect import bisect_right
 from functools import cache
@@ -29,7 +30,8 @@ def linker_name(module, offset):
 
 
 def valgrind_calls(names, stack):
-    """The lines of a stack's calls: those of the standard library, inlined ones and those without a name as any calls."""
+    """The lines of a stack's calls: those of the standard library, inlined ones and those without a
+    name as any calls."""
     lines = ["..."]
     for frame in stack:
         calls, module = names.calls(frame), names.modules[frame.module]
@@ -58,8 +60,8 @@ def for_valgrind(processes):
 
 
 def sanitizer_patterns(name):
-    """A function for LeakSanitizer, which knows it with its arguments, and with those of its template. It knows a lambda by its operator
-    alone where gcc compiled it."""
+    """A function for LeakSanitizer, which knows it with its arguments, and with those of its
+    template. It knows a lambda by its operator alone where gcc compiled it."""
     bare = re.sub(r"\{[^}]*\}", "*", name)
     yield f"leak:^{bare.replace('::', '*::')}{'*' if '::' in bare else '$'}"
     if name.endswith("}::operator()"):
@@ -67,20 +69,24 @@ def sanitizer_patterns(name):
 
 
 def for_sanitizer(processes):
-    """Lines of LeakSanitizer, each once: of each site the first function of the program's own that doesn't only ask for memory, and is no
-    lambda where there is another."""
+    """Lines of LeakSanitizer, each once: of each site the first function of the program's own that
+    doesn't only ask for memory, and is no lambda where there is another."""
     told = {}
     for process in processes:
         for site in process.sites:
-            own = [call.function for call, _ in site.frames if call.function and not call.is_standard]
+            own = [call.function for call, _ in site.frames if call.function
+                   and not call.is_standard]
             fitting = [name for name in own if not only_allocates(name)] or own
-            name = next((name for name in fitting if "{lambda" not in name), next(iter(fitting), ""))
+            name = next((name for name in fitting if "{lambda" not in name),
+                        next(iter(fitting), ""))
             told.update(dict.fromkeys(sanitizer_patterns(name) if name else ()))
     yield from told
 
 
 def write(name, processes):
-    """Writes NAME for valgrind and NAME.lsan for LeakSanitizer. An OSError tells that one can't be written."""
-    for file, lines in ((name, for_valgrind(processes)), (f"{name}.lsan", for_sanitizer(processes))):
+    """Writes NAME for valgrind and NAME.lsan for LeakSanitizer. An OSError tells that one can't be
+    written."""
+    for file, lines in ((name, for_valgrind(processes)),
+                        (f"{name}.lsan", for_sanitizer(processes))):
         with open(file, "w", encoding="utf-8", errors="surrogateescape") as to:
             to.writelines(f"{line}\n" for line in lines)

@@ -1,4 +1,5 @@
-"""What bin/leaks tells in the XML of valgrind's memcheck, protocol 4, as plugins of CI servers read it. It isn't proved."""
+"""What bin/leaks tells in the XML of valgrind's memcheck, protocol 4, as plugins of CI servers read
+it. It isn't proved."""
 import os
 import re
 from xml.etree.ElementTree import Element, SubElement, indent, tostring
@@ -7,8 +8,10 @@ import naming
 from version import VERSION
 
 # By kind: memcheck's kind, and what it says.
-KINDS = {naming.HELD: ("Leak_DefinitelyLost", "not freed"), naming.LOST: ("Leak_DefinitelyLost", "definitely lost"),
-         naming.INDIRECT: ("Leak_IndirectlyLost", "indirectly lost"), naming.POSSIBLE: ("Leak_PossiblyLost", "possibly lost"),
+KINDS = {naming.HELD: ("Leak_DefinitelyLost", "not freed"),
+         naming.LOST: ("Leak_DefinitelyLost", "definitely lost"),
+         naming.INDIRECT: ("Leak_IndirectlyLost", "indirectly lost"),
+         naming.POSSIBLE: ("Leak_PossiblyLost", "possibly lost"),
          naming.REACHABLE: ("Leak_StillReachable", "still reachable")}
 # What XML can't have.
 NO_TEXT = re.compile(r"[^\t\n\r\x20-\ud7ff\ue000-\ufffd\U00010000-\U0010ffff]")
@@ -43,8 +46,11 @@ def put_error(root, number, count, process, entry):
     put(error, "kind", kind)
     what = put(error, "xwhat")
     led = entry.led[1]
-    sums = f"{entry.bytes + led:,} ({entry.bytes:,} direct, {led:,} indirect)" if led else f"{entry.bytes:,}"
-    put(what, "text", f"{sums} bytes in {entry.blocks:,} blocks are {told} in loss record {number + 1:,} of {count:,}")
+    sums = (f"{entry.bytes + led:,} ({entry.bytes:,} direct, {led:,} indirect)" if led
+            else f"{entry.bytes:,}")
+    put(what, "text",
+        f"{sums} bytes in {entry.blocks:,} blocks are {told} in loss record {number + 1:,} of "
+        f"{count:,}")
     put(what, "leakedbytes", entry.bytes + led)
     put(what, "leakedblocks", entry.blocks)
     stack = put(error, "stack")
@@ -57,7 +63,8 @@ def put_status(root, state, seconds):
     """What memcheck tells of its begin and end, with the time since the begin."""
     status, minutes = put(root, "status"), int(seconds) // 60
     put(status, "state", state)
-    put(status, "time", f"{minutes // 1440:02}:{minutes // 60 % 24:02}:{minutes % 60:02}:{seconds % 60:06.3f} ")
+    put(status, "time",
+        f"{minutes // 1440:02}:{minutes // 60 % 24:02}:{minutes % 60:02}:{seconds % 60:06.3f} ")
 
 
 def text(run, processes):

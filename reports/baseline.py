@@ -1,4 +1,5 @@
-"""What grew since an older report of bin/leaks: sites by their functions, not by lines or addresses. It isn't proved."""
+"""What grew since an older report of bin/leaks: sites by their functions, not by lines or
+addresses. It isn't proved."""
 import os
 from collections import defaultdict
 from dataclasses import dataclass
@@ -8,7 +9,8 @@ import as_json
 
 @dataclass
 class Sum:
-    """Bytes and blocks of all sites of a program that have the same functions, and how the largest is told."""
+    """Bytes and blocks of all sites of a program that have the same functions, and how the largest
+    is told."""
     bytes: int = 0
     blocks: int = 0
     text: str = ""
@@ -24,7 +26,8 @@ class Sum:
 
 @dataclass(frozen=True)
 class Row:
-    """A site that one of two reports has: by what it is known, its text, and its sums in the old and in the new one."""
+    """A site that one of two reports has: by what it is known, its text, and its sums in the old
+    and in the new one."""
     key: tuple
     text: str
     old: Sum
@@ -49,25 +52,42 @@ class Row:
 
 
 def key_of(program, site):
-    """What a site of a process's report in JSON is known by: its program's name, and its functions."""
+    """What a site of a process's report in JSON is known by: its program's name, and its
+    functions."""
     return os.path.basename(program), as_json.functions(site)
 
 
-def leaks_of(report):
-    """The sums of a report by program and functions. What is still reachable is no leak, and of a log that was cut nothing is known."""
+def programs_of(report):
+    """The names of a report's programs."""
+    return {os.path.basename(process["program"]) for process in report["processes"]}
+
+
+def renamed(old, new):
+    """By the name of an older report's program that which it has now. Where each report has one
+    program these are the same one, as of two versions."""
+    one, other = programs_of(old), programs_of(new)
+    return dict(zip(one, other)) if len(one) == len(other) == 1 else {}
+
+
+def leaks_of(report, names):
+    """The sums of a report by program and functions. What is still reachable is no leak, and of a
+    log that was cut nothing is known. Programs with another name among `names` are told by that."""
     sums = defaultdict(Sum)
     for process in report["processes"]:
         for site in process["sites"] if process["end"] != "cut" else []:
             if site["kind"] != as_json.NO_LEAK:
-                sums[key_of(process["program"], site)].add(site)
+                program, functions = key_of(process["program"], site)
+                sums[names.get(program, program), functions].add(site)
     return sums
 
 
 def rows_of(old, new):
     """The sites that one of two reports has; those that grew most first."""
-    one, other = leaks_of(old), leaks_of(new)
-    rows = [Row(key, (other.get(key) or one[key]).text, one.get(key, Sum()), other.get(key, Sum())) for key in {**one, **other}]
-    return sorted(rows, key=lambda row: (row.old.bytes - row.new.bytes, row.old.blocks - row.new.blocks, row.text))
+    one, other = leaks_of(old, renamed(old, new)), leaks_of(new, {})
+    rows = [Row(key, (other.get(key) or one[key]).text, one.get(key, Sum()), other.get(key, Sum()))
+            for key in {**one, **other}]
+    return sorted(rows, key=lambda row: (row.old.bytes - row.new.bytes,
+                                         row.old.blocks - row.new.blocks, row.text))
 
 
 def grew(rows):

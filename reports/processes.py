@@ -15,7 +15,8 @@ ASKED = re.compile(rb"^([0-9]+ bytes in [0-9]+) calls, [0-9]+ temporary", re.M)
 HEAD = re.compile(r"(.+): (\d+) blocks, (\d+) bytes\.", re.A)
 # How a process ended: at once by a signal or a system call, so that its log has no end.
 WHOLE, AT_ONCE, RUNNING, CUT = "whole", "at once", "running", "cut"
-IN_TITLE = {WHOLE: "", AT_ONCE: ", which ended at once, as by a signal", RUNNING: ", which still runs", CUT: ""}
+IN_TITLE = {WHOLE: "", AT_ONCE: ", which ended at once, as by a signal",
+            RUNNING: ", which still runs", CUT: ""}
 
 
 def has_calls(log):
@@ -53,7 +54,9 @@ class Process:
         if self.is_cut:
             self.lines[0] = self.lines[0].replace(AT_THE_END, AT_THE_CUT)
         self.is_apart = False
-        self.entries, self.requests, self.doubts, self.names = [text_of(line) for line in self.lines[:1]], [], [], None
+        self.entries, self.requests, self.doubts, self.names = ([text_of(line)
+                                                                 for line in self.lines[:1]], [],
+                                                                [], None)
 
     @property
     def is_cut(self):
@@ -61,7 +64,8 @@ class Process:
         return self.end == CUT
 
     def tell_apart(self):
-        """Takes what is lost and what is reachable in place of what is held, where its process told it: whether it did."""
+        """Takes what is lost and what is reachable in place of what is held, where its process told
+        it: whether it did."""
         try:
             told = Path(self.list).read_bytes()
         except FileNotFoundError:
@@ -75,10 +79,12 @@ class Process:
         """Names what it holds, and who asked for memory, where that was read."""
         if self.lines != [NONE_HELD] and not (self.is_cut and len(self.lines) == 1):
             report = self.report(b"".join(line + b"\n" for line in self.lines), asked, suppressions)
-            self.entries, self.names, self.doubts = list(report.entries()), report.names, report.doubts(self.log)
+            self.entries, self.names, self.doubts = (list(report.entries()), report.names,
+                                                     report.doubts(self.log))
         if self.asked_for:
             text = ASKED.sub(rb"\1 blocks", self.asked_for.partition(b"\n")[2])
-            self.requests = [entry for entry in self.report(text, asked, suppressions).entries() if isinstance(entry, Site)]
+            self.requests = [entry for entry in self.report(text, asked, suppressions).entries()
+                             if isinstance(entry, Site)]
 
     def report(self, text, asked, suppressions):
         """A report with names."""
@@ -97,7 +103,8 @@ class Process:
 
     @property
     def leaks(self):
-        """The sites that count as leaks: all that isn't reachable. Of a log that is cut there are none."""
+        """The sites that count as leaks: all that isn't reachable. Of a log that is cut there are
+        none."""
         return [] if self.is_cut else [site for site in self.sites if site.kind != REACHABLE]
 
     @property

@@ -1,4 +1,5 @@
-"""What of a log's end is lost, and what is still reachable: LOG.reachable, which bin/trace --reachable writes beside LOG."""
+"""What of a log's end is lost, and what is still reachable: LOG.reachable, which bin/trace
+--reachable writes beside LOG."""
 import re
 from pathlib import Path
 
@@ -26,13 +27,16 @@ def read_parts(text):
             parts[-1][found[3] or b""] = before[0] + int(found[1]), before[1] + int(found[2])
         else:
             raise Wrong
-    if len(parts) != len(PARTS) or told != [tuple(sum(column) for column in zip((0, 0), *part.values())) for part in parts]:
+    if len(parts) != len(PARTS) or told != [tuple(sum(column)
+                                                  for column in zip((0, 0), *part.values()))
+                                            for part in parts]:
         raise Wrong
     return parts
 
 
 def read_reachable(log, at_end):
-    """The three parts of what a log holds at its end, or nothing where no list is beside it. Their sums are those of the log, by location."""
+    """The three parts of what a log holds at its end, or nothing where no list is beside it. Their
+    sums are those of the log, by location."""
     try:
         parts = read_parts(Path(f"{log}.reachable").read_bytes())
     except FileNotFoundError:

@@ -9,7 +9,8 @@ from pathlib import Path
 # The greatest heap, on which a page is made where no option is given.
 GREATEST = {"pool": 1073741808, "pools": 1, "records": 65535}
 UNIT = 16
-KINDS = (b"too long", b"not a line", b" is not held", b" is already held", b" refused: ", b"half of a reallocation", b"no < before >")
+KINDS = (b"too long", b"not a line", b" is not held", b" is already held", b" refused: ",
+         b"half of a reallocation", b"no < before >")
 TOO_LONG, NOT_A_LINE, NOT_HELD, ALREADY_HELD, REFUSED, HALF, STRAY = range(len(KINDS))
 DIAGNOSTIC = re.compile(rb"line \d+: ")
 # What `fit` may read again, in seconds of one processor by the estimate below.
@@ -42,7 +43,8 @@ class Report:
         self.words, self.stopped = words, False
         self.out, self.said = tempfile.TemporaryFile(), tempfile.TemporaryFile()
         try:
-            self.run = subprocess.Popen([program, *words], stdin=given or subprocess.DEVNULL, stdout=self.out, stderr=self.said,
+            self.run = subprocess.Popen([program, *words], stdin=given or subprocess.DEVNULL,
+                                        stdout=self.out, stderr=self.said,
                                         env={**os.environ, "TLSF_CAUSES": "1"})
         except OSError as error:
             give_up(f"the program doesn't run: {error}", 2)
@@ -56,7 +58,8 @@ class Report:
             sys.exit(1)
         if status not in (0, 1):
             said = self.said.read().decode("utf-8", "replace").strip()
-            give_up(f"`tlsf {self.words[0]}` ended with status {status}: {said}", 2 if status < 0 else status)
+            give_up(f"`tlsf {self.words[0]}` ended with status {status}: {said}",
+                    2 if status < 0 else status)
         return self.out.read()
 
     def stop(self):
@@ -115,28 +118,49 @@ def read_peak(text):
     return dict(line.split(b": ", 1) for line in body(text))
 
 
-# The first line of a timeline, without a heap and with one.
+# The first line of a timeline, without a heap and with one; a row of the first kind, and what a
+# location holds.
 LINES, HEAP_LINES = b"line bytes blocks", b"line bytes blocks reach free largest"
+ROW = re.compile(rb"^\d+ \d+ \d+$", re.M)
+HELD_AT = re.compile(rb"^(\d+) bytes in (\d+) blocks(?: at (.*))?$", re.M)
 
 
-def read_timeline(text, header):
-    """Each row: line, bytes, blocks, and with a heap reach, free, largest."""
+def read_timeline(text):
+    """Each row of a timeline on a heap: line, bytes, blocks, reach, free, largest."""
     lines = body(text)
-    if not lines or lines[0] != header:
+    if not lines or lines[0] != HEAP_LINES:
         raise Differs("the timeline has no header")
     return [tuple(map(int, line.split())) for line in lines[1:]]
 
 
+def rows_by_site(text):
+    """Each row of a timeline by location: line, bytes and blocks."""
+    if not text.startswith(LINES + b"\n", end_of_diagnostics(text)):
+        raise Differs("the timeline has no header")
+    return [tuple(map(int, row.split())) for row in ROW.findall(text)]
+
+
+def changes_by_site(text):
+    """For each row of a timeline by location the locations whose bytes or blocks changed since the
+    row before, with what they hold then."""
+    rows = list(ROW.finditer(text))
+    ends = [row.start() for row in rows[1:]] + [len(text)]
+    for row, end in zip(rows, ends):
+        yield {location: (int(held), int(blocks))
+               for held, blocks, location in HELD_AT.findall(text, row.end(), end)}
+
+
 def read_sites(text):
-    """Who holds the memory at the peak and at the end, for each location bytes and blocks; and who asks, calls, bytes and temporary
-    blocks."""
+    """Who holds the memory at the peak and at the end, for each location bytes and blocks; and who
+    asks, calls, bytes and temporary blocks."""
     parts = []
     for line in body(text):
         if line.startswith((b"Held at the ", b"Asked over the log: ")):
             parts.append({})
-        elif found := re.fullmatch(rb"(\d+) bytes in (\d+) blocks(?: at (.*))?", line, re.S):
+        elif found := HELD_AT.fullmatch(line):
             parts[-1][found[3] or b""] = int(found[1]), int(found[2])
-        elif found := re.fullmatch(rb"(\d+) bytes in (\d+) calls, (\d+) temporary(?: at (.*))?", line, re.S):
+        elif found := re.fullmatch(rb"(\d+) bytes in (\d+) calls, (\d+) temporary(?: at (.*))?",
+                                   line, re.S):
             parts[-1][found[4] or b""] = int(found[2]), int(found[1]), int(found[3])
     if len(parts) != 3:
         raise Differs("the report of sites has no three parts")
@@ -151,7 +175,8 @@ def read_leaks(text):
 
 
 def read_walk(text):
-    """Each pool: its base, its bytes, and its blocks by place: their sizes, below zero for a free one."""
+    """Each pool: its base, its bytes, and its blocks by place: their sizes, below zero for a free
+    one."""
     pools = []
     for line in body(text):
         if found := re.fullmatch(rb"pool (\d+): (\d+) bytes", line):
@@ -160,7 +185,8 @@ def read_walk(text):
             continue
         start, size, state = line.split()
         if int(start) != place:
-            raise Differs(f"the numbers differ in the walk: a block at {int(start)}, and not at {place}")
+            raise Differs(f"the numbers differ in the walk: a block at {int(start)}, and not at "
+                          f"{place}")
         place += int(size)
         pools[-1][2].append(int(size) if state == b"used" else -int(size))
     return pools
@@ -172,7 +198,8 @@ def read_fit(text):
 
 
 def coarse_step(lines, blocks, peak):
-    """The step of `fit` for a long log, so that it tries as few sizes as its time allows; nothing where its own will do.
+    """The step of `fit` for a long log, so that it tries as few sizes as its time allows; nothing
+    where its own will do.
 
     A line takes some tenths of a microsecond, more where many blocks are held (docs/SPEED.md)."""
     seconds = lines * (0.12 + 0.07 * (blocks / 1000) ** 0.5) / 1_000_000

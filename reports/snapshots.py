@@ -1,5 +1,5 @@
-"""The snapshots of a program that is followed: what each process held, with names, while it ran, and
-what grew. It isn't proved."""
+"""The snapshots of a program that is followed: what each process held, with names, while it ran,
+and what grew. It isn't proved."""
 import ctypes
 import os
 import re

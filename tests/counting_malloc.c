@@ -1,6 +1,7 @@
-/* The calls of the C library that take memory, which also append the bytes asked for, one number a line, to the
-   file that MALLOC_LIST names, and refuse the call whose number is MALLOC_REFUSE. At the end they write the most bytes
-   that were taken at once to the file that MALLOC_MOST names. tests/program preloads them. */
+/* The calls of the C library that take memory, which also append the bytes asked for, one number a
+   line, to the file that MALLOC_LIST names, and refuse the call whose number is MALLOC_REFUSE. At
+   the end they write the most bytes that were taken at once to the file that MALLOC_MOST names.
+   tests/program preloads them. */
 #include <errno.h>
 #include <fcntl.h>
 #include <malloc.h>
@@ -20,7 +21,8 @@ static long calls;
 static size_t taken;
 static size_t most;
 
-__attribute__((constructor)) static void read_environment(void) {
+__attribute__((constructor)) static void read_environment(void)
+{
     const char *name = getenv("MALLOC_LIST");
     const char *number = getenv("MALLOC_REFUSE");
     if (name != NULL)
@@ -30,7 +32,8 @@ __attribute__((constructor)) static void read_environment(void) {
     calls = 0;
 }
 
-static void append(int to, size_t number) {
+static void append(int to, size_t number)
+{
     char text[24];
     char *first = text + sizeof text;
     *--first = '\n';
@@ -41,21 +44,24 @@ static void append(int to, size_t number) {
         abort();
 }
 
-__attribute__((destructor)) static void write_most(void) {
+__attribute__((destructor)) static void write_most(void)
+{
     const char *name = getenv("MALLOC_MOST");
     if (name != NULL)
         append(open(name, O_WRONLY | O_CREAT | O_TRUNC, 0600), most);
 }
 
 /* A block that was taken. */
-static void *noted(void *block) {
+static void *noted(void *block)
+{
     taken += block == NULL ? 0 : malloc_usable_size(block);
     most = most < taken ? taken : most;
     return block;
 }
 
 /* Notes a call for so many bytes, and answers whether it is refused. */
-static int is_refused(size_t size) {
+static int is_refused(size_t size)
+{
     calls++;
     if (list >= 0)
         append(list, size);
@@ -64,31 +70,34 @@ static int is_refused(size_t size) {
     return calls == refused;
 }
 
-void *malloc(size_t size) {
-    return is_refused(size) ? NULL : noted(__libc_malloc(size));
-}
+void *malloc(size_t size) { return is_refused(size) ? NULL : noted(__libc_malloc(size)); }
 
-void *calloc(size_t count, size_t size) {
+void *calloc(size_t count, size_t size)
+{
     return is_refused(count * size) ? NULL : noted(__libc_calloc(count, size));
 }
 
-void *realloc(void *block, size_t size) {
+void *realloc(void *block, size_t size)
+{
     if (is_refused(size))
         return NULL;
     taken -= block == NULL ? 0 : malloc_usable_size(block);
     return noted(__libc_realloc(block, size));
 }
 
-void free(void *block) {
+void free(void *block)
+{
     taken -= block == NULL ? 0 : malloc_usable_size(block);
     __libc_free(block);
 }
 
-void *aligned_alloc(size_t alignment, size_t size) {
+void *aligned_alloc(size_t alignment, size_t size)
+{
     return is_refused(size) ? NULL : noted(__libc_memalign(alignment, size));
 }
 
-int posix_memalign(void **block, size_t alignment, size_t size) {
+int posix_memalign(void **block, size_t alignment, size_t size)
+{
     *block = is_refused(size) ? NULL : noted(__libc_memalign(alignment, size));
     return *block == NULL ? ENOMEM : 0;
 }

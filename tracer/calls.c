@@ -15,10 +15,7 @@ enum { UNIT = 16, OWN_BYTES = 1 << 20, USUAL_ALIGN = 16 };
 static _Alignas(UNIT) char own[OWN_BYTES];
 static size_t own_used;
 
-static bool is_own(const void *address)
-{
-    return (uintptr_t)address - (uintptr_t)own < sizeof own;
-}
+static bool is_own(const void *address) { return (uintptr_t)address - (uintptr_t)own < sizeof own; }
 
 static void *take_own(size_t bytes)
 {
@@ -101,8 +98,9 @@ static void write_line(const char *line, const char *end)
     log_unlock();
 }
 
-/* Holds a block of a running program. The program frees blocks by ways that aren't seen, too, as amid a
- * library that is still loaded: that is told where the same address is given again. With the lock held. */
+/* Holds a block of a running program. The program frees blocks by ways that aren't seen, too, as
+ * amid a library that is still loaded: that is told where the same address is given again. With the
+ * lock held. */
 static void hold(const void *address)
 {
     enum since was = since_add((uintptr_t)address);
@@ -129,7 +127,8 @@ static void write_given(const char *line, const char *end, const void *address)
     log_unlock();
 }
 
-/* Whether a block is one of the log, which it then leaves. Each is where the whole program is traced. */
+/* Whether a block is one of the log, which it then leaves. Each is where the whole program is
+ * traced. */
 static bool take_block(const void *address)
 {
     log_lock();
@@ -229,7 +228,8 @@ EXPORT void *calloc(size_t count, size_t size)
 }
 
 /* The lines of a realloc: two, or one where it failed or gave the block back. */
-static const char *put_moved(char *place, size_t length, const void *old, const void *given, size_t bytes)
+static const char *put_moved(char *place, size_t length, const void *old, const void *given,
+                             size_t bytes)
 {
     char *end = place + length;
     if (given == NULL && bytes != 0) {
@@ -244,9 +244,10 @@ static const char *put_moved(char *place, size_t length, const void *old, const 
     return end;
 }
 
-/* The lines of a realloc amid a running program, of which the block can be from before: then what is given
- * is a new block. */
-static const char *put_moved_since(char *place, size_t length, const void *old, const void *given, size_t bytes)
+/* The lines of a realloc amid a running program, of which the block can be from before: then what
+ * is given is a new block. */
+static const char *put_moved_since(char *place, size_t length, const void *old, const void *given,
+                                   size_t bytes)
 {
     bool is_gone = given != NULL || bytes == 0;
     bool is_held = is_gone ? since_take((uintptr_t)old) : since_has((uintptr_t)old);
@@ -274,7 +275,8 @@ static void *move(void *caller, void *old, size_t bytes)
     log_lock();
     void *given = real.realloc(old, bytes);
     int code = errno;
-    const char *end = (is_since() ? put_moved_since : put_moved)(lines, length, (const void *)address, given, bytes);
+    const char *end = (is_since() ? put_moved_since
+                                  : put_moved)(lines, length, (const void *)address, given, bytes);
     log_write(lines, (size_t)(end - lines));
     log_unlock();
     leave();

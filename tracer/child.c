@@ -1,5 +1,6 @@
-/* child.c: the calls that start a program. One whose variables don't preload the tracer, that gets more rights, or that is
- * static, is noted in the index, so that nobody takes it for one without leaks.
+/* child.c: the calls that start a program. One whose variables don't preload the tracer, that gets
+ * more rights, or that is static, is noted in the index, so that nobody takes it for one without
+ * leaks.
  */
 #define _GNU_SOURCE
 #include "trace.h"
@@ -13,7 +14,8 @@
 #include <sys/xattr.h>
 #include <unistd.h>
 
-/* The most bytes of a program's path that are noted, and of its file in which its headers are looked for. */
+/* The most bytes of a program's path that are noted, and of its file in which its headers are
+ * looked for. */
 enum { PROGRAM_MOST = 1024, HEAD_MOST = 2048 };
 
 /* Whether variables preload this library. */
@@ -28,7 +30,8 @@ static bool has_tracer(char *const variables[])
     return false;
 }
 
-/* Whether a program gets other rights than its caller, by its file: then the dynamic linker preloads nothing. */
+/* Whether a program gets other rights than its caller, by its file: then the dynamic linker
+ * preloads nothing. */
 static bool is_secure(const char *program)
 {
     struct stat told;
@@ -37,8 +40,11 @@ static bool is_secure(const char *program)
         return false;
     }
     bool is_other_user = (told.st_mode & S_ISUID) != 0 && told.st_uid != getuid();
-    bool is_other_group = (told.st_mode & S_ISGID) != 0 && (told.st_mode & S_IXGRP) != 0 && told.st_gid != getgid();
-    bool is_capable = getuid() != 0 && getxattr(program, "security.capability", capabilities, sizeof capabilities) > 0;
+    bool is_other_group =
+        (told.st_mode & S_ISGID) != 0 && (told.st_mode & S_IXGRP) != 0 && told.st_gid != getgid();
+    bool is_capable =
+        getuid() != 0
+        && getxattr(program, "security.capability", capabilities, sizeof capabilities) > 0;
     return is_other_user || is_other_group || is_capable;
 }
 
@@ -47,7 +53,8 @@ static bool has_no_linker(const char *head, size_t length)
 {
     ElfW(Ehdr) program;
     ElfW(Phdr) part = {0};
-    if (length < sizeof program || memcmp(head, ELFMAG, SELFMAG) != 0 || head[EI_CLASS] != ELFCLASS64) {
+    if (length < sizeof program || memcmp(head, ELFMAG, SELFMAG) != 0
+        || head[EI_CLASS] != ELFCLASS64) {
         return false;
     }
     memcpy(&program, head, sizeof program);
@@ -72,17 +79,19 @@ static bool is_static(const char *program)
     return length > 0 && has_no_linker(head, (size_t)length);
 }
 
-/* Whether nothing is preloaded into a program, by its file. One that is looked for on the path isn't known. A filter of system
- * calls can end a process for a look at a file. */
+/* Whether nothing is preloaded into a program, by its file. One that is looked for on the path
+ * isn't known. A filter of system calls can end a process for a look at a file. */
 static bool is_preloaded_nothing(const char *program)
 {
     int code = errno;
-    bool is_so = strchr(program, '/') != NULL && log_may_open() && (is_secure(program) || is_static(program));
+    bool is_so = strchr(program, '/') != NULL && log_may_open()
+                 && (is_secure(program) || is_static(program));
     errno = code;
     return is_so;
 }
 
-/* An entry of the index: a process without a log, and its program, which is cut where it is long. */
+/* An entry of the index: a process without a log, and its program, which is cut where it is
+ * long. */
 static void note(pid_t process, const char *program)
 {
     char entry[PROGRAM_MOST + 32];
@@ -98,7 +107,8 @@ static void note(pid_t process, const char *program)
 
 bool child_note(pid_t process, const char *program, char *const variables[])
 {
-    bool is_untraced = program != NULL && program[0] != 0 && (!has_tracer(variables) || is_preloaded_nothing(program));
+    bool is_untraced = program != NULL && program[0] != 0
+                       && (!has_tracer(variables) || is_preloaded_nothing(program));
     if (is_untraced) {
         note(process, program);
     }
@@ -111,7 +121,8 @@ typedef const posix_spawn_file_actions_t *actions_t;
 typedef const posix_spawnattr_t *attributes_t;
 
 /* The same of a program that was started, if it was. */
-static int note_spawned(int result, const pid_t *process, const char *program, char *const variables[])
+static int note_spawned(int result, const pid_t *process, const char *program,
+                        char *const variables[])
 {
     if (result == 0) {
         child_note(*process, program, variables == NULL ? environ : variables);
@@ -119,20 +130,22 @@ static int note_spawned(int result, const pid_t *process, const char *program, c
     return result;
 }
 
-EXPORT int posix_spawn(pid_t *process, const char *path, actions_t actions, attributes_t attributes, char *const words[],
-                       char *const variables[])
+EXPORT int posix_spawn(pid_t *process, const char *path, actions_t actions, attributes_t attributes,
+                       char *const words[], char *const variables[])
 {
     pid_t own, *told = process == NULL ? &own : process;
     find_real();
-    return note_spawned(real.posix_spawn(told, path, actions, attributes, words, variables), told, path, variables);
+    return note_spawned(real.posix_spawn(told, path, actions, attributes, words, variables), told,
+                        path, variables);
 }
 
-EXPORT int posix_spawnp(pid_t *process, const char *file, actions_t actions, attributes_t attributes, char *const words[],
-                        char *const variables[])
+EXPORT int posix_spawnp(pid_t *process, const char *file, actions_t actions,
+                        attributes_t attributes, char *const words[], char *const variables[])
 {
     pid_t own, *told = process == NULL ? &own : process;
     find_real();
-    return note_spawned(real.posix_spawnp(told, file, actions, attributes, words, variables), told, file, variables);
+    return note_spawned(real.posix_spawnp(told, file, actions, attributes, words, variables), told,
+                        file, variables);
 }
 
 /* A command of the shell is noted by its words, and by the process that starts it. */

@@ -1,6 +1,6 @@
-/* held.c: the blocks that are held where a process ends, by its log: a table by address while the log
- * is read, and then a list in order of address. A log in memory can't be read again: its lines are
- * taken into the table as they are written. Memory is the system's, and none is asked for by
+/* held.c: the blocks that are held where a process ends, by its log: a table by address while the
+ * log is read, and then a list in order of address. A log in memory can't be read again: its lines
+ * are taken into the table as they are written. Memory is the system's, and none is asked for by
  * malloc, since a handler may end the process amid such a call.
  */
 #define _GNU_SOURCE
@@ -137,7 +137,9 @@ static uintptr_t read_number(const char **at, const char *end)
     for (; *at < end && **at != ' '; ++*at) {
         char byte = **at;
         bool is_digit = byte >= '0' && byte <= '9', is_letter = byte >= 'a' && byte <= 'f';
-        number = is_digit || is_letter ? number << 4 | (uintptr_t)(byte - (is_digit ? '0' : 'a' - 10)) : 0;
+        number = is_digit || is_letter
+                     ? number << 4 | (uintptr_t)(byte - (is_digit ? '0' : 'a' - 10))
+                     : 0;
     }
     *at += *at < end;
     return number;
@@ -266,8 +268,8 @@ bool held_read(struct held *held, const char *log)
 
 /* ---- lines that are taken */
 
-/* In a child of a fork that isn't before its first call: a handler's fork may have come amid a change
- * of the table, to which the child returns. */
+/* In a child of a fork that isn't before its first call: a handler's fork may have come amid a
+ * change of the table, to which the child returns. */
 void held_begin(bool is_on)
 {
     if (taking.blocks != NULL) {
@@ -310,6 +312,7 @@ struct block *held_find(const struct held *held, uintptr_t address)
         }
     }
     struct block *block = low == 0 ? NULL : &held->blocks[low - 1];
-    bool is_inside = block != NULL && (address == block->start || address - block->start < block->size);
+    bool is_inside =
+        block != NULL && (address == block->start || address - block->start < block->size);
     return is_inside ? block : NULL;
 }

@@ -1,9 +1,10 @@
-"""What gdb does in a running process, for bin/trace --pid and --stop: it waits until a thread is where the dynamic linker and
-malloc can be called, and calls the tracer there. gdb reads this file; running.py starts it. It isn't proved.
+"""What gdb does in a running process, for bin/trace --pid and --stop: it waits until a thread is
+where the dynamic linker and malloc can be called, and calls the tracer there. gdb reads this file;
+running.py starts it. It isn't proved.
 
-Where that is: amid a system call that waits, made by the C library, or at the first instruction of a call of malloc that neither
-the C library nor the dynamic linker makes. There the thread holds no lock of theirs. The other threads run on during the calls,
-so what they hold they give back."""
+Where that is: amid a system call that waits, made by the C library, or at the first instruction of
+a call of malloc that neither the C library nor the dynamic linker makes. There the thread holds no
+lock of theirs. The other threads run on during the calls, so what they hold they give back."""
 import json
 import os
 import struct
@@ -13,7 +14,8 @@ import gdb
 ORDERS = json.loads(os.environ["TLSF_IN_GDB"])
 PROCESS = ORDERS["process"]
 PRIVATE_MEMORY, READ_AND_WRITE, ROOM = 0x22, 3, 16384
-# A wait with a mask of bits, as of a condition or a thread's end: that of a lock, as malloc's, has none.
+# A wait with a mask of bits, as of a condition or a thread's end: that of a lock, as malloc's, has
+# none.
 FUTEX_WAIT_BITSET, FUTEX_OPERATION = 9, 0x7F
 MOST_FRAMES, MOST_STOPS = 200, 500
 # A signal that programs ignore ends the wait: gdb takes it.
@@ -44,8 +46,10 @@ def callers():
 
 
 def has_free_hands():
-    """Whether no call of the selected thread is one of the dynamic linker or the tracer, and none was interrupted by a signal."""
-    return not any(frame.type() == gdb.SIGTRAMP_FRAME or is_in(frame.pc(), ORDERS["busy"]) for frame in callers())
+    """Whether no call of the selected thread is one of the dynamic linker or the tracer, and none
+    was interrupted by a signal."""
+    return not any(frame.type() == gdb.SIGTRAMP_FRAME or is_in(frame.pc(), ORDERS["busy"])
+                   for frame in callers())
 
 
 def waits(thread):
@@ -55,15 +59,18 @@ def waits(thread):
             words = file.read().split()
     except OSError:
         return False
-    if len(words) < 9 or int(words[0]) not in ORDERS["waits"] or not is_in(int(words[8], 16), ORDERS["library"]):
+    if len(words) < 9 or int(words[0]) not in ORDERS["waits"] or not is_in(int(words[8], 16),
+                                                                           ORDERS["library"]):
         return False
     is_futex = int(words[0]) == ORDERS["futex"]
     return not is_futex or int(words[2], 16) & FUTEX_OPERATION == FUTEX_WAIT_BITSET
 
 
 def find_waiting():
-    """Selects a thread that waits, where there is one: the first, which has the largest stack, before others."""
-    for thread in sorted(gdb.selected_inferior().threads(), key=lambda thread: thread.ptid[1] != PROCESS):
+    """Selects a thread that waits, where there is one: the first, which has the largest stack,
+    before others."""
+    for thread in sorted(gdb.selected_inferior().threads(),
+                         key=lambda thread: thread.ptid[1] != PROCESS):
         if waits(thread):
             thread.switch()
             if has_free_hands():
@@ -112,7 +119,8 @@ def call(address, *values):
     """Calls a function of the process by its address."""
     kinds = ",".join(["long"] * len(values))
     words = ",".join(str(value) for value in values)
-    return int(gdb.parse_and_eval(f"((long (*)({kinds})){address:#x})({words})")) & 0xFFFFFFFFFFFFFFFF
+    return (
+        int(gdb.parse_and_eval(f"((long (*)({kinds})){address:#x})({words})")) & 0xFFFFFFFFFFFFFFFF)
 
 
 def put_text(room, text):
@@ -123,7 +131,8 @@ def put_text(room, text):
 def text_at(address):
     if address == 0:
         return ""
-    return os.fsdecode(gdb.parse_and_eval(f"(char *){address:#x}").string("latin-1").encode("latin-1"))
+    return os.fsdecode(
+        gdb.parse_and_eval(f"(char *){address:#x}").string("latin-1").encode("latin-1"))
 
 
 def order(room):
@@ -135,7 +144,8 @@ def order(room):
     begin_or_end = call(functions["dlsym"], handle, put_text(room, ORDERS["order"]))
     if begin_or_end == 0:
         return "no", "another libtlsf_trace.so is loaded"
-    told = text_at(call(begin_or_end, put_text(room, ORDERS["log"]), ORDERS["frames"], ORDERS["reachable"]))
+    told = text_at(call(begin_or_end, put_text(room, ORDERS["log"]), ORDERS["frames"],
+                        ORDERS["reachable"]))
     return ("yes" if told.startswith("/") else "no"), told
 
 
@@ -144,14 +154,17 @@ def run():
     gdb.execute(f"file {ORDERS['program']}", to_string=True)
     gdb.execute(f"attach {PROCESS}", to_string=True)
     if not find_waiting() and not stop_at_call():
-        return "no", "no thread came to where malloc can be called: all of them compute, or wait for a lock"
+        return ("no",
+                "no thread came to where malloc can be called: all of them compute, or wait for a "
+                "lock")
     room = call(ORDERS["functions"]["mmap"], 0, ROOM, READ_AND_WRITE, PRIVATE_MEMORY, -1, 0)
     told = order(room)
     call(ORDERS["functions"]["munmap"], room, ROOM)
     return told
 
 
-for setting in ("confirm off", "pagination off", "language c", "width 0", "scheduler-locking off", "unwindonsignal on", "debuginfod enabled off"):
+for setting in ("confirm off", "pagination off", "language c", "width 0", "scheduler-locking off",
+                "unwindonsignal on", "debuginfod enabled off"):
     try:
         gdb.execute(f"set {setting}", to_string=True)
     except gdb.error:

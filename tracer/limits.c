@@ -1,8 +1,8 @@
 /* limits.c: the calls by which a process limits itself.
  *
- * Before a filter of system calls comes the log is begun, and from then on it opens no file: the filter
- * might end the process for that. Where memory is limited or locked no more of the log is mapped than is
- * needed.
+ * Before a filter of system calls comes the log is begun, and from then on it opens no file: the
+ * filter might end the process for that. Where memory is limited or locked no more of the log is
+ * mapped than is needed.
  */
 #define _GNU_SOURCE
 #include "trace.h"
@@ -96,7 +96,8 @@ EXPORT int setrlimit(__rlimit_resource_t resource, const struct rlimit *limit)
     return real.setrlimit((int)resource, limit);
 }
 
-EXPORT int prlimit(pid_t process, __rlimit_resource_t resource, const struct rlimit *limit, struct rlimit *before)
+EXPORT int prlimit(pid_t process, __rlimit_resource_t resource, const struct rlimit *limit,
+                   struct rlimit *before)
 {
     if (resource == RLIMIT_AS && limit != NULL) {
         keep_small();
@@ -106,5 +107,7 @@ EXPORT int prlimit(pid_t process, __rlimit_resource_t resource, const struct rli
 }
 
 /* The same for programs whose files have offsets of 64 bits. */
-EXPORT int setrlimit64(__rlimit_resource_t, const struct rlimit64 *) __attribute__((alias("setrlimit")));
-EXPORT int prlimit64(pid_t, __rlimit_resource_t, const struct rlimit64 *, struct rlimit64 *) __attribute__((alias("prlimit")));
+EXPORT int setrlimit64(__rlimit_resource_t, const struct rlimit64 *)
+    __attribute__((alias("setrlimit")));
+EXPORT int prlimit64(pid_t, __rlimit_resource_t, const struct rlimit64 *, struct rlimit64 *)
+    __attribute__((alias("prlimit")));

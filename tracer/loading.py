@@ -1,4 +1,5 @@
-"""What the dynamic linker preloads into a program: nothing into one that is static, or that gets more rights. It isn't proved."""
+"""What the dynamic linker preloads into a program: nothing into one that is static, or that gets
+more rights. It isn't proved."""
 import os
 import stat
 import struct

@@ -1,19 +1,19 @@
 /* log.c: the log of a process.
  *
- * Its file is mapped, shared, so that each line is the kernel's once it is written: whatever ends the
- * process, no line is lost. Behind the last line the file has zeros, which log_end cuts off, or
+ * Its file is mapped, shared, so that each line is the kernel's once it is written: whatever ends
+ * the process, no line is lost. Behind the last line the file has zeros, which log_end cuts off, or
  * bin/trace where the process was killed. No descriptor stays open, since programs close those that
  * they don't know.
  *
- * A gigabyte is mapped at once, of a file that has holes. So the log goes on where the process may no
- * longer open it: behind chroot, setuid or a filter of its system calls, or with no descriptor left.
- * Room on the disk is promised a piece at a time; where the file can't be opened each page is tried
- * before it is written to. Where the log can't go on its last line says that it is cut.
+ * A gigabyte is mapped at once, of a file that has holes. So the log goes on where the process may
+ * no longer open it: behind chroot, setuid or a filter of its system calls, or with no descriptor
+ * left. Room on the disk is promised a piece at a time; where the file can't be opened each page is
+ * tried before it is written to. Where the log can't go on its last line says that it is cut.
  *
  * A program that is followed has a ring in memory in place of a file (ring.c).
  *
- * System calls are made by syscall(): the C library's open and write are cancellation points, and may
- * be those of another preloaded library.
+ * System calls are made by syscall(): the C library's open and write are cancellation points, and
+ * may be those of another preloaded library.
  */
 #define _GNU_SOURCE
 #include "trace.h"
@@ -47,20 +47,21 @@ enum { END_BYTES = sizeof end_line - 1, CUT_BYTES = sizeof cut_line - 1 };
 
 static pthread_mutex_t lock = PTHREAD_MUTEX_INITIALIZER;
 
-/* The names of the file and of the index, and what tells the file from others. Written: the bytes of
- * whole lines. What is mapped begins with a byte of the file, and is null where the file was cut to its
- * length. There is room up to another byte. */
+/* The names of the file and of the index, and what tells the file from others. Written: the bytes
+ * of whole lines. What is mapped begins with a byte of the file, and is null where the file was cut
+ * to its length. There is room up to another byte. */
 static char path[PATH_MOST], index_path[PATH_MOST];
 static struct stat made;
 static pid_t process;
 static char *mapped;
 static size_t mapped_from, mapped_bytes;
 static size_t written, room_to;
-/* Whether the end is written; whether no more than a piece is mapped; and from which byte on the file is
- * opened again for room, where that failed. */
+/* Whether the end is written; whether no more than a piece is mapped; and from which byte on the
+ * file is opened again for room, where that failed. */
 static bool is_ended, is_small;
 static size_t try_from;
-/* The process that may open no file any more, and the filter of system calls that it had at first. */
+/* The process that may open no file any more, and the filter of system calls that it had at
+ * first. */
 static pid_t sealed;
 static long first_filter;
 /* When the log began, and when its age was told last, in milliseconds. */
@@ -92,7 +93,8 @@ bool log_is_sealed(void) { return sealed != 0 && sealed == getpid(); }
 
 bool log_may_open(void)
 {
-    return !log_is_sealed() && syscall(SYS_prctl, PR_GET_SECCOMP, 0ul, 0ul, 0ul, 0ul) == first_filter;
+    return !log_is_sealed()
+           && syscall(SYS_prctl, PR_GET_SECCOMP, 0ul, 0ul, 0ul, 0ul) == first_filter;
 }
 
 /* Opens the log again, or fails: its name may be that of another file by now, as behind chroot. */
@@ -100,7 +102,8 @@ static int open_again(int flags)
 {
     struct stat now;
     int file = log_may_open() ? open_file(path, flags) : -1;
-    if (file >= 0 && (fstat(file, &now) != 0 || now.st_dev != made.st_dev || now.st_ino != made.st_ino)) {
+    if (file >= 0
+        && (fstat(file, &now) != 0 || now.st_dev != made.st_dev || now.st_ino != made.st_ino)) {
         close_file(file);
         file = -1;
     }
@@ -126,7 +129,8 @@ static void unmap(void)
     }
 }
 
-/* The log can't go on: it stays as far as it is, with a last line that says so. This process has no other. */
+/* The log can't go on: it stays as far as it is, with a last line that says so. This process has no
+ * other. */
 static void fail(const char *why)
 {
     say(path, why);
@@ -144,15 +148,17 @@ static void fail(const char *why)
 
 /* ---- room */
 
-/* How many bytes from here on can be mapped and the file be longer, as the limits of the process have it: less than a piece
- * where it can't go on. On a file system without holes, and where memory is limited or locked, it is a piece. */
+/* How many bytes from here on can be mapped and the file be longer, as the limits of the process
+ * have it: less than a piece where it can't go on. On a file system without holes, and where memory
+ * is limited or locked, it is a piece. */
 static size_t bytes_ahead(int file, size_t from)
 {
     struct rlimit limit;
     struct statfs system;
     size_t bytes = AHEAD;
-    if (getrlimit(RLIMIT_AS, &limit) != 0 || limit.rlim_cur != RLIM_INFINITY || fstatfs(file, &system) != 0 ||
-        system.f_type == MSDOS_SUPER_MAGIC || system.f_type == EXFAT_SUPER_MAGIC || is_small) {
+    if (getrlimit(RLIMIT_AS, &limit) != 0 || limit.rlim_cur != RLIM_INFINITY
+        || fstatfs(file, &system) != 0 || system.f_type == MSDOS_SUPER_MAGIC
+        || system.f_type == EXFAT_SUPER_MAGIC || is_small) {
         bytes = PIECE;
     }
     if (getrlimit(RLIMIT_FSIZE, &limit) == 0 && limit.rlim_cur != RLIM_INFINITY) {
@@ -202,8 +208,8 @@ static bool promise_again(void)
     return is_promised;
 }
 
-/* Tries the next page: the kernel writes into it what signals are blocked, and says where it can't. To write there oneself
- * would end the process. */
+/* Tries the next page: the kernel writes into it what signals are blocked, and says where it can't.
+ * To write there oneself would end the process. */
 static bool try_page(void)
 {
     char *page = mapped + (room_to - mapped_from);
@@ -292,7 +298,8 @@ static bool has_room(size_t bytes)
 
 /* ---- lines */
 
-/* After the end, where the file was cut: a line takes the place of the last, which is written again behind it. */
+/* After the end, where the file was cut: a line takes the place of the last, which is written again
+ * behind it. */
 static void write_to_file(const char *text, size_t length)
 {
     int file = is_detached ? -1 : open_again(O_WRONLY);
@@ -358,8 +365,8 @@ static void tell_number(char what, uint64_t number)
     append(line, (size_t)(end - line) + sizeof no_effect - 1);
 }
 
-/* Tells how old the log is, by a line without effect: `@ t1234 ! (nil) 0`, where TELL_EACH milliseconds are over. This clock costs no
- * system call. */
+/* Tells how old the log is, by a line without effect: `@ t1234 ! (nil) 0`, where TELL_EACH
+ * milliseconds are over. This clock costs no system call. */
 static void tell_time(void)
 {
     uint64_t now = milliseconds();
@@ -379,7 +386,8 @@ void log_write(const char *lines, size_t length)
     }
 }
 
-/* Tells how many blocks from before the log were freed, where a running program is traced: `@ b7 ! (nil) 0`. */
+/* Tells how many blocks from before the log were freed, where a running program is traced: `@ b7 !
+ * (nil) 0`. */
 static void tell_before(void)
 {
     if (since_is_on()) {
@@ -474,9 +482,11 @@ void log_detach(void)
     ring_detach();
     if (mapped != NULL) {
         /* With the page that may just be tried. */
-        size_t left = mapped_from + mapped_bytes - written / PAGE * PAGE, wanted = room_to + PAGE - written / PAGE * PAGE;
+        size_t left = mapped_from + mapped_bytes - written / PAGE * PAGE,
+               wanted = room_to + PAGE - written / PAGE * PAGE;
         int kind = MAP_PRIVATE | MAP_ANONYMOUS | MAP_FIXED;
-        mmap(mapped + (written / PAGE * PAGE - mapped_from), wanted < left ? wanted : left, PROT_READ | PROT_WRITE, kind, -1, 0);
+        mmap(mapped + (written / PAGE * PAGE - mapped_from), wanted < left ? wanted : left,
+             PROT_READ | PROT_WRITE, kind, -1, 0);
     }
     *alive = 0;
     is_detached = true;
@@ -497,9 +507,9 @@ static bool name_file(const char *name, int tries)
     } else if (again > 1) {
         snprintf(number, sizeof number, "%d.%d", (int)getpid(), again);
     }
-    int length = snprintf(path, sizeof path, "%.*s%s%s%s", before, name,
-                          place == NULL && again > 0 ? "." : "", number,
-                          place == NULL ? "" : place + 2);
+    int length =
+        snprintf(path, sizeof path, "%.*s%s%s%s", before, name,
+                 place == NULL && again > 0 ? "." : "", number, place == NULL ? "" : place + 2);
     return length > 0 && (size_t)length < sizeof path;
 }
 
@@ -522,7 +532,8 @@ static bool make_file(const char *name)
 
 void log_note(const char *words, size_t length)
 {
-    int file = index_path[0] == 0 || !log_may_open() ? -1 : open_file(index_path, O_WRONLY | O_APPEND);
+    int file =
+        index_path[0] == 0 || !log_may_open() ? -1 : open_file(index_path, O_WRONLY | O_APPEND);
     if (file >= 0) {
         syscall(SYS_write, file, words, length);
         close_file(file);
@@ -562,7 +573,8 @@ static bool begin_ring(const char *name)
         return false;
     }
     if (!name_file(name, (int)ring_number()) || !ring_begin(path, begun)) {
-        say(path, errno == ENOSPC ? "has no room for a ring, so nothing is traced" : "can't be made, so nothing is traced");
+        say(path, errno == ENOSPC ? "has no room for a ring, so nothing is traced"
+                                  : "can't be made, so nothing is traced");
         return false;
     }
     return true;
@@ -590,7 +602,8 @@ bool log_begin(const char *name)
     process = getpid();
     written = room_to = 0;
     if (log_is_sealed()) {
-        say(name, "can't be made by a child behind a filter of system calls, so nothing of it is traced");
+        say(name,
+            "can't be made by a child behind a filter of system calls, so nothing of it is traced");
         return false;
     }
     first_filter = syscall(SYS_prctl, PR_GET_SECCOMP, 0ul, 0ul, 0ul, 0ul);

@@ -96,8 +96,8 @@ bool next_line(struct reader *reader)
     }
 }
 
-/* The whole path of the file that is mapped at an address, as the kernel tells it, or null. Each line
- * of the kernel's list begins with an address. With the lock held. */
+/* The whole path of the file that is mapped at an address, as the kernel tells it, or null. Each
+ * line of the kernel's list begins with an address. With the lock held. */
 static const char *mapped_path(uintptr_t address)
 {
     static struct reader reader;
@@ -114,13 +114,13 @@ static const char *mapped_path(uintptr_t address)
 }
 
 struct names {
-    const ElfW(Sym) *symbols;
+    const ElfW(Sym) * symbols;
     const char *strings;
     const uint32_t *hash;
 };
 
 /* What an entry of a dynamic section points to. In some modules it isn't relocated. */
-static uintptr_t address_of(const struct dl_phdr_info *info, const ElfW(Dyn) *entry)
+static uintptr_t address_of(const struct dl_phdr_info *info, const ElfW(Dyn) * entry)
 {
     uintptr_t address = entry->d_un.d_ptr;
     return address < info->dlpi_addr ? info->dlpi_addr + address : address;
@@ -155,7 +155,7 @@ static struct names names_of(const struct dl_phdr_info *info)
 
 /* The symbol of a name, or null. The table has four numbers, a filter, the first symbol of each
  * bucket, and the hashes of the symbols from the lowest in a bucket on. */
-static const ElfW(Sym) *find_symbol(const struct names *names, const char *name)
+static const ElfW(Sym) * find_symbol(const struct names *names, const char *name)
 {
     uint32_t hash = 5381;
     for (const char *from = name; *from != 0; from++) {
@@ -192,8 +192,8 @@ static void find_known(struct module *module, const struct dl_phdr_info *info)
     }
 }
 
-/* Takes the build id of a part with notes: each has the lengths of its name and of what it tells, a kind, and both of
- * these, at multiples of four bytes. */
+/* Takes the build id of a part with notes: each has the lengths of its name and of what it tells, a
+ * kind, and both of these, at multiples of four bytes. */
 static void read_notes(struct module *module, const char *at, size_t left)
 {
     ElfW(Nhdr) note;
@@ -204,7 +204,8 @@ static void read_notes(struct module *module, const char *at, size_t left)
             return;
         }
         const char *text = at + sizeof note;
-        if (note.n_type == NT_GNU_BUILD_ID && note.n_namesz == 4 && memcmp(text, "GNU", 4) == 0 && note.n_descsz <= BUILD_ID_MOST) {
+        if (note.n_type == NT_GNU_BUILD_ID && note.n_namesz == 4 && memcmp(text, "GNU", 4) == 0
+            && note.n_descsz <= BUILD_ID_MOST) {
             memcpy(module->build_id, text + name, note.n_descsz);
             module->build_id_length = note.n_descsz;
         }
@@ -267,7 +268,8 @@ static unsigned number_of(const struct dl_phdr_info *info, uintptr_t base)
     size_t length = put_path(text, path_of(info, base));
     for (unsigned k = 1; k < module_count; k++) {
         const struct module *other = &modules[k];
-        if (other->base == base && other->length == length && memcmp(other->text, text, length) == 0) {
+        if (other->base == base && other->length == length
+            && memcmp(other->text, text, length) == 0) {
             return k;
         }
     }

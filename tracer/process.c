@@ -21,7 +21,8 @@ static char name[PATH_MOST];
 /* Whether settings were read, and whether nothing is to be traced. */
 static bool is_set;
 static bool is_off;
-/* Whether tracing began while the program ran, and wasn't ended by order; and whether handlers were tied then. */
+/* Whether tracing began while the program ran, and wasn't ended by order; and whether handlers were
+ * tied then. */
 static bool is_late, is_ordered, is_tied;
 /* Whether what is still reachable is told at the end, and whether the last handler of exit runs. */
 static bool tells_reachable, is_last_handler;
@@ -82,8 +83,8 @@ void find_real(void)
 /* ---- the end */
 
 /* Ends the log where it is this process's: a child of vfork shares the memory of its parent. A
- * signal's handler that came while its thread was in the tracer may not wait for the lock. Registers
- * are put onto the stack, where reach_tell looks for pointers. */
+ * signal's handler that came while its thread was in the tracer may not wait for the lock.
+ * Registers are put onto the stack, where reach_tell looks for pointers. */
 __attribute__((noinline)) static bool end_by(bool is_closed)
 {
     if (inside || !log_is_on() || getpid() != log_process()) {
@@ -96,7 +97,8 @@ __attribute__((noinline)) static bool end_by(bool is_closed)
         __builtin_unwind_init();
         reach_tell(is_last_handler);
     } else if (tells_reachable) {
-        say(log_path(), "has no list of what is reachable: a filter of system calls may forbid to read it");
+        say(log_path(),
+            "has no list of what is reachable: a filter of system calls may forbid to read it");
     }
     if (is_closed) {
         log_close();
@@ -115,8 +117,8 @@ static bool is_alone(void)
     return stat("/proc/self/task", &told) == 0 && told.st_nlink == 3;
 }
 
-/* Calls a function by its name, of the first object that has it and of the first library: a program may have
- * the library of C++ in itself. */
+/* Calls a function by its name, of the first object that has it and of the first library: a program
+ * may have the library of C++ in itself. */
 static void call_each(const char *symbol)
 {
     inside = true;
@@ -152,7 +154,8 @@ static void at_exit(void *unused)
 
 static void at_quick(void) { end(); }
 
-/* Where tracing began late a handler would run before those of the program: this runs behind them. */
+/* Where tracing began late a handler would run before those of the program: this runs behind
+ * them. */
 __attribute__((destructor)) static void at_last(void)
 {
     if (is_late) {
@@ -213,7 +216,8 @@ static void set(void)
     is_set = true;
     is_off = given == NULL || given[0] == 0 || strlen(given) >= sizeof name;
     if (!is_off) {
-        take(given, frames == NULL ? FRAMES_USUAL : atoi(frames), reachable != NULL && reachable[0] != 0);
+        take(given, frames == NULL ? FRAMES_USUAL : atoi(frames),
+             reachable != NULL && reachable[0] != 0);
         pthread_atfork(stack_before_fork, stack_in_parent, in_child);
         /* Tied to no library, so that it runs behind the destructors of all. */
         __cxa_atexit(at_exit, NULL, NULL);
@@ -299,7 +303,8 @@ static void tie(void)
     }
 }
 
-/* Begins a log whose name is taken. Slots are changed first: so no block of the log is freed unseen. */
+/* Begins a log whose name is taken. Slots are changed first: so no block of the log is freed
+ * unseen. */
 static bool begin_late(void)
 {
     is_late = true;
@@ -317,7 +322,8 @@ static bool begin_late(void)
     return made;
 }
 
-/* Begins to trace this process. Returns the log's name, which begins with a slash, or why it can't be. */
+/* Begins to trace this process. Returns the log's name, which begins with a slash, or why it can't
+ * be. */
 EXPORT const char *tlsf_trace_begin(const char *log, int frames, int reachable)
 {
     uintptr_t theirs;
@@ -359,7 +365,8 @@ EXPORT const char *tlsf_trace_end(void)
 
 /* ---- exec: the log ends, and goes on where the call returns */
 
-/* What was done before a call of exec: whether the log has ended, and whether the program is noted as untraced. */
+/* What was done before a call of exec: whether the log has ended, and whether the program is noted
+ * as untraced. */
 struct before {
     bool ended, noted;
 };
@@ -449,14 +456,14 @@ static char *const *take_words(char **words, const char *word, va_list list, boo
     return with_variables ? va_arg(list, char *const *) : NULL;
 }
 
-#define TAKE_WORDS(word, with_variables)                                                        \
-    va_list list;                                                                               \
-    va_start(list, word);                                                                       \
-    char *words[count_words(word, list) + 1];                                                   \
-    va_end(list);                                                                               \
-    va_start(list, word);                                                                       \
-    char *const *variables = take_words(words, word, list, with_variables);                     \
-    va_end(list);                                                                               \
+#define TAKE_WORDS(word, with_variables) \
+    va_list list; \
+    va_start(list, word); \
+    char *words[count_words(word, list) + 1]; \
+    va_end(list); \
+    va_start(list, word); \
+    char *const *variables = take_words(words, word, list, with_variables); \
+    va_end(list); \
     (void)variables
 
 EXPORT int execl(const char *path, const char *word, ...)

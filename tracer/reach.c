@@ -1,10 +1,10 @@
-/* reach.c: which held blocks the memory of the process still points to where it ends, as LeakSanitizer
- * and valgrind look for them.
+/* reach.c: which held blocks the memory of the process still points to where it ends, as
+ * LeakSanitizer and valgrind look for them.
  *
  * Roots are the words of each mapping that can be read and written: data of the program and its
  * libraries, stacks from where a thread is, and what mmap gave. A held block is no root: its words
- * count where the block itself is pointed to. Memory is read by the kernel, so that a page which can't
- * be read is passed over.
+ * count where the block itself is pointed to. Memory is read by the kernel, so that a page which
+ * can't be read is passed over.
  *
  * What glibc's malloc has beside held blocks isn't looked at: its lists and free blocks have stale
  * pointers. In a child of a fork it is looked at, since blocks of the parent stand there.
@@ -22,17 +22,34 @@
 #include <sys/uio.h>
 #include <unistd.h>
 
-/* Bytes that are read at once, the most threads whose stacks are told apart, the bytes below a stack's
- * pointer that are in use, and what the arenas of glibc's threads are a multiple of. */
-enum { PIECE = 1 << 16, WORD = sizeof(uintptr_t), THREADS_MOST = 1024, RED_ZONE = 128, ARENA = 1 << 26 };
-/* The most parts of files, and the words of a table of functions that are looked at, of which so many are to
- * lead to code. */
+/* Bytes that are read at once, the most threads whose stacks are told apart, the bytes below a
+ * stack's pointer that are in use, and what the arenas of glibc's threads are a multiple of. */
+enum {
+    PIECE = 1 << 16,
+    WORD = sizeof(uintptr_t),
+    THREADS_MOST = 1024,
+    RED_ZONE = 128,
+    ARENA = 1 << 26
+};
+/* The most parts of files, and the words of a table of functions that are looked at, of which so
+ * many are to lead to code. */
 enum { FILES_MOST = 8192, TABLE_WORDS = 20, TABLE_CODE = 2 };
-/* What a lost block has in place of its first's stack until that is known. */
+/* What a lost block has in place of its first's stack until that is known: whether one before it
+ * leads to it. */
 #define IS_LED UINT32_MAX
-/* Words of a piece, bytes of a name, arguments of a system call, the pages that are asked for at once, the
- * most bytes of exit's code, the words that are looked at for its frame, and the registers that it keeps. */
-enum { WORDS = PIECE / WORD, NAME_MOST = PATH_MOST + 16, ARGUMENTS = 6, PAGES = 64, EXIT_CODE = 64, EXIT_WORDS = 128, EXIT_KEPT = 6 };
+#define IS_FIRST (UINT32_MAX - 1)
+/* Words of a piece, bytes of a name, arguments of a system call, the pages that are asked for at
+ * once, the most bytes of exit's code, the words that are looked at for its frame, and the
+ * registers that it keeps. */
+enum {
+    WORDS = PIECE / WORD,
+    NAME_MOST = PATH_MOST + 16,
+    ARGUMENTS = 6,
+    PAGES = 64,
+    EXIT_CODE = 64,
+    EXIT_WORDS = 128,
+    EXIT_KEPT = 6
+};
 
 /* A part of the memory: a line of the kernel's list. */
 struct mapping {
@@ -47,8 +64,8 @@ struct part {
     bool is_code;
 };
 
-/* A search. The queue has blocks whose words are still to be looked at. Each block gets into it twice at
- * most, as its reach rises. */
+/* A search. The queue has blocks whose words are still to be looked at. Each block gets into it
+ * twice at most, as its reach rises. */
 struct search {
     struct held held;
     uint32_t *queue;
@@ -60,8 +77,8 @@ struct search {
     /* Parts of files, in order. */
     struct part files[FILES_MOST];
     size_t file_count;
-    /* The kernel's list of pages, or below 0; the file that is written, how many bytes wait for it, and whether
-     * all others could be written. */
+    /* The kernel's list of pages, or below 0; the file that is written, how many bytes wait for it,
+     * and whether all others could be written. */
     int pages, file;
     /* The stack of the lost block whose others are looked for. */
     uint32_t leader;
@@ -77,14 +94,15 @@ struct sum {
     uint64_t blocks, bytes;
 };
 
-/* An address in glibc's data, where its malloc has its lists, or 0 where malloc is another's; and where
- * the code of exit begins. */
+/* An address in glibc's data, where its malloc has its lists, or 0 where malloc is another's; and
+ * where the code of exit begins. */
 static uintptr_t library_data, exit_code;
 static bool is_child;
 
 void reach_begin(void)
 {
-    void *data = dlsym(RTLD_NEXT, "_IO_2_1_stdout_"), *start = dlsym(RTLD_NEXT, "__libc_start_main");
+    void *data = dlsym(RTLD_NEXT, "_IO_2_1_stdout_"),
+         *start = dlsym(RTLD_NEXT, "__libc_start_main");
     exit_code = (uintptr_t)dlsym(RTLD_NEXT, "exit");
     uintptr_t allocator;
     memcpy(&allocator, &real.malloc, sizeof allocator);
@@ -122,7 +140,8 @@ static const struct part *file_at(const struct search *search, uintptr_t address
     return part != NULL && address < part->to ? part : NULL;
 }
 
-/* Whether a word leads to a table of functions: a part of a file whose first words that aren't 0 lead to code. */
+/* Whether a word leads to a table of functions: a part of a file whose first words that aren't 0
+ * lead to code. */
 static bool is_table(const struct search *search, uintptr_t word)
 {
     uintptr_t table[TABLE_WORDS];
@@ -141,28 +160,29 @@ static bool is_table(const struct search *search, uintptr_t word)
     return found == TABLE_CODE;
 }
 
-/* Whether an address in a block is that of an object's second base class: there and at the block's start are
- * tables of functions. */
+/* Whether an address in a block is that of an object's second base class: there and at the block's
+ * start are tables of functions. */
 static bool is_base(const struct search *search, const struct block *block, uintptr_t address)
 {
     uintptr_t first, second;
-    if (address % WORD != 0 || address - block->start + WORD > block->size ||
-        read_memory(&second, address, WORD) < WORD || !is_table(search, second)) {
+    if (address % WORD != 0 || address - block->start + WORD > block->size
+        || read_memory(&second, address, WORD) < WORD || !is_table(search, second)) {
         return false;
     }
     return read_memory(&first, block->start, WORD) == WORD && is_table(search, first);
 }
 
 /* Whether an address in a block is what a program knows it by: its start; behind its length, as
- * sqlite has it; behind the number of its elements, as of `new[]`; the text of an old std::string; or a
- * second base class. These are rules of valgrind's. */
+ * sqlite has it; behind the number of its elements, as of `new[]`; the text of an old std::string;
+ * or a second base class. These are rules of valgrind's. */
 static bool is_start(const struct search *search, const struct block *block, uintptr_t address)
 {
     uintptr_t head[2], at = address - block->start;
     if (at == 0 || is_base(search, block, address)) {
         return true;
     }
-    if ((at != WORD && at != 3 * WORD) || block->size <= at || read_memory(head, block->start, sizeof head) < sizeof head) {
+    if ((at != WORD && at != 3 * WORD) || block->size <= at
+        || read_memory(head, block->start, sizeof head) < sizeof head) {
         return false;
     }
     if (at == WORD) {
@@ -178,7 +198,8 @@ static void look_at(struct search *search, uintptr_t word, enum reach most)
     if (block == NULL || block->reach >= most) {
         return;
     }
-    enum reach reach = most == REACHABLE && is_start(search, block, word) ? REACHABLE : POSSIBLY_LOST;
+    enum reach reach =
+        most == REACHABLE && is_start(search, block, word) ? REACHABLE : POSSIBLY_LOST;
     if (block->reach < reach) {
         block->reach = reach;
         search->queue[search->queued++] = (uint32_t)(block - search->held.blocks);
@@ -189,7 +210,8 @@ static void look_at(struct search *search, uintptr_t word, enum reach most)
 static bool is_near(const struct held *held, uintptr_t word)
 {
     const struct block *last = &held->blocks[held->count - 1];
-    return word >= held->blocks[0].start && word - last->start <= (word < last->start ? UINTPTR_MAX : last->size);
+    return word >= held->blocks[0].start
+           && word - last->start <= (word < last->start ? UINTPTR_MAX : last->size);
 }
 
 /* What is done with a word of a held block that can be the address of another. */
@@ -216,13 +238,14 @@ static void look_at_block(struct search *search, const struct block *block, take
     }
 }
 
-/* The first address from here on whose page was ever used, or where the next pages are to be asked for: most
- * of a large mapping may be unused. */
+/* The first address from here on whose page was ever used, or where the next pages are to be asked
+ * for: most of a large mapping may be unused. */
 static uintptr_t used_from(const struct search *search, uintptr_t from)
 {
     uint64_t pages[PAGES];
     uintptr_t page = from / PAGE;
-    long got = syscall(SYS_pread64, search->pages, pages, sizeof pages, (long)(page * sizeof *pages));
+    long got =
+        syscall(SYS_pread64, search->pages, pages, sizeof pages, (long)(page * sizeof *pages));
     long known = got < 0 ? 0 : got / (long)sizeof *pages, unused = 0;
     /* The highest bits tell that a page is there, or was swapped. */
     while (unused < known && pages[unused] >> 62 == 0) {
@@ -232,7 +255,8 @@ static uintptr_t used_from(const struct search *search, uintptr_t from)
 }
 
 /* Looks at the words of a part of the memory, but for those of held blocks and of the search. */
-static void look_at_roots(struct search *search, const struct mapping *mapping, uintptr_t from, bool starts_only)
+static void look_at_roots(struct search *search, const struct mapping *mapping, uintptr_t from,
+                          bool starts_only)
 {
     uintptr_t to = mapping->to;
     while (from + WORD <= to) {
@@ -245,7 +269,8 @@ static void look_at_roots(struct search *search, const struct mapping *mapping, 
         size_t got = read_memory(search->words, from, wanted) / WORD;
         for (size_t k = 0; k < got; k++) {
             uintptr_t word = search->words[k], place = from + k * WORD;
-            bool counts = is_near(&search->held, word) && !is_taken(place) && held_find(&search->held, place) == NULL;
+            bool counts = is_near(&search->held, word) && !is_taken(place)
+                          && held_find(&search->held, place) == NULL;
             const struct block *block = counts ? held_find(&search->held, word) : NULL;
             if (block != NULL && (!starts_only || block->start == word)) {
                 look_at(search, word, REACHABLE);
@@ -272,40 +297,48 @@ static struct block *lost_at(const struct search *search, uintptr_t word, const 
     return block == NULL || block == but || block->reach != LOST ? NULL : block;
 }
 
+/* Looks for all that a lost block leads to, by what takes it. */
+static void follow_lost(struct search *search, struct block *first, uint32_t mark, take_t *take)
+{
+    first->leader = mark;
+    search->leader = first->stack;
+    look_at_block(search, first, take);
+    follow(search, take);
+}
+
 static void note_led(struct search *search, const struct block *block, uintptr_t word)
 {
     struct block *led = lost_at(search, word, block);
-    if (led != NULL) {
+    if (led != NULL && led->leader == 0) {
         led->leader = IS_LED;
+        search->queue[search->queued++] = (uint32_t)(led - search->held.blocks);
     }
 }
 
 static void lead_on(struct search *search, const struct block *block, uintptr_t word)
 {
     struct block *led = lost_at(search, word, block);
-    if (led != NULL && led->leader == IS_LED) {
+    if (led != NULL && led->leader >= IS_FIRST) {
         led->leader = search->leader;
         search->queue[search->queued++] = (uint32_t)(led - search->held.blocks);
     }
 }
 
-/* Each lost block that none leads to is the first of those that it leads to; of a ring it is that of the lowest address. */
+/* Each lost block that none leads to is the first of those that it leads to. Of a ring to which
+ * none leads the first is the block of the lowest address. One pass, up the addresses, marks each
+ * block to which no earlier one leads. The other, down the addresses, drops of these the blocks to
+ * which a later one leads. */
 static void find_leaders(struct search *search)
 {
-    for (size_t k = 0; k < search->held.count; k++) {
-        if (search->held.blocks[k].reach == LOST) {
-            look_at_block(search, &search->held.blocks[k], note_led);
+    struct held *held = &search->held;
+    for (size_t k = 0; k < held->count; k++) {
+        if (held->blocks[k].reach == LOST && held->blocks[k].leader == 0) {
+            follow_lost(search, &held->blocks[k], IS_FIRST, note_led);
         }
     }
-    for (uint32_t is_ring = 0; is_ring < 2; is_ring++) {
-        for (size_t k = 0; k < search->held.count; k++) {
-            struct block *block = &search->held.blocks[k];
-            if (block->reach == LOST && block->leader == (is_ring ? IS_LED : 0)) {
-                block->leader = 0;
-                search->leader = block->stack;
-                look_at_block(search, block, lead_on);
-                follow(search, lead_on);
-            }
+    for (size_t k = held->count; k > 0; k--) {
+        if (held->blocks[k - 1].reach == LOST && held->blocks[k - 1].leader == IS_FIRST) {
+            follow_lost(search, &held->blocks[k - 1], 0, lead_on);
         }
     }
 }
@@ -399,8 +432,8 @@ static struct mapping mapping_of(const char *line)
     return mapping;
 }
 
-/* Whether glibc's malloc serves from this mapping: the heap, or an arena of its threads, whose first word
- * points behind the few words that it begins with. */
+/* Whether glibc's malloc serves from this mapping: the heap, or an arena of its threads, whose
+ * first word points behind the few words that it begins with. */
 static bool is_heap(const struct mapping *mapping)
 {
     uintptr_t first = 0;
@@ -410,31 +443,35 @@ static bool is_heap(const struct mapping *mapping)
     if (strcmp(mapping->path, "[heap]") == 0) {
         return true;
     }
-    if (mapping->path[0] != 0 || mapping->from % ARENA != 0 || read_memory(&first, mapping->from, WORD) < WORD) {
+    if (mapping->path[0] != 0 || mapping->from % ARENA != 0
+        || read_memory(&first, mapping->from, WORD) < WORD) {
         return false;
     }
-    return first != 0 && first % ARENA >= 2 * WORD && first % ARENA <= 16 * WORD && first % WORD == 0;
+    return first != 0 && first % ARENA >= 2 * WORD && first % ARENA <= 16 * WORD
+           && first % WORD == 0;
 }
 
-/* Whether this is the stack of a thread that has ended, which glibc keeps for the next one: of the usual
- * size, behind a guard, and in use by no thread. */
-static bool is_old_stack(const struct search *search, const struct mapping *mapping, const struct mapping *before)
+/* Whether this is the stack of a thread that has ended, which glibc keeps for the next one: of the
+ * usual size, behind a guard, and in use by no thread. */
+static bool is_old_stack(const struct search *search, const struct mapping *mapping,
+                         const struct mapping *before)
 {
     struct rlimit usual;
     uintptr_t bytes = mapping->to - mapping->from;
     bool is_guarded = before->is_guard && before->to == mapping->from && mapping->path[0] == 0;
-    return is_guarded && !search->is_unknown && getrlimit(RLIMIT_STACK, &usual) == 0 &&
-        (bytes == usual.rlim_cur || bytes + before->to - before->from == usual.rlim_cur) &&
-        stack_in(search, mapping) == mapping->to;
+    return is_guarded && !search->is_unknown && getrlimit(RLIMIT_STACK, &usual) == 0
+           && (bytes == usual.rlim_cur || bytes + before->to - before->from == usual.rlim_cur)
+           && stack_in(search, mapping) == mapping->to;
 }
 
-/* Looks at the stack of a thread that has ended. Its control block still leads to the thread's table of
- * variables, which glibc keeps with the stack. On x86-64 it begins with its own address, that table's, and
- * its own address again. */
+/* Looks at the stack of a thread that has ended. Its control block still leads to the thread's
+ * table of variables, which glibc keeps with the stack. On x86-64 it begins with its own address,
+ * that table's, and its own address again. */
 static void look_at_old_stack(struct search *search, const struct mapping *mapping)
 {
     uintptr_t from = mapping->to - PIECE;
-    size_t got = mapping->to - mapping->from < PIECE ? 0 : read_memory(search->words, from, PIECE) / WORD;
+    size_t got =
+        mapping->to - mapping->from < PIECE ? 0 : read_memory(search->words, from, PIECE) / WORD;
     for (size_t k = 0; k + 2 < got; k++) {
         uintptr_t place = from + k * WORD;
         if (search->words[k] == place && search->words[k + 2] == place) {
@@ -445,10 +482,12 @@ static void look_at_old_stack(struct search *search, const struct mapping *mappi
 }
 
 /* Looks at a mapping. */
-static void look_at_mapping(struct search *search, const struct mapping *mapping, const struct mapping *before)
+static void look_at_mapping(struct search *search, const struct mapping *mapping,
+                            const struct mapping *before)
 {
-    bool is_device = strncmp(mapping->path, "/dev/", 5) == 0 && strncmp(mapping->path, "/dev/shm/", 9) != 0 &&
-        strncmp(mapping->path, "/dev/zero", 9) != 0;
+    bool is_device = strncmp(mapping->path, "/dev/", 5) == 0
+                     && strncmp(mapping->path, "/dev/shm/", 9) != 0
+                     && strncmp(mapping->path, "/dev/zero", 9) != 0;
     bool is_ring = strncmp(mapping->path, "/dev/shm/tlsf-trace-", 20) == 0;
     if (!mapping->is_written || is_device || is_ring || is_heap(mapping)) {
         return;
@@ -497,7 +536,8 @@ static bool look_at_mappings(struct search *search)
 
 /* ---- what is told */
 
-/* Adds up the blocks of one reach that none leads to by their stacks, and returns the sum of all. */
+/* Adds up the blocks of one reach that none leads to by their stacks, and returns the sum of
+ * all. */
 static struct sum add_up(const struct held *held, enum reach reach, struct sum *sums)
 {
     struct sum all = {0, 0};
@@ -517,7 +557,9 @@ static struct sum add_up(const struct held *held, enum reach reach, struct sum *
 /* Writes what waits, which stands where the words were. */
 static void flush(struct search *search)
 {
-    search->is_whole = search->is_whole && syscall(SYS_write, search->file, search->words, search->waiting) == (long)search->waiting;
+    search->is_whole = search->is_whole
+                       && syscall(SYS_write, search->file, search->words, search->waiting)
+                              == (long)search->waiting;
     search->waiting = 0;
 }
 
@@ -540,8 +582,9 @@ static void tell_sum(struct search *search, struct sum sum, uint32_t stack, uint
     }
     snprintf(place, sizeof place, " at s%u", stack);
     snprintf(by, sizeof by, " by s%u", leader);
-    snprintf(line, sizeof line, "%llu bytes in %llu blocks%s%s\n", (unsigned long long)sum.bytes, (unsigned long long)sum.blocks,
-             stack == 0 ? "" : place, stack == 0 || leader == 0 ? "" : by);
+    snprintf(line, sizeof line, "%llu bytes in %llu blocks%s%s\n", (unsigned long long)sum.bytes,
+             (unsigned long long)sum.blocks, stack == 0 ? "" : place,
+             stack == 0 || leader == 0 ? "" : by);
     put(search, line);
 }
 
@@ -565,7 +608,8 @@ static void sink(const struct block *blocks, uint32_t *order, size_t at, size_t 
     order[at] = moved;
 }
 
-/* The blocks that others lead to, in order of the stacks of both, by a heap. Returns how many there are. */
+/* The blocks that others lead to, in order of the stacks of both, by a heap. Returns how many there
+ * are. */
 static size_t put_in_order(const struct held *held, uint32_t *order)
 {
     size_t count = 0;
@@ -586,7 +630,8 @@ static size_t put_in_order(const struct held *held, uint32_t *order)
     return count;
 }
 
-/* Writes the sums of lost blocks that others lead to, each behind its stack with that of their first. */
+/* Writes the sums of lost blocks that others lead to, each behind its stack with that of their
+ * first. */
 static void tell_led(struct search *search)
 {
     const struct block *blocks = search->held.blocks, *before = NULL;
@@ -616,7 +661,8 @@ static void tell_part(struct search *search, enum reach reach, struct sum *sums)
     static const char *const names[] = {"Lost", "Possibly lost", "Still reachable"};
     char line[128];
     struct sum all = add_up(&search->held, reach, sums);
-    snprintf(line, sizeof line, "%s: %llu blocks, %llu bytes.\n", names[reach], (unsigned long long)all.blocks, (unsigned long long)all.bytes);
+    snprintf(line, sizeof line, "%s: %llu blocks, %llu bytes.\n", names[reach],
+             (unsigned long long)all.blocks, (unsigned long long)all.bytes);
     put(search, line);
     for (uint32_t stack = 0; stack <= search->held.stacks; stack++) {
         tell_sum(search, sums[stack], stack, 0);
@@ -633,7 +679,10 @@ static const char *name_in(struct search *search)
     return search->name;
 }
 
-static void remove_file(struct search *search) { syscall(SYS_unlinkat, AT_FDCWD, name_in(search), 0); }
+static void remove_file(struct search *search)
+{
+    syscall(SYS_unlinkat, AT_FDCWD, name_in(search), 0);
+}
 
 /* Writes the file: a new one. Where it can't be written whole there is none. */
 static bool tell(struct search *search)
@@ -641,7 +690,8 @@ static bool tell(struct search *search)
     struct sum *sums = take_pages((search->held.stacks + 1ul) * sizeof *sums);
     int flags = O_WRONLY | O_CREAT | O_EXCL | O_CLOEXEC;
     remove_file(search);
-    search->file = sums == NULL ? -1 : (int)syscall(SYS_openat, AT_FDCWD, name_in(search), flags, 0666);
+    search->file =
+        sums == NULL ? -1 : (int)syscall(SYS_openat, AT_FDCWD, name_in(search), flags, 0666);
     search->is_whole = search->file >= 0;
     for (int reach = LOST; search->is_whole && reach < REACHES; reach++) {
         tell_part(search, (enum reach)reach, sums);
@@ -688,8 +738,9 @@ static bool look(struct search *search)
     return looked;
 }
 
-/* Where this thread's stack is in use from. Amid exit that is where exit keeps its caller's registers, on x86-64
- * in front of where it was called: below are words that calls before it have left. */
+/* Where this thread's stack is in use from. Amid exit that is where exit keeps its caller's
+ * registers, on x86-64 in front of where it was called: below are words that calls before it have
+ * left. */
 static uintptr_t stack_from(struct search *search, uintptr_t here)
 {
     size_t got = read_memory(search->words, here, EXIT_WORDS * WORD) / WORD;
@@ -708,10 +759,13 @@ void reach_tell(bool is_last_handler)
     if (search != NULL) {
         search->stacks[search->threads++] = is_last_handler ? stack_from(search, here) : here;
     }
-    bool is_read = search != NULL && (ring_is_on() ? held_copy(&search->held) : held_read(&search->held, log_path()));
+    bool is_read =
+        search != NULL
+        && (ring_is_on() ? held_copy(&search->held) : held_read(&search->held, log_path()));
     bool told = is_read && look(search) && tell(search);
     if (!told) {
-        say(log_path(), "has no list of what is reachable: memory, /proc or the log can't be read, or the list not be written");
+        say(log_path(), "has no list of what is reachable: memory, /proc or the log can't be read, "
+                        "or the list not be written");
     }
     if (search != NULL) {
         give_pages(search->held.blocks);

@@ -1,9 +1,11 @@
 /* ring.c: the log as a ring in memory, for a program that is followed for days (ring.h).
  *
- * Where the ring is full the process waits. Meanwhile handlers of signals don't run: one would find its thread in the tracer, and might never
- * come back. Other signals end the process as ever. Where the follower is gone the process goes on without being traced.
+ * Where the ring is full the process waits. Meanwhile handlers of signals don't run: one would find
+ * its thread in the tracer, and might never come back. Other signals end the process as ever. Where
+ * the follower is gone the process goes on without being traced.
  *
- * Behind a filter of system calls none is made: then the process waits in a loop, and the follower looks by itself.
+ * Behind a filter of system calls none is made: then the process waits in a loop, and the follower
+ * looks by itself.
  */
 #define _GNU_SOURCE
 #include "ring.h"
@@ -22,14 +24,16 @@
 #include <time.h>
 #include <unistd.h>
 
-/* How long is waited before the follower is looked for, in nanoseconds; and after which part of the ring it is woken. */
+/* How long is waited before the follower is looked for, in nanoseconds; and after which part of the
+ * ring it is woken. */
 enum { LOOK_EACH = 200000000, WAKE_EACH = 8 };
 
 /* The session stays mapped in a child of a fork. The ring doesn't: it is the parent's. */
 static struct session *session;
 static struct ring *ring;
 static char *lines;
-/* The bytes of the ring, and those written; how far the follower had read when that was looked at; and where it is woken next. */
+/* The bytes of the ring, and those written; how far the follower had read when that was looked at;
+ * and where it is woken next. */
 static size_t bytes, written, read_then, wake_at;
 
 bool ring_is_on(void) { return ring != NULL; }
@@ -43,9 +47,15 @@ static void wake(uint32_t *word)
 }
 
 /* Whether the follower is gone, which the kernel writes into the session. */
-static bool is_alone(void) { return (__atomic_load_n(&session->owner, __ATOMIC_ACQUIRE) & OWNER_DIED) != 0; }
+static bool is_alone(void)
+{
+    return (__atomic_load_n(&session->owner, __ATOMIC_ACQUIRE) & OWNER_DIED) != 0;
+}
 
-static bool is_given_up(void) { return __atomic_load_n(&ring->is_dropped, __ATOMIC_ACQUIRE) != 0 || is_alone(); }
+static bool is_given_up(void)
+{
+    return __atomic_load_n(&ring->is_dropped, __ATOMIC_ACQUIRE) != 0 || is_alone();
+}
 
 /* ---- where it is full */
 
@@ -55,7 +65,8 @@ static void handled_signals(sigset_t *handled)
     sigemptyset(handled);
     for (int number = 1; number < NSIG; number++) {
         struct sigaction action;
-        if (sigaction(number, NULL, &action) == 0 && action.sa_handler != SIG_DFL && action.sa_handler != SIG_IGN) {
+        if (sigaction(number, NULL, &action) == 0 && action.sa_handler != SIG_DFL
+            && action.sa_handler != SIG_IGN) {
             sigaddset(handled, number);
         }
     }
@@ -119,14 +130,19 @@ bool ring_write(const char *text, size_t length, bool may_call)
 
 /* ---- begin and end */
 
-static int open_file(const char *name, int flags) { return (int)syscall(SYS_openat, AT_FDCWD, name, flags | O_CLOEXEC, 0600); }
+static int open_file(const char *name, int flags)
+{
+    return (int)syscall(SYS_openat, AT_FDCWD, name, flags | O_CLOEXEC, 0600);
+}
 
 /* Maps a page of a file of the folder, or returns null. */
 static void *map_file(const char *folder, int length, const char *name, int flags)
 {
     char path[PATH_MOST];
     void *page = MAP_FAILED;
-    int file = snprintf(path, sizeof path, "%.*s/%s", length, folder, name) < PATH_MOST ? open_file(path, flags) : -1;
+    int file = snprintf(path, sizeof path, "%.*s/%s", length, folder, name) < PATH_MOST
+                   ? open_file(path, flags)
+                   : -1;
     if (file >= 0) {
         page = mmap(NULL, PAGE, PROT_READ | PROT_WRITE, MAP_SHARED, file, 0);
         syscall(SYS_close, file);
@@ -142,9 +158,11 @@ bool ring_session(const char *name, bool is_late)
         munmap(session, PAGE);
         session = NULL;
     }
-    if (session == NULL && (session = map_file(name, length, "session", O_RDWR)) != NULL && !is_late) {
+    if (session == NULL && (session = map_file(name, length, "session", O_RDWR)) != NULL
+        && !is_late) {
         char here[32];
-        snprintf(here, sizeof here, "%u.here", __atomic_fetch_add(&session->programs, 1, __ATOMIC_RELAXED));
+        snprintf(here, sizeof here, "%u.here",
+                 __atomic_fetch_add(&session->programs, 1, __ATOMIC_RELAXED));
         map_file(name, length, here, O_RDWR | O_CREAT | O_EXCL);
     }
     return session != NULL && !is_alone();
@@ -156,7 +174,8 @@ unsigned ring_number(void) { return __atomic_fetch_add(&session->rings, 1, __ATO
 static bool promise(int file, size_t length)
 {
     struct rlimit limit;
-    bool may = getrlimit(RLIMIT_FSIZE, &limit) == 0 && (limit.rlim_cur == RLIM_INFINITY || limit.rlim_cur >= length);
+    bool may = getrlimit(RLIMIT_FSIZE, &limit) == 0
+               && (limit.rlim_cur == RLIM_INFINITY || limit.rlim_cur >= length);
     return may && syscall(SYS_fallocate, file, 0, 0L, (long)length) == 0;
 }
 
@@ -168,8 +187,9 @@ static bool map(int file)
     if (memory == MAP_FAILED) {
         return false;
     }
-    if (mmap(memory + PAGE + bytes, bytes, access, MAP_SHARED | MAP_FIXED, file, (off_t)PAGE) == MAP_FAILED ||
-        madvise(memory, PAGE + 2 * bytes, MADV_DONTFORK) != 0) {
+    if (mmap(memory + PAGE + bytes, bytes, access, MAP_SHARED | MAP_FIXED, file, (off_t)PAGE)
+            == MAP_FAILED
+        || madvise(memory, PAGE + 2 * bytes, MADV_DONTFORK) != 0) {
         munmap(memory, PAGE + 2 * bytes);
         return false;
     }
@@ -178,7 +198,8 @@ static bool map(int file)
     return true;
 }
 
-/* The file isn't opened again: so its follower is told by the kernel once it is mapped no more, whatever ended the process. */
+/* The file isn't opened again: so its follower is told by the kernel once it is mapped no more,
+ * whatever ended the process. */
 bool ring_begin(const char *path, uint64_t begun)
 {
     char fresh[PATH_MOST + 8];

@@ -1,5 +1,5 @@
-"""A running process that is traced: whether it can be, and the orders to the tracer in it, which gdb gives by in_gdb.py. It isn't
-proved."""
+"""A running process that is traced: whether it can be, and the orders to the tracer in it, which
+gdb gives by in_gdb.py. It isn't proved."""
 import json
 import os
 import re
@@ -15,13 +15,12 @@ NOW, NOT_AGAIN, NO_LOAD = 2, 0x1000, 4
 OF_GDB = "gdb: "
 CALLS = ("malloc", "calloc", "realloc", "free")
 FUNCTIONS = ("dlopen", "dlsym", "dlerror", "mmap", "munmap")
-# System calls that wait: read, write, poll, select, epoll, sleep, pause, wait, accept, receive, send, sigsuspend, and restarts of these.
-WAITS = {
-    "x86_64": (202, (0, 1, 7, 17, 19, 20, 23, 34, 35, 43, 44, 45, 46, 47, 61, 65, 72, 73, 128, 130, 202, 208, 219, 220, 230, 232, 247,
-                     270, 271, 281, 288, 299, 441)),
-    "aarch64": (98, (22, 25, 32, 63, 64, 65, 66, 67, 72, 73, 95, 98, 101, 115, 128, 133, 137, 192, 202, 206, 207, 211, 212, 242, 243,
-                     260, 441)),
-}
+# System calls that wait: read, write, poll, select, epoll, sleep, pause, wait, accept, receive,
+# send, sigsuspend, and restarts of these.
+WAITS = {"x86_64": (202, (0, 1, 7, 17, 19, 20, 23, 34, 35, 43, 44, 45, 46, 47, 61, 65, 72, 73, 128,
+                          130, 202, 208, 219, 220, 230, 232, 247, 270, 271, 281, 288, 299, 441)),
+         "aarch64": (98, (22, 25, 32, 63, 64, 65, 66, 67, 72, 73, 95, 98, 101, 115, 128, 133, 137,
+                          192, 202, 206, 207, 211, 212, 242, 243, 260, 441)),}
 MAPPED = re.compile(r"([0-9a-f]+)-([0-9a-f]+) (\S+) ([0-9a-f]+) \S+ \S+ *(.*)")
 
 
@@ -30,14 +29,16 @@ class Refused(Exception):
 
 
 class Root:
-    """The root folder of a process: this one's, or another, as in a container. A PermissionError tells that it may not be looked into."""
+    """The root folder of a process: this one's, or another, as in a container. A PermissionError
+    tells that it may not be looked into."""
 
     def __init__(self, process):
         self.process, self.path = process, os.readlink(f"/proc/{process}/root")
         is_same = os.stat(f"/proc/{process}/ns/mnt").st_ino == os.stat("/proc/self/ns/mnt").st_ino
         self.is_other = not is_same or self.path != os.readlink("/proc/self/root")
         # Held open, so that its files are there when the process has ended.
-        self.folder = os.open(f"/proc/{process}/root", os.O_PATH | os.O_DIRECTORY) if self.is_other else None
+        self.folder = os.open(f"/proc/{process}/root", os.O_PATH
+                              | os.O_DIRECTORY) if self.is_other else None
         self.room = f"/tmp/tlsf-trace-{process}"
 
     def inside(self, path):
@@ -50,7 +51,8 @@ class Root:
         return f"/proc/{os.getpid()}/fd/{self.folder}{path}" if self.is_other else path
 
     def open_room(self, makes=False):
-        """The tracer's folder in the other root, open. Its process could put links there, which lead into this root: so none is followed."""
+        """The tracer's folder in the other root, open. Its process could put links there, which
+        lead into this root: so none is followed."""
         folder = os.O_RDONLY | os.O_DIRECTORY | os.O_NOFOLLOW
         name, temporary = os.path.basename(self.room), os.open("tmp", folder, dir_fd=self.folder)
         try:
@@ -63,13 +65,15 @@ class Root:
             os.close(temporary)
 
     def put(self, library):
-        """Puts the tracer where the process can load it, in a folder of its user: its path there. An OSError tells why it can't be."""
+        """Puts the tracer where the process can load it, in a folder of its user: its path there.
+        An OSError tells why it can't be."""
         if not self.is_other:
             return library
         room, name = self.open_room(makes=True), os.path.basename(library)
         try:
             if name not in os.listdir(room):
-                to = os.open(name, os.O_WRONLY | os.O_CREAT | os.O_EXCL | os.O_NOFOLLOW, 0o755, dir_fd=room)
+                to = os.open(name, os.O_WRONLY | os.O_CREAT | os.O_EXCL | os.O_NOFOLLOW, 0o755,
+                             dir_fd=room)
                 with open(library, "rb") as source, os.fdopen(to, "wb") as copy:
                     os.fchmod(to, 0o755)
                     shutil.copyfileobj(source, copy)
@@ -110,7 +114,8 @@ class Mapped:
 
 
 def other_root(process):
-    """The root folder of a process that has another than this one, or nothing, as where it may not be looked into."""
+    """The root folder of a process that has another than this one, or nothing, as where it may not
+    be looked into."""
     try:
         return f"/proc/{process}/root" if Root(process).is_other else ""
     except OSError:
@@ -128,7 +133,8 @@ def mapped_files(process):
 
 
 def status_of(process, field):
-    found = re.search(rf"^{field}:\s*(\S+)", Path(f"/proc/{process}/status").read_text(errors="replace"), re.M)
+    found = re.search(rf"^{field}:\s*(\S+)",
+                      Path(f"/proc/{process}/status").read_text(errors="replace"), re.M)
     return found[1] if found else ""
 
 
@@ -146,7 +152,8 @@ def filter_of(process):
 
 
 def check(process):
-    """Raises where a process isn't there, is another's, is debugged, or may not do what the tracer does."""
+    """Raises where a process isn't there, is another's, is debugged, or may not do what the tracer
+    does."""
     if not is_there(process):
         raise Refused(f"there is no process {process}")
     if os.getuid() not in (0, os.stat(f"/proc/{process}").st_uid):
@@ -157,9 +164,11 @@ def check(process):
     try:
         os.stat(f"/proc/{process}/ns/mnt")
     except PermissionError:
-        raise Refused(f"process {process} may not be looked into: ptrace isn't permitted, for it has more rights or gave up some") from None
+        raise Refused(f"process {process} may not be looked into: ptrace isn't permitted, for it "
+                      f"has more rights or gave up some") from None
     if status_of(process, "Seccomp") not in ("", "0") and filter_of(process) != filter_of("self"):
-        raise Refused(f"process {process} is behind a filter of its system calls, which might end it for what the tracer does")
+        raise Refused(f"process {process} is behind a filter of its system calls, which might end "
+                      f"it for what the tracer does")
     if not shutil.which("gdb"):
         raise Refused("gdb isn't found: install it (Debian's gdb)")
     if not shutil.which("nm"):
@@ -177,11 +186,13 @@ def why_not_followed(root):
 
 
 def find_file(process, files, name):
-    """The mapped file of this name; where it isn't mapped, or the file is another by now, this raises."""
+    """The mapped file of this name; where it isn't mapped, or the file is another by now, this
+    raises."""
     for path, file in files.items():
         base = os.path.basename(path)
         if re.fullmatch(name + r" \(deleted\)", base):
-            raise Refused(f"process {process} has an older {base.removesuffix(' (deleted)')} than there is: start it anew")
+            raise Refused(f"process {process} has an older {base.removesuffix(' (deleted)')} than "
+                          f"there is: start it anew")
         if re.fullmatch(name, base):
             return file
     return None
@@ -189,7 +200,9 @@ def find_file(process, files, name):
 
 def addresses(root, file, names):
     """Where functions of a mapped file are, by its symbols."""
-    told = subprocess.run(["nm", "-D", "--defined-only", root.outside(root.inside(file.path))], stdout=subprocess.PIPE, stderr=subprocess.DEVNULL, check=False).stdout.decode()
+    told = subprocess.run(["nm", "-D", "--defined-only", root.outside(root.inside(file.path))],
+                          stdout=subprocess.PIPE, stderr=subprocess.DEVNULL,
+                          check=False).stdout.decode()
     found = {}
     for value, name in re.findall(r"^([0-9a-f]+) [TtWwi] ([^@\s]+)(?:@@?\S*)?$", told, re.M):
         found.setdefault(name, file.base + int(value, 16))
@@ -204,7 +217,8 @@ def orders(root, tracer, order):
     loaded = find_file(process, files, r"libtlsf_trace\.so")
     linker = find_file(process, files, r"ld-(?:linux|2)[-.\w]*\.so(?:\.\d+)?")
     if library is None or linker is None:
-        raise Refused(f"process {process} has no C library of glibc: it is linked statically, or to another")
+        raise Refused(f"process {process} has no C library of glibc: it is linked statically, or "
+                      f"to another")
     functions = addresses(root, library, (*CALLS, *FUNCTIONS))
     if len(functions) < len(CALLS) + len(FUNCTIONS):
         raise Refused(f"process {process} has a C library older than glibc 2.34")
@@ -213,11 +227,12 @@ def orders(root, tracer, order):
     calls = addresses(root, loaded, CALLS) if order == "tlsf_trace_end" else functions
     machine = os.uname().machine
     futex, waits = WAITS[machine]
-    return {
-        "process": process, "program": f"/proc/{process}/exe", "machine": machine, "futex": futex, "waits": waits, "functions": functions, "calls": [calls[name] for name in CALLS],
-        "library": library.code, "busy": linker.code + (loaded.code if loaded else []), "order": order,
-        "tracer": root.inside(loaded.path) if loaded else root.put(tracer), "mode": NOW | (NO_LOAD if loaded else NOT_AGAIN),
-    }
+    return {"process": process, "program": f"/proc/{process}/exe", "machine": machine,
+            "futex": futex, "waits": waits, "functions": functions,
+            "calls": [calls[name] for name in CALLS], "library": library.code,
+            "busy": linker.code + (loaded.code if loaded else []), "order": order,
+            "tracer": root.inside(loaded.path) if loaded else root.put(tracer),
+            "mode": NOW | (NO_LOAD if loaded else NOT_AGAIN),}
 
 
 def lines_of(answer):
@@ -225,7 +240,8 @@ def lines_of(answer):
 
 
 def wait_for(gdb, process, answer):
-    """Waits for gdb. Where no thread comes to where it can be called, the wait is ended by a signal that gdb takes."""
+    """Waits for gdb. Where no thread comes to where it can be called, the wait is ended by a signal
+    that gdb takes."""
     while True:
         try:
             return gdb.communicate(timeout=PATIENCE)[1]
@@ -246,21 +262,27 @@ def why_not(process, said):
         scope = "0"
     if scope == "0":
         return f"gdb may not attach to process {process}: ptrace isn't permitted here"
-    return f"gdb may not attach to process {process}: /proc/sys/kernel/yama/ptrace_scope is {scope}, so only root may"
+    return (f"gdb may not attach to process {process}: /proc/sys/kernel/yama/ptrace_scope is "
+            f"{scope}, so only root may")
 
 
 def give(root, tracer, order, log="", frames=0, reachable=False):
-    """Gives the tracer in a process with this root an order. Returns its log, by the path that the process has."""
+    """Gives the tracer in a process with this root an order. Returns its log, by the path that the
+    process has."""
     process = root.process
     check(process)
-    told = {**orders(root, tracer, order), "log": log, "frames": frames, "reachable": int(reachable)}
+    told = {**orders(root, tracer, order), "log": log, "frames": frames,
+            "reachable": int(reachable)}
     # In memory, since the disk may be full.
     answer = os.memfd_create("tlsf-trace")
     try:
         told["answer"] = f"/proc/{os.getpid()}/fd/{answer}"
-        words = ["gdb", "-nx", "-batch", "-iex", "set auto-load off", "-iex", "set debuginfod enabled off", "-x", str(HERE / "in_gdb.py")]
-        gdb = subprocess.Popen(words, env={**os.environ, "TLSF_IN_GDB": json.dumps(told)}, stdin=subprocess.DEVNULL, stdout=subprocess.DEVNULL,
-                               stderr=subprocess.PIPE, text=True, errors="replace", start_new_session=True)
+        words = ["gdb", "-nx", "-batch", "-iex", "set auto-load off", "-iex",
+                 "set debuginfod enabled off", "-x", str(HERE / "in_gdb.py")]
+        gdb = subprocess.Popen(words, env={**os.environ, "TLSF_IN_GDB": json.dumps(told)},
+                               stdin=subprocess.DEVNULL, stdout=subprocess.DEVNULL,
+                               stderr=subprocess.PIPE, text=True, errors="replace",
+                               start_new_session=True)
         said = wait_for(gdb, process, told["answer"])
         kind, _, text = (lines_of(told["answer"]) or [""])[-1].partition(" ")
     finally:

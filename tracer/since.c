@@ -1,6 +1,6 @@
-/* since.c: the blocks that are held since a running program is traced: a set of addresses. What isn't in
- * it is from before: to free it is counted, and is no line of the log. All calls have the lock of the log
- * held. Memory is taken as for the search of held.c, which passes over it.
+/* since.c: the blocks that are held since a running program is traced: a set of addresses. What
+ * isn't in it is from before: to free it is counted, and is no line of the log. All calls have the
+ * lock of the log held. Memory is taken as for the search of held.c, which passes over it.
  */
 #include "trace.h"
 

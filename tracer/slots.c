@@ -1,11 +1,11 @@
-/* slots.c: the slots through which the loaded objects call malloc and what the tracer stands in for. A
- * program that runs already has them filled: tracing it writes the tracer's calls into them, and its end
- * writes back what was there. A slot is changed where it has the one address or the other, so nothing has
- * to be kept of it, and another thread sees either.
+/* slots.c: the slots through which the loaded objects call malloc and what the tracer stands in
+ * for. A program that runs already has them filled: tracing it writes the tracer's calls into them,
+ * and its end writes back what was there. A slot is changed where it has the one address or the
+ * other, so nothing has to be kept of it, and another thread sees either.
  *
- * An object that another thread still loads may be looked at: its slots aren't those addresses before the
- * dynamic linker has written them. The part that the linker makes read-only when it is done is left alone
- * until then, and looked at again.
+ * An object that another thread still loads may be looked at: its slots aren't those addresses
+ * before the dynamic linker has written them. The part that the linker makes read-only when it is
+ * done is left alone until then, and looked at again.
  */
 #define _GNU_SOURCE
 #include "trace.h"
@@ -40,15 +40,15 @@ struct call {
 struct object {
     const struct dl_phdr_info *info;
     uintptr_t from, to, relro_from, relro_to;
-    const ElfW(Sym) *symbols;
+    const ElfW(Sym) * symbols;
     const char *strings;
 };
 
 static struct call calls[CALLS];
 static size_t call_count;
 static pthread_mutex_t lock = PTHREAD_MUTEX_INITIALIZER;
-/* Whether slots are the tracer's; whether objects may have come; whether a slot has to wait, and how often
- * it was tried again; how many objects had come; and the calls of malloc. */
+/* Whether slots are the tracer's; whether objects may have come; whether a slot has to wait, and
+ * how often it was tried again; how many objects had come; and the calls of malloc. */
 static bool is_on, is_due, is_waiting;
 static unsigned tries, passed;
 static unsigned long long seen;
@@ -67,8 +67,8 @@ static void add_call(const char *name, uintptr_t ours)
 /* Whether the search for a library depends on the object that asks for it. */
 static bool depends_on_caller(const char *file, void *caller);
 
-/* Stands in for dlopen. Where the caller matters the C library has to see it: then this call leaves no
- * frame, and the next call of malloc looks for the new objects. */
+/* Stands in for dlopen. Where the caller matters the C library has to see it: then this call leaves
+ * no frame, and the next call of malloc looks for the new objects. */
 static void *open_object(const char *file, int mode)
 {
     if (file == NULL || depends_on_caller(file, CALLER)) {
@@ -153,7 +153,8 @@ static bool is_writable(uintptr_t address)
     reader.file = (int)syscall(SYS_openat, AT_FDCWD, "/proc/self/maps", O_RDONLY | O_CLOEXEC);
     while (!found && reader.file >= 0 && next_line(&reader)) {
         char *at;
-        uintptr_t from = strtoul(reader.line, &at, 16), to = *at == '-' ? strtoul(at + 1, &at, 16) : 0;
+        uintptr_t from = strtoul(reader.line, &at, 16),
+                  to = *at == '-' ? strtoul(at + 1, &at, 16) : 0;
         found = from <= address && address < to;
         is_written = found && at[0] == ' ' && at[2] == 'w';
     }
@@ -163,7 +164,8 @@ static bool is_writable(uintptr_t address)
     return is_written;
 }
 
-/* Writes an address into a slot. Where the linker has made it read-only it is so again behind that. */
+/* Writes an address into a slot. Where the linker has made it read-only it is so again behind
+ * that. */
 static void write_slot(const struct object *object, uintptr_t *slot, uintptr_t address)
 {
     uintptr_t place = (uintptr_t)slot;
@@ -180,16 +182,17 @@ static void write_slot(const struct object *object, uintptr_t *slot, uintptr_t a
     mprotect(page, PAGE, PROT_READ);
 }
 
-/* Whether a slot leads to the dynamic linker, which looks the call up when it comes first: then it has an
- * address of its own object. */
-static bool is_lazy(const struct object *object, const ElfW(Rela) *entry, const ElfW(Sym) *symbol, uintptr_t address)
+/* Whether a slot leads to the dynamic linker, which looks the call up when it comes first: then it
+ * has an address of its own object. */
+static bool is_lazy(const struct object *object, const ElfW(Rela) * entry, const ElfW(Sym) * symbol,
+                    uintptr_t address)
 {
-    return ELF64_R_TYPE(entry->r_info) == SLOT && symbol->st_shndx == SHN_UNDEF &&
-        object->from <= address && address < object->to;
+    return ELF64_R_TYPE(entry->r_info) == SLOT && symbol->st_shndx == SHN_UNDEF
+           && object->from <= address && address < object->to;
 }
 
 /* Looks at an entry of an object's relocations. */
-static void look_at_entry(const struct object *object, const ElfW(Rela) *entry)
+static void look_at_entry(const struct object *object, const ElfW(Rela) * entry)
 {
     uint64_t type = ELF64_R_TYPE(entry->r_info), number = ELF64_R_SYM(entry->r_info);
     if (number == 0 || (type != SLOT && type != DATA && (type != WORD || entry->r_addend != 0))) {
@@ -226,7 +229,8 @@ static int look_at_object(struct dl_phdr_info *info, size_t size, void *unused)
     (void)size;
     (void)unused;
     seen = info->dlpi_adds;
-    if (object.symbols != NULL && object.strings != NULL && (here < object.from || here >= object.to)) {
+    if (object.symbols != NULL && object.strings != NULL
+        && (here < object.from || here >= object.to)) {
         look_at_table(&object, DT_JMPREL, DT_PLTRELSZ);
         look_at_table(&object, DT_RELA, DT_RELASZ);
     }
@@ -254,7 +258,9 @@ static int look_for_caller(struct dl_phdr_info *info, size_t size, void *data)
     struct object object = object_of(info);
     bool found = object.from <= search->address && search->address < object.to;
     (void)size;
-    search->tells = found && (dynamic_entry(info, DT_RPATH, false) != 0 || dynamic_entry(info, DT_RUNPATH, false) != 0);
+    search->tells = found
+                    && (dynamic_entry(info, DT_RPATH, false) != 0
+                        || dynamic_entry(info, DT_RUNPATH, false) != 0);
     return found;
 }
 
@@ -301,7 +307,8 @@ void slots_renew(void)
 
 void slots_pass(void)
 {
-    if (__atomic_load_n(&is_due, __ATOMIC_RELAXED) || __atomic_add_fetch(&passed, 1, __ATOMIC_RELAXED) % LOOK_EACH == 0) {
+    if (__atomic_load_n(&is_due, __ATOMIC_RELAXED)
+        || __atomic_add_fetch(&passed, 1, __ATOMIC_RELAXED) % LOOK_EACH == 0) {
         slots_renew();
     }
 }

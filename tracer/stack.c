@@ -1,7 +1,7 @@
 /* stack.c: the stack of a call: the frames that are told, nearest first.
  *
- * Frames are found by libunwind, if it is installed. What an address is, and which number a stack has,
- * is kept in tables.
+ * Frames are found by libunwind, if it is installed. What an address is, and which number a stack
+ * has, is kept in tables.
  */
 #define _GNU_SOURCE
 #include "trace.h"
@@ -174,8 +174,8 @@ static int stack_of(char *caller, void **stack)
  * function that has no name, in the module of the next. */
 static bool is_of_start(const struct frame *frame, const struct frame *next)
 {
-    return frame->kind == START ||
-        (next != NULL && next->kind == START && next->module == frame->module);
+    return frame->kind == START
+           || (next != NULL && next->kind == START && next->module == frame->module);
 }
 
 static void begin_search(void)
@@ -226,10 +226,12 @@ static int addresses_of(void *caller, void **stack)
 {
     struct frame spare;
     stack[0] = caller;
-    return frames_most == 1 && frame_of(caller, &spare)->kind != OPERATOR ? 1 : stack_of(caller, stack);
+    return frames_most == 1 && frame_of(caller, &spare)->kind != OPERATOR ? 1
+                                                                          : stack_of(caller, stack);
 }
 
-/* The frames of a stack that are told: how many. Of more frames than are asked for the last says so. */
+/* The frames of a stack that are told: how many. Of more frames than are asked for the last says
+ * so. */
 static unsigned told_frames(void *const *stack, int count, struct place *places)
 {
     struct frame spare[2];

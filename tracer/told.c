@@ -1,16 +1,17 @@
-/* told.c: the modules and stacks that the log has told. Each is told once, by lines of a reallocation
- * that failed, which have no effect, and has a number from then on:
+/* told.c: the modules and stacks that the log has told. Each is told once, by lines of a
+ * reallocation that failed, which have no effect, and has a number from then on:
  *
  *     @ m3=/usr/lib/libshop.so ! (nil) 0
  *     @ i3=5a1f20c3 ! (nil) 0
  *     @ s17=3:1f2a<77<1:9a<s12.5 ! (nil) 0
  *
- * A stack's text has a frame for each call, the nearest first: the number of its module, left out where
- * the frame in front has the same, and the offset that it returns to. `s12.5` at its end are the last
- * five frames of stack 12. Where a text is too long for a line, another goes on: `@ s17+..`.
+ * A stack's text has a frame for each call, the nearest first: the number of its module, left out
+ * where the frame in front has the same, and the offset that it returns to. `s12.5` at its end are
+ * the last five frames of stack 12. Where a text is too long for a line, another goes on: `@
+ * s17+..`.
  *
- * Of a stack that was told its number and 96 bits of a hash are kept, so two that share these would be
- * taken for one. All calls but told_forget have the lock of the log held.
+ * Of a stack that was told its number and 96 bits of a hash are kept, so two that share these would
+ * be taken for one. All calls but told_forget have the lock of the log held.
  */
 #define _GNU_SOURCE
 #include "trace.h"
@@ -189,7 +190,8 @@ static uint32_t *bucket_of(const struct known *stack) { return &buckets[stack->h
 static unsigned find_stack(const struct known *stack)
 {
     unsigned number = room == 0 ? 0 : *bucket_of(stack);
-    while (number != 0 && (known[number].hash != stack->hash || known[number].more != stack->more)) {
+    while (number != 0
+           && (known[number].hash != stack->hash || known[number].more != stack->more)) {
         number = known[number].next;
     }
     return number;
@@ -212,8 +214,9 @@ static bool grow(void)
     int access = PROT_READ | PROT_WRITE, kind = MAP_PRIVATE | MAP_ANONYMOUS;
     void *fresh = mmap(NULL, more * sizeof *buckets, access, kind, -1, 0);
     void *moved = fresh == MAP_FAILED ? MAP_FAILED
-        : room == 0 ? mmap(NULL, more * sizeof *known, access, kind, -1, 0)
-                    : mremap(known, room * sizeof *known, more * sizeof *known, MREMAP_MAYMOVE);
+                  : room == 0
+                      ? mmap(NULL, more * sizeof *known, access, kind, -1, 0)
+                      : mremap(known, room * sizeof *known, more * sizeof *known, MREMAP_MAYMOVE);
     if (moved == MAP_FAILED) {
         if (fresh != MAP_FAILED) {
             munmap(fresh, more * sizeof *buckets);

@@ -7,21 +7,24 @@
  *     told.c     the modules and stacks that the log has told
  *     text.c     numbers as text
  *     log.c      the log: a file that is mapped ahead
- *     ring.c     the same without a file: a ring in memory, whose follower (follow/) gives its lines to tlsf
+ *     ring.c     the same without a file: a ring in memory, whose follower (follow/) gives its
+ *                lines to tlsf
  *     slots.c    the slots by which a running program calls malloc
  *     since.c    the blocks that are held since a running program is traced
  *     held.c     the blocks that are held at the end, by the log
  *     reach.c    which of them the process's memory still points to
- *     process.c  where a log begins and ends: start, fork, exec, exit, and a running program's orders
+ *     process.c  where a log begins and ends: start, fork, exec, exit, and a running program's
+ *                orders
  *     child.c    the calls that start a program, of which those are noted that aren't traced
  *     limits.c   the calls by which a process limits itself: the log is made ready for that
  *
- * The environment has TLSF_TRACE_LOG, the log's name, behind `ring:` where it is a ring; TLSF_TRACE_FRAMES, the most frames of a
- * location; TLSF_TRACE_INDEX, a file to which each process adds its log's name; and
- * TLSF_TRACE_REACHABLE, with which each process tells what is still reachable at its end.
+ * The environment has TLSF_TRACE_LOG, the log's name, behind `ring:` where it is a ring;
+ * TLSF_TRACE_FRAMES, the most frames of a location; TLSF_TRACE_INDEX, a file to which each process
+ * adds its log's name; and TLSF_TRACE_REACHABLE, with which each process tells what is still
+ * reachable at its end.
  *
- * A program that runs already is told by gdb to call tlsf_trace_begin and tlsf_trace_end (process.c).
- * tracer/in_gdb.py tells where that is safe.
+ * A program that runs already is told by gdb to call tlsf_trace_begin and tlsf_trace_end
+ * (process.c). tracer/in_gdb.py tells where that is safe.
  */
 #ifndef TLSF_TRACE_H
 #define TLSF_TRACE_H
@@ -43,7 +46,8 @@
  * of a realloc. A path has at most PATH_MOST bytes with its end. */
 enum { LOCATION_MOST = 255, LINE_MOST = 317, LINES_MOST = 2 * LINE_MOST, PATH_MOST = 4096 };
 
-/* The most frames that a stack can be asked to have. Behind these one more can stand, for all others. */
+/* The most frames that a stack can be asked to have. Behind these one more can stand, for all
+ * others. */
 enum { FRAMES_MOST = 256 };
 
 /* Whether this thread is in the tracer: what it asks for then isn't written. */
@@ -70,8 +74,10 @@ struct real {
     int (*execvpe)(const char *, char *const[], char *const[]);
     int (*fexecve)(int, char *const[], char *const[]);
     int (*execveat)(int, const char *, char *const[], char *const[], int);
-    int (*posix_spawn)(pid_t *, const char *, const posix_spawn_file_actions_t *, const posix_spawnattr_t *, char *const[], char *const[]);
-    int (*posix_spawnp)(pid_t *, const char *, const posix_spawn_file_actions_t *, const posix_spawnattr_t *, char *const[], char *const[]);
+    int (*posix_spawn)(pid_t *, const char *, const posix_spawn_file_actions_t *,
+                       const posix_spawnattr_t *, char *const[], char *const[]);
+    int (*posix_spawnp)(pid_t *, const char *, const posix_spawn_file_actions_t *,
+                        const posix_spawnattr_t *, char *const[], char *const[]);
     int (*system)(const char *);
     FILE *(*popen)(const char *, const char *);
     int (*prctl)(int, ...);
@@ -90,7 +96,8 @@ void find_real(void);
 bool enter(void);
 void leave(void);
 
-/* Begins the log of a process that has none yet, and before one that may call read and write alone ends it for good. */
+/* Begins the log of a process that has none yet, and before one that may call read and write alone
+ * ends it for good. */
 void begin_early(void);
 void end_early(void);
 
@@ -118,7 +125,8 @@ void log_close(void);
 /* The log stays as it is, with a last line that it is cut, for a reason that is said. */
 void log_drop(const char *why);
 
-/* From now on this process may open no file, since a filter of its system calls might end it for that; or it may again. */
+/* From now on this process may open no file, since a filter of its system calls might end it for
+ * that; or it may again. */
 void log_seal(bool is_on);
 
 bool log_is_sealed(void);
@@ -141,29 +149,33 @@ pid_t log_process(void);
 /* In a child of a fork: the log is the parent's. */
 void log_forget(void);
 
-/* The same where a handler forked while its thread was in the tracer, to which the child returns: what it
- * writes there is lost. */
+/* The same where a handler forked while its thread was in the tracer, to which the child returns:
+ * what it writes there is lost. */
 void log_detach(void);
 
 /* The name of the log's file, as long as this process has one. */
 const char *log_path(void);
 
-/* Adds words to the index, each ended by a zero, in one write. Without the lock: a child of vfork may do it. */
+/* Adds words to the index, each ended by a zero, in one write. Without the lock: a child of vfork
+ * may do it. */
 void log_note(const char *words, size_t length);
 
-/* ring.c: but for ring_forget and ring_detach, with the log's lock held. Where no system call may be made, as behind a filter, none is. */
+/* ring.c: but for ring_forget and ring_detach, with the log's lock held. Where no system call may
+ * be made, as behind a filter, none is. */
 
 bool ring_is_on(void);
 
-/* Looks for the follower by the file `session` beside a ring's name: where tracing begins late another than before. Returns whether it is
- * there. Then each ring has another number. */
+/* Looks for the follower by the file `session` beside a ring's name: where tracing begins late
+ * another than before. Returns whether it is there. Then each ring has another number. */
 bool ring_session(const char *name, bool is_late);
 unsigned ring_number(void);
 
-/* Makes a ring of this name, of a log that began then. Returns whether it could; errno is ENOSPC where there is no memory. */
+/* Makes a ring of this name, of a log that began then. Returns whether it could; errno is ENOSPC
+ * where there is no memory. */
 bool ring_begin(const char *path, uint64_t begun);
 
-/* Writes whole lines, once there is room. Returns whether the follower reads them: else it is gone. */
+/* Writes whole lines, once there is room. Returns whether the follower reads them: else it is
+ * gone. */
 bool ring_write(const char *text, size_t length, bool may_call);
 
 /* Whether the log has its end. Returns as above. */
@@ -179,8 +191,9 @@ void ring_detach(void);
 
 /* child.c */
 
-/* Notes a program that is to be started with these variables, or the process's own, where they don't preload the tracer.
- * Returns whether they don't. And takes the last note of a process back. */
+/* Notes a program that is to be started with these variables, or the process's own, where they
+ * don't preload the tracer. Returns whether they don't. And takes the last note of a process
+ * back. */
 bool child_note(pid_t process, const char *program, char *const variables[]);
 void child_take_back(pid_t process);
 
@@ -219,12 +232,12 @@ void slots_in_child(void);
 
 /* held.c: with the lock held. */
 
-/* How a block is pointed to: by nothing that is reachable; by a chain of pointers of which one points
- * amid its block; or by a chain of pointers to where blocks begin. */
+/* How a block is pointed to: by nothing that is reachable; by a chain of pointers of which one
+ * points amid its block; or by a chain of pointers to where blocks begin. */
 enum reach { LOST, POSSIBLY_LOST, REACHABLE, REACHES };
 
-/* A block that is held: its address, the bytes that were asked for, and the number of its stack, or 0. One that is lost
- * with others which lead to it has the number of their first's stack, or 0. */
+/* A block that is held: its address, the bytes that were asked for, and the number of its stack, or
+ * 0. One that is lost with others which lead to it has the number of their first's stack, or 0. */
 struct block {
     uintptr_t start;
     size_t size;
@@ -233,8 +246,8 @@ struct block {
     uint32_t leader;
 };
 
-/* The blocks that are held, in order of address, and the greatest number of a stack. While the log is
- * read they stand in a table of these places. */
+/* The blocks that are held, in order of address, and the greatest number of a stack. While the log
+ * is read they stand in a table of these places. */
 struct held {
     struct block *blocks;
     size_t count, places;
@@ -244,8 +257,9 @@ struct held {
 /* Reads what is held at the end of a log of this tracer. Returns whether it could. */
 bool held_read(struct held *held, const char *log);
 
-/* A log begins, whose lines are taken from now on, or aren't; takes whole lines; and copies what is held by these. Returns whether all
- * could be taken: not so where there was no memory, or a system call was needed that may not be made. */
+/* A log begins, whose lines are taken from now on, or aren't; takes whole lines; and copies what is
+ * held by these. Returns whether all could be taken: not so where there was no memory, or a system
+ * call was needed that may not be made. */
 void held_begin(bool is_on);
 void held_take(const char *lines, size_t length, bool may_call);
 bool held_copy(struct held *held);
@@ -253,7 +267,8 @@ bool held_copy(struct held *held);
 /* The block that has an address, or null. */
 struct block *held_find(const struct held *held, uintptr_t address);
 
-/* Memory of the system for the search and since.c, as zeros, or null; whether an address is in it; and its end. */
+/* Memory of the system for the search and since.c, as zeros, or null; whether an address is in it;
+ * and its end. */
 void *take_pages(size_t bytes);
 bool is_taken(uintptr_t address);
 void give_pages(void *memory);
@@ -267,8 +282,8 @@ void reach_begin(void);
 void reach_in_child(void);
 
 /* Writes LOG.reachable: what is lost, and what is still reachable. With the lock of the log held,
- * behind its end. Each register that the caller may not change is to stand in the caller's frame. Of
- * exit's last handler nothing on the stack counts but what stands above exit. */
+ * behind its end. Each register that the caller may not change is to stand in the caller's frame.
+ * Of exit's last handler nothing on the stack counts but what stands above exit. */
 void reach_tell(bool is_last_handler);
 
 /* The process goes on: the file is taken away. */
@@ -291,7 +306,8 @@ bool next_line(struct reader *reader);
  * `main` on. */
 enum kind { PROGRAM, OPERATOR, START };
 
-/* The most modules, the number of known functions, and the most bytes of a build id: a longer one isn't told. */
+/* The most modules, the number of known functions, and the most bytes of a build id: a longer one
+ * isn't told. */
 enum { MODULES_MOST = 2048, KNOWN = 19, BUILD_ID_MOST = 32 };
 
 /* Code of one kind: what returns there was called by it. */
@@ -337,8 +353,8 @@ void module_in_child(void);
 
 /* stack.c */
 
-/* A frame that is told: its module, and the address that it returns to, less the module's base. Module 0 at 0
- * stands for frames that aren't told. */
+/* A frame that is told: its module, and the address that it returns to, less the module's base.
+ * Module 0 at 0 stands for frames that aren't told. */
 struct place {
     uint64_t offset;
     unsigned module;
@@ -362,12 +378,12 @@ void stack_in_child(void);
 
 /* told.c */
 
-/* The number of a stack of 1 to FRAMES_MOST + 1 frames, which is told where it is new. 0 where there is
- * no memory for it. With the log's lock held. */
+/* The number of a stack of 1 to FRAMES_MOST + 1 frames, which is told where it is new. 0 where
+ * there is no memory for it. With the log's lock held. */
 unsigned told_stack(const struct place *frames, unsigned length);
 
-/* Nothing was told: the log is a new one. In a child of a fork that isn't before its first call, since a
- * handler's fork may have come amid told_stack, to which the child returns. */
+/* Nothing was told: the log is a new one. In a child of a fork that isn't before its first call,
+ * since a handler's fork may have come amid told_stack, to which the child returns. */
 void told_forget(void);
 
 /* text.c: each writes a number, and returns where it ends. */
@@ -381,7 +397,8 @@ char *put_hex(char *to, uintptr_t number);
 /* Decimal digits. */
 char *put_decimal(char *to, size_t number);
 
-/* A number of this process that no program knows before it runs, taken by stack_begin: so none can choose what collides. */
+/* A number of this process that no program knows before it runs, taken by stack_begin: so none can
+ * choose what collides. */
 extern uint64_t mix_seed;
 
 /* A number whose bits all depend on all of another's. */

@@ -1,5 +1,5 @@
-/* Interrupts are off during each call of the heap, and then as they were. No call takes the lock twice at once, so one
- * key is enough: it is written with interrupts off. */
+/* Interrupts are off during each call of the heap, and then as they were. No call takes the lock
+ * twice at once, so one key is enough: it is written with interrupts off. */
 #include <zephyr/irq.h>
 
 #include "tlsf_lock.h"

@@ -1,4 +1,5 @@
-/* The C library writes on the console of the board, where a program takes its printf. Not proved. */
+/* The C library writes on the console of the board, where a program takes its printf. Not
+ * proved. */
 #include "console.h"
 
 int _write(int file, const char *text, int length);

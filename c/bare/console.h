@@ -22,11 +22,11 @@ static inline void console_begin(void) {}
 static inline int console_is_full(void) { return (CONSOLE[FLAGS] & FULL) != 0; }
 #elif defined(__riscv)
 #define CONSOLE ((volatile uint8_t *)0x10000000) /* BOARD */
-enum { DATA = 0, FLAGS = 5, EMPTY = 1 << 5 };    /* BOARD: its bytes, and the flag of room */
+enum { DATA = 0, FLAGS = 5, EMPTY = 1 << 5 }; /* BOARD: its bytes, and the flag of room */
 static inline void console_begin(void) {}
 static inline int console_is_full(void) { return (CONSOLE[FLAGS] & EMPTY) == 0; }
 #elif defined(MICROBIT)
-#define CONSOLE ((volatile uint32_t *)0x40002000)                             /* BOARD */
+#define CONSOLE ((volatile uint32_t *)0x40002000) /* BOARD */
 enum { DATA = 0x51c / 4, SENT = 0x11c / 4, ON = 0x500 / 4, START = 0x8 / 4 }; /* BOARD */
 static inline void console_begin(void)
 {
@@ -41,7 +41,7 @@ static inline int console_is_full(void)
     return !is_sent;
 }
 #else
-#define CONSOLE ((volatile uint32_t *)0x40004000)              /* BOARD */
+#define CONSOLE ((volatile uint32_t *)0x40004000) /* BOARD */
 enum { DATA = 0, FLAGS = 1, CONTROL = 2, BAUD = 4, FULL = 1 }; /* BOARD */
 static inline void console_begin(void)
 {

@@ -1,6 +1,6 @@
 /* The start of a program without a system, for Cortex-M: what the processor reads first, and what C
- * wants before main. What is marked BOARD is of QEMU's machines `mps2-an385` and `mps2-an386`: here, in
- * console.h, and in cortex-m.ld. Not proved. */
+ * wants before main. What is marked BOARD is of QEMU's machines `mps2-an385` and `mps2-an386`:
+ * here, in console.h, and in cortex-m.ld. Not proved. */
 #include <stdint.h>
 
 #include "console.h"

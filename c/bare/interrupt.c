@@ -1,8 +1,8 @@
-/* A heap that an interrupt's handler calls, on Cortex-M: a timer's handler puts readings into blocks,
- * and main takes them, frees them, and has blocks of its own that come and go. Interrupts are off
- * around one call of the heap at a time, never around the bytes of a block. How long they are off is
- * told in ticks of SysTick, which are the processor's cycles on a board. QEMU doesn't count cycles. The
- * last line written is `ok`. Not proved. */
+/* A heap that an interrupt's handler calls, on Cortex-M: a timer's handler puts readings into
+ * blocks, and main takes them, frees them, and has blocks of its own that come and go. Interrupts
+ * are off around one call of the heap at a time, never around the bytes of a block. How long they
+ * are off is told in ticks of SysTick, which are the processor's cycles on a board. QEMU doesn't
+ * count cycles. The last line written is `ok`. Not proved. */
 #include <stdbool.h>
 #include <stddef.h>
 #include <stdint.h>
@@ -99,8 +99,9 @@ static bool locked_free(tlsf_heap_block block)
     return status == TLSF_OK;
 }
 
-/* A block that is to move is moved by malloc, a copy, and free: while interrupts are on its old bytes
- * could be another's as soon as realloc ended. So this call only shrinks a block, which stays. */
+/* A block that is to move is moved by malloc, a copy, and free: while interrupts are on its old
+ * bytes could be another's as soon as realloc ended. So this call only shrinks a block, which
+ * stays. */
 static bool locked_shrink(tlsf_heap_block *block, uint32_t bytes)
 {
     uint32_t before = interrupts_off();
@@ -226,7 +227,8 @@ static bool ends(void)
 int main(void)
 {
     bool good = tlsf_heap_create_in(table, sizeof table, RECORDS, &heap) == TLSF_OK
-                && tlsf_heap_add_pool(&heap, 0, POOL) == TLSF_OK && are_as_before() && runs() && ends();
+                && tlsf_heap_add_pool(&heap, 0, POOL) == TLSF_OK && are_as_before() && runs()
+                && ends();
     say_number("readings: ", taken);
     say_number("late: ", late);
     say_number("refused: ", refused);

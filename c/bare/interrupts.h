@@ -12,7 +12,8 @@ static inline uint32_t interrupts_off(void)
     return before;
 }
 
-/* Has them as they were: so a handler, or a program that turned them off before, may call this, too. */
+/* Has them as they were: so a handler, or a program that turned them off before, may call this,
+ * too. */
 static inline void interrupts_as_before(uint32_t before)
 {
     __asm__ volatile("msr primask, %0" : : "r"(before) : "memory");

@@ -11,7 +11,15 @@
 #ifdef MICROBIT /* 16 KB of RAM, with the stack */
 enum { RECORDS = 24, BLOCKS = 9, POOL = 1536, MEMORY = 3072, MOST = 120, LARGE = 400, ALIGN = 64 };
 #else
-enum { RECORDS = 400, BLOCKS = 150, POOL = 1 << 16, MEMORY = 1 << 17, MOST = 600, LARGE = 5000, ALIGN = 1024 };
+enum {
+    RECORDS = 400,
+    BLOCKS = 150,
+    POOL = 1 << 16,
+    MEMORY = 1 << 17,
+    MOST = 600,
+    LARGE = 5000,
+    ALIGN = 1024
+};
 #endif
 enum { CALLS = 200000 };
 
@@ -84,8 +92,9 @@ static bool serves(tlsf_heap *heap)
         } else {
             uint32_t bytes = 1 + below(MOST);
             bool is_aligned = call % 4 == 0;
-            enum tlsf_status status = is_aligned ? tlsf_heap_memalign(heap, ALIGN / 4, bytes, &blocks[k])
-                                                 : tlsf_heap_malloc(heap, bytes, &blocks[k]);
+            enum tlsf_status status = is_aligned
+                                          ? tlsf_heap_memalign(heap, ALIGN / 4, bytes, &blocks[k])
+                                          : tlsf_heap_malloc(heap, bytes, &blocks[k]);
             if (status == TLSF_OK) {
                 sizes[k] = bytes;
                 fill((unsigned char *)tlsf_heap_address(array, blocks[k]), bytes, k);

@@ -1,6 +1,6 @@
-/* The start of a program without a system, for 32-bit RISC-V: what the processor runs first, and what C
- * wants before main. What is marked BOARD is of QEMU's machine `virt`: here, in console.h, and in
- * riscv.ld. Not proved. */
+/* The start of a program without a system, for 32-bit RISC-V: what the processor runs first, and
+ * what C wants before main. What is marked BOARD is of QEMU's machine `virt`: here, in console.h,
+ * and in riscv.ld. Not proved. */
 #include <stdint.h>
 
 #include "console.h"
@@ -20,7 +20,9 @@ __attribute__((naked, aligned(4))) static void trap(void)
 
 __attribute__((naked, section(".text.start"))) void start(void)
 {
-    __asm__(".option arch, +zicsr\n\tla sp, stack_end\n\tla t0, %0\n\tcsrw mtvec, t0\n\tj begin" : : "i"(trap));
+    __asm__(".option arch, +zicsr\n\tla sp, stack_end\n\tla t0, %0\n\tcsrw mtvec, t0\n\tj begin"
+            :
+            : "i"(trap));
 }
 
 /* The machine's end. */

@@ -30,8 +30,8 @@ static size_t wanted_for(size_t align, size_t bytes)
     return bytes > SIZE_MAX - more ? SIZE_MAX : bytes + more;
 }
 
-/* A heap that refused isn't asked for as much until it gets a block back: where its table is full, for
- * nothing. */
+/* A heap that refused isn't asked for as much until it gets a block back: where its table is full,
+ * for nothing. */
 __attribute__((noinline)) static void note_full(struct heap *heap, size_t wanted)
 {
     size_t from = heap->refused == TLSF_REFUSED_TABLE_FULL ? 0 : wanted;
@@ -45,7 +45,8 @@ static inline void *ask(struct heap *heap, size_t align, size_t bytes)
     void *given = NULL;
     struct seat *seat = lock_it(&heap->lock);
     if (heap->use == GENERAL) {
-        given = align == UNIT ? tlsf_malloc(heap->general, bytes) : tlsf_memalign(heap->general, align, bytes);
+        given = align == UNIT ? tlsf_malloc(heap->general, bytes)
+                              : tlsf_memalign(heap->general, align, bytes);
         heap->live += given != NULL;
         if (given == NULL) {
             note_full(heap, wanted_for(align, bytes));
@@ -138,7 +139,9 @@ static void count_live(struct range *range)
 {
     size_t now = __atomic_add_fetch(&range->live, 1, __ATOMIC_RELAXED);
     size_t most = __atomic_load_n(&range->most_live, __ATOMIC_RELAXED);
-    while (now > most && !__atomic_compare_exchange_n(&range->most_live, &most, now, true, __ATOMIC_RELAXED, __ATOMIC_RELAXED)) {
+    while (now > most
+           && !__atomic_compare_exchange_n(&range->most_live, &most, now, true, __ATOMIC_RELAXED,
+                                           __ATOMIC_RELAXED)) {
     }
 }
 
@@ -186,7 +189,10 @@ static void *from_parts(size_t align, size_t bytes)
     return given;
 }
 
-void *allocate(size_t bytes) { return settings.count > 0 ? from_parts(UNIT, bytes) : from_heaps(UNIT, bytes); }
+void *allocate(size_t bytes)
+{
+    return settings.count > 0 ? from_parts(UNIT, bytes) : from_heaps(UNIT, bytes);
+}
 
 void *allocate_at(size_t align, size_t bytes)
 {
@@ -270,8 +276,8 @@ static size_t room_in(struct heap *heap, const void *address)
     }
 }
 
-/* Under the heap's lock: room for so many bytes in the same heap, or a null pointer. Where no live block
- * begins at the address it is refused. */
+/* Under the heap's lock: room for so many bytes in the same heap, or a null pointer. Where no live
+ * block begins at the address it is refused. */
 static void *resize_in(struct heap *heap, void *address, size_t bytes)
 {
     if (heap->use == GENERAL) {
@@ -280,7 +286,8 @@ static void *resize_in(struct heap *heap, void *address, size_t bytes)
         return now;
     }
     if (heap->use == PART) {
-        return range_for(bytes) == heap->range ? tlsf_parts_realloc(heap->part, address, bytes) : NULL;
+        return range_for(bytes) == heap->range ? tlsf_parts_realloc(heap->part, address, bytes)
+                                               : NULL;
     }
     return room_in(heap, address) != 0 && resize_pages(heap, bytes) ? address : NULL;
 }

@@ -10,8 +10,8 @@ extern size_t spilled_above;
 /* How many heaps threads may have, by the processors that there are. Before the calls below. */
 void count_processors(void);
 
-/* A block at a multiple of UNIT, or of `align`, which is a power of two: of a part, or else of the heaps.
- * A null pointer where none serves it. */
+/* A block at a multiple of UNIT, or of `align`, which is a power of two: of a part, or else of the
+ * heaps. A null pointer where none serves it. */
 void *allocate(size_t bytes);
 void *allocate_at(size_t align, size_t bytes);
 /* Gives a block back, and answers whether there was one. errno stays as it was. */

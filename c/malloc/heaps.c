@@ -4,11 +4,13 @@
 #include <string.h>
 #include <sys/mman.h>
 
-/* All stretches together have at most these addresses. Large pages begin at a multiple of LARGE_PAGE. */
+/* All stretches together have at most these addresses. Large pages begin at a multiple of
+ * LARGE_PAGE. */
 #define ADDRESSES ((size_t)1 << 40)
 #define LARGE_PAGE ((size_t)1 << 21)
-/* So much more is reserved, to begin at such a multiple. Bytes that are none are put right below what was mapped
- * before. Else there would be a gap, and the program's own next mapping in it, far from its others. */
+/* So much more is reserved, to begin at such a multiple. Bytes that are none are put right below
+ * what was mapped before. Else there would be a gap, and the program's own next mapping in it, far
+ * from its others. */
 #define MORE (LARGE_PAGE + PAGE)
 /* A smaller stretch is for fewer than so many heaps, but not below 2^23 bytes. */
 enum { LEAST_SHIFT = 23, HEAPS_SURE = 256 };
@@ -26,7 +28,10 @@ static unsigned pages_from;
 static unsigned locked, locked_from;
 
 static size_t length_of_stretch(void) { return (size_t)1 << reserved.shift; }
-static unsigned char *start_of(unsigned number) { return reserved.base + ((size_t)number << reserved.shift); }
+static unsigned char *start_of(unsigned number)
+{
+    return reserved.base + ((size_t)number << reserved.shift);
+}
 
 /* While a thread forks it has the locks, and may still call: the program's own handlers of a fork
  * run between these two, and may ask for memory. A heap that they make isn't locked. */
@@ -70,13 +75,15 @@ static uint32_t blocks_of_part(const struct range *range, unsigned number)
 
 static size_t bytes_of_general(void) { return tlsf_size_records(settings.records) + settings.pool; }
 
-/* The least power of two that is enough for each heap and each part, and how many of them are sure. */
+/* The least power of two that is enough for each heap and each part, and how many of them are
+ * sure. */
 static unsigned choose_length(void)
 {
     size_t most = bytes_of_general();
     unsigned needed = 1;
     for (uint32_t k = 0; k < settings.count; k++) {
-        size_t bytes = bytes_of_part(settings.ranges[k].largest, blocks_of_part(&settings.ranges[k], 0));
+        size_t bytes =
+            bytes_of_part(settings.ranges[k].largest, blocks_of_part(&settings.ranges[k], 0));
         most = bytes > most ? bytes : most;
         needed += settings.ranges[k].parts;
     }
@@ -85,7 +92,8 @@ static unsigned choose_length(void)
     return needed;
 }
 
-/* Where addresses are few, and no part or pool was told, heaps are smaller, so that there are many. */
+/* Where addresses are few, and no part or pool was told, heaps are smaller, so that there are
+ * many. */
 static void choose_pool(size_t bytes)
 {
     bool is_told = settings.is_one_heap || settings.count > 0;
@@ -93,17 +101,19 @@ static void choose_pool(size_t bytes)
         reserved.shift--;
     }
     if (length_of_stretch() < bytes_of_general()) {
-        settings.pool = length_of_stretch() - tlsf_size_records(settings.records) / UNIT * UNIT - UNIT;
+        settings.pool =
+            length_of_stretch() - tlsf_size_records(settings.records) / UNIT * UNIT - UNIT;
     }
 }
 
-/* As many stretches as there may be, or half of these, and so on. Where the system hasn't addresses for all,
- * half of what it has is left to the program. */
+/* As many stretches as there may be, or half of these, and so on. Where the system hasn't addresses
+ * for all, half of what it has is left to the program. */
 static bool reserve(unsigned needed)
 {
     size_t bytes = needed * length_of_stretch();
     size_t least = settings.is_one_heap || settings.count > 0 ? bytes : (size_t)1 << LEAST_SHIFT;
-    while (!settings.is_one_heap && bytes * 2 <= ADDRESSES && bytes * 2 >> reserved.shift <= STRETCHES_MOST) {
+    while (!settings.is_one_heap && bytes * 2 <= ADDRESSES
+           && bytes * 2 >> reserved.shift <= STRETCHES_MOST) {
         bytes *= 2;
     }
     size_t most = bytes;
@@ -120,7 +130,8 @@ static bool reserve(unsigned needed)
         (void)munmap(memory + bytes + MORE, bytes);
     }
     choose_pool(bytes);
-    /* One heap is asked for all. Else half of a pool is surely free in a new one, wherever it has to begin. */
+    /* One heap is asked for all. Else half of a pool is surely free in a new one, wherever it has
+     * to begin. */
     settings.greatest = settings.is_one_heap ? SIZE_MAX : settings.pool / 2;
     reserved.base = memory + (-(uintptr_t)memory & (LARGE_PAGE - 1));
     reserved.stretches = (unsigned)(bytes >> reserved.shift);
@@ -128,8 +139,8 @@ static bool reserve(unsigned needed)
     return true;
 }
 
-/* Memory for a heap. Few large pages are found sooner than many small ones. A system without them gives
- * small ones. */
+/* Memory for a heap. Few large pages are found sooner than many small ones. A system without them
+ * gives small ones. */
 static void *memory_for(unsigned number, size_t bytes)
 {
     void *memory = mmap(start_of(number), bytes, PROT_READ | PROT_WRITE,
@@ -199,7 +210,8 @@ static bool make_parts(void)
 
 bool reserve_heaps(void) { return reserve(choose_length()) && make_parts(); }
 
-/* The first of `count` vacant stretches in a row, or STRETCHES_MOST: the lowest, or for pages the highest. */
+/* The first of `count` vacant stretches in a row, or STRETCHES_MOST: the lowest, or for pages the
+ * highest. */
 static unsigned vacant(unsigned count, bool is_high)
 {
     unsigned row = 0;
@@ -244,7 +256,8 @@ void give_back_if_empty(struct heap *heap)
         tlsf_figures told = {0};
         was_broken = was_broken || (settings.reports && tlsf_check(heap->general) != 0);
         (void)tlsf_stats(heap->general, &told);
-        heap->most_before = told.most_bytes_live > heap->most_before ? told.most_bytes_live : heap->most_before;
+        heap->most_before =
+            told.most_bytes_live > heap->most_before ? told.most_bytes_live : heap->most_before;
         use((unsigned)(heap - heaps), VACANT);
         leave((unsigned)(heap - heaps), bytes_of_general());
         general_heaps--;
@@ -297,7 +310,8 @@ void *take_pages(size_t align, size_t bytes)
     }
     struct seat *of_layout = lock_it(&layout);
     unsigned first = vacant((unsigned)count, true);
-    void *given = first == STRETCHES_MOST ? NULL : begin_pages(first, (unsigned)count, align, whole);
+    void *given =
+        first == STRETCHES_MOST ? NULL : begin_pages(first, (unsigned)count, align, whole);
     unlock_it(&layout, of_layout);
     return given;
 }
@@ -305,7 +319,8 @@ void *take_pages(size_t align, size_t bytes)
 size_t room_of_pages(const struct heap *heap, const void *address)
 {
     const unsigned char *start = start_of((unsigned)(heap - heaps));
-    return heap->pages == address ? heap->bytes - (size_t)((const unsigned char *)address - start) : 0;
+    return heap->pages == address ? heap->bytes - (size_t)((const unsigned char *)address - start)
+                                  : 0;
 }
 
 bool resize_pages(struct heap *heap, size_t bytes)
@@ -315,7 +330,8 @@ bool resize_pages(struct heap *heap, size_t bytes)
     bool fits = whole != 0 && whole <= heap->stretches * length_of_stretch()
                 && (whole <= heap->bytes || mprotect(start, whole, PROT_READ | PROT_WRITE) == 0);
     if (fits && whole < heap->bytes) {
-        (void)mmap(start + whole, heap->bytes - whole, PROT_NONE, MAP_PRIVATE | MAP_ANONYMOUS | MAP_FIXED, -1, 0);
+        (void)mmap(start + whole, heap->bytes - whole, PROT_NONE,
+                   MAP_PRIVATE | MAP_ANONYMOUS | MAP_FIXED, -1, 0);
     }
     if (fits) {
         count_pages(whole - heap->bytes);

@@ -51,7 +51,8 @@ static void run_barriers(void)
 {
     int before = errno;
     if (barriers(MEMBARRIER_CMD_PRIVATE_EXPEDITED) != 0
-        && (barriers(MEMBARRIER_CMD_REGISTER_PRIVATE_EXPEDITED) != 0 || barriers(MEMBARRIER_CMD_PRIVATE_EXPEDITED) != 0)) {
+        && (barriers(MEMBARRIER_CMD_REGISTER_PRIVATE_EXPEDITED) != 0
+            || barriers(MEMBARRIER_CMD_PRIVATE_EXPEDITED) != 0)) {
         say(STDERR_FILENO, "membarrier is refused, after it was granted\n");
         abort();
     }
@@ -100,8 +101,8 @@ static struct seat *find_seat(void)
 {
     for (unsigned k = 0; own_seat == NULL && k < SEATS; k++) {
         uintptr_t seen = 0;
-        bool is_own = __atomic_compare_exchange_n(&seats[k].thread, &seen, this_thread(), false, __ATOMIC_ACQ_REL,
-                                                  __ATOMIC_ACQUIRE);
+        bool is_own = __atomic_compare_exchange_n(&seats[k].thread, &seen, this_thread(), false,
+                                                  __ATOMIC_ACQ_REL, __ATOMIC_ACQUIRE);
         own_seat = is_own || seen == this_thread() ? &seats[k] : NULL;
     }
     return own_seat;

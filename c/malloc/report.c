@@ -44,7 +44,8 @@ static void report_ranges(int to)
             range->most_live, range->blocks, range->spilled);
     }
     if (spilled_above > 0) {
-        say(to, "above %u: %zu spilled\n", settings.ranges[settings.count - 1].largest, spilled_above);
+        say(to, "above %u: %zu spilled\n", settings.ranges[settings.count - 1].largest,
+            spilled_above);
     }
 }
 
@@ -59,7 +60,7 @@ void report(int to, size_t refused)
     if (settings.count > 0) {
         say(to, "%zu blocks held, %zu refused, table %s\n", held.blocks, refused, table);
     } else {
-        say(to, "%zu blocks held, %zu bytes held, %zu bytes at most, %zu refused, table %s\n", held.blocks,
-            held.bytes, held.most_bytes, refused, table);
+        say(to, "%zu blocks held, %zu bytes held, %zu bytes at most, %zu refused, table %s\n",
+            held.blocks, held.bytes, held.most_bytes, refused, table);
     }
 }

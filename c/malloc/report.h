@@ -4,8 +4,8 @@
 
 #include <stddef.h>
 
-/* Writes on a file descriptor a line of the heaps where there were several, one of each part, and one
- * of all, with how many requests and pointers were refused. */
+/* Writes on a file descriptor a line of the heaps where there were several, one of each part, and
+ * one of all, with how many requests and pointers were refused. */
 void report(int to, size_t refused);
 
 #endif

@@ -45,14 +45,15 @@ static bool take_number(const char **text, uint32_t *number)
     return digits >= 1 && told <= UINT32_MAX;
 }
 
-/* The ranges that a text as 64:2130,2048:41 tells, and how many there are: none for another text. */
+/* The ranges that a text as 64:2130,2048:41 tells, and how many there are: none for another
+ * text. */
 static uint32_t take_ranges(const char *text, struct range *told)
 {
     uint32_t count = 0;
     bool good = true;
     do {
-        good = count < TLSF_PARTS_MOST && take_number(&text, &told[count].largest)
-               && *text++ == ':' && take_number(&text, &told[count].blocks);
+        good = count < TLSF_PARTS_MOST && take_number(&text, &told[count].largest) && *text++ == ':'
+               && take_number(&text, &told[count].blocks);
         count++;
     } while (good && *text++ == ',');
     return good && text[-1] == 0 ? count : 0;
@@ -86,13 +87,17 @@ void read_settings(void)
     const char *list = getenv("TLSF_PARTS");
     uint32_t count = list == NULL ? 0 : take_ranges(list, settings.ranges);
     settings.is_one_heap = getenv("TLSF_POOL") != NULL || getenv("TLSF_RECORDS") != NULL;
-    settings.records = (uint32_t)setting("TLSF_RECORDS", TLSF_HEAP_RECORDS_MOST, TLSF_HEAP_RECORDS_MOST);
+    settings.records =
+        (uint32_t)setting("TLSF_RECORDS", TLSF_HEAP_RECORDS_MOST, TLSF_HEAP_RECORDS_MOST);
     settings.pool = (setting("TLSF_POOL", TLSF_HEAP_GREATEST, POOL) + UNIT - 1) / UNIT * UNIT;
     if (list != NULL && count == 0) {
         say(STDERR_FILENO, "TLSF_PARTS tells no parts, as 64:2130,2048:41: there are none\n");
     } else if (!split_ranges(settings.ranges, count)) {
-        say(STDERR_FILENO, "TLSF_PARTS has to tell larger and larger parts of 1 to %d bytes, each of 1 block at least, "
-                           "in at most %d heaps: there are none\n", LARGEST, PARTS_MOST);
+        say(STDERR_FILENO,
+            "TLSF_PARTS has to tell larger and larger parts of 1 to %d bytes, each of 1 block at "
+            "least, "
+            "in at most %d heaps: there are none\n",
+            LARGEST, PARTS_MOST);
         count = 0;
     }
     settings.count = count;

@@ -1,19 +1,21 @@
-/* heap_tlsf.c: FreeRTOS's heap over tlsf.h, in the place of the kernel's heap_1.c to heap_5.c. Not proved.
+/* heap_tlsf.c: FreeRTOS's heap over tlsf.h, in the place of the kernel's heap_1.c to heap_5.c. Not
+ * proved.
  *
- * It is compiled with the kernel, and linked with libtlsf.a. Its calls are those of the kernel's manual, and
- * each tells its own bounds of time below. FreeRTOSConfig.h may tell
+ * It is compiled with the kernel, and linked with libtlsf.a. Its calls are those of the kernel's
+ * manual, and each tells its own bounds of time below. FreeRTOSConfig.h may tell
  *
  * - configTOTAL_HEAP_SIZE: the bytes of the array ucHeap. The first call makes the heap there.
- * - configTLSF_REGIONS: 1 where there is no array, as where its bytes aren't told. Then vPortDefineHeapRegions comes
- *   before any other call.
+ * - configTLSF_REGIONS: 1 where there is no array, as where its bytes aren't told. Then
+ *   vPortDefineHeapRegions comes before any other call.
  * - configAPPLICATION_ALLOCATED_HEAP: 1 where the program has the array ucHeap itself.
- * - configTLSF_RECORDS: how many records the heap has, from 1 to 65,535. Each block, live or free, takes one, of
- *   16 bytes. By default there is one for each 80 bytes.
- * - configUSE_MALLOC_FAILED_HOOK: 1 where vApplicationMallocFailedHook is called for each request that is refused.
+ * - configTLSF_RECORDS: how many records the heap has, from 1 to 65,535. Each block, live or free,
+ *   takes one, of 16 bytes. By default there is one for each 80 bytes.
+ * - configUSE_MALLOC_FAILED_HOOK: 1 where vApplicationMallocFailedHook is called for each request
+ *   that is refused.
  *
- * Blocks begin at a multiple of 16. The scheduler is suspended during each call's work on the heap. So no handler of
- * an interrupt may call these, as with the kernel's own. All sizes that are told count the 8 bytes in front of
- * each block, as the kernel's heaps count their heads.
+ * Blocks begin at a multiple of 16. The scheduler is suspended during each call's work on the heap.
+ * So no handler of an interrupt may call these, as with the kernel's own. All sizes that are told
+ * count the 8 bytes in front of each block, as the kernel's heaps count their heads.
  */
 #define MPU_WRAPPERS_INCLUDED_FROM_API_FILE
 #include "FreeRTOS.h"
@@ -72,9 +74,10 @@ static uint32_t records_of(size_t bytes)
 #endif
 }
 
-/* Makes the heap of up to eight regions of memory, told from the lowest address up. A region of 0 bytes ends
- * them. The first has the heap's table, too. It is called once, before any other call, and with no scheduler. A region
- * that is too small, or a ninth, fails an assertion; where there is none, such a region isn't used. */
+/* Makes the heap of up to eight regions of memory, told from the lowest address up. A region of 0
+ * bytes ends them. The first has the heap's table, too. It is called once, before any other call,
+ * and with no scheduler. A region that is too small, or a ninth, fails an assertion; where there is
+ * none, such a region isn't used. */
 void vPortDefineHeapRegions(const HeapRegion_t *const regions)
 {
     tlsf_figures figures = {0};
@@ -83,10 +86,12 @@ void vPortDefineHeapRegions(const HeapRegion_t *const regions)
     for (size_t k = 0; regions[k].xSizeInBytes > 0; k++) {
         bytes += regions[k].xSizeInBytes;
     }
-    heap = tlsf_create_records(regions[0].pucStartAddress, regions[0].xSizeInBytes, records_of(bytes));
+    heap =
+        tlsf_create_records(regions[0].pucStartAddress, regions[0].xSizeInBytes, records_of(bytes));
     configASSERT(heap != NULL);
     pools[0] = tlsf_get_pool(heap);
-    for (size_t k = 1, added = 1; regions[k - 1].xSizeInBytes > 0 && regions[k].xSizeInBytes > 0; k++) {
+    for (size_t k = 1, added = 1; regions[k - 1].xSizeInBytes > 0 && regions[k].xSizeInBytes > 0;
+         k++) {
         pool_t pool = tlsf_add_pool(heap, regions[k].pucStartAddress, regions[k].xSizeInBytes);
         configASSERT(pool != NULL);
         if (pool != NULL && added < POOLS) {
@@ -108,7 +113,8 @@ static void make_once(void)
 #endif
 }
 
-/* Makes the heap over ucHeap, where it isn't made: so the first pvPortMalloc takes no longer than another. */
+/* Makes the heap over ucHeap, where it isn't made: so the first pvPortMalloc takes no longer than
+ * another. */
 void vPortInitialiseBlocks(void)
 {
     vTaskSuspendAll();
@@ -116,8 +122,8 @@ void vPortInitialiseBlocks(void)
     (void)xTaskResumeAll();
 }
 
-/* Answers a block, or a null pointer: for 0 bytes, or where none is surely large enough. At most 23 touches of the
- * heap's table. */
+/* Answers a block, or a null pointer: for 0 bytes, or where none is surely large enough. At most 23
+ * touches of the heap's table. */
 void *pvPortMalloc(size_t bytes)
 {
     vTaskSuspendAll();
@@ -139,8 +145,8 @@ void *pvPortMalloc(size_t bytes)
     return block;
 }
 
-/* As pvPortMalloc, of `count` times `bytes` bytes, which are zeros. Answers a null pointer where the product is
- * more than a size_t tells. */
+/* As pvPortMalloc, of `count` times `bytes` bytes, which are zeros. Answers a null pointer where
+ * the product is more than a size_t tells. */
 void *pvPortCalloc(size_t count, size_t bytes)
 {
     size_t all = bytes == 0 || count <= SIZE_MAX / bytes ? count * bytes : SIZE_MAX;
@@ -148,8 +154,8 @@ void *pvPortCalloc(size_t count, size_t bytes)
     return block == NULL ? NULL : memset(block, 0, all);
 }
 
-/* Frees the block. Does nothing for a null pointer. A pointer that is no live block's fails an assertion; where
- * there is none, it is refused, and nothing changes. At most 32 touches. */
+/* Frees the block. Does nothing for a null pointer. A pointer that is no live block's fails an
+ * assertion; where there is none, it is refused, and nothing changes. At most 32 touches. */
 void vPortFree(void *block)
 {
     if (block == NULL) {
@@ -167,7 +173,8 @@ void vPortFree(void *block)
     (void)xTaskResumeAll();
 }
 
-/* The bytes of all free blocks now, and the fewest that there were. Before the heap is made they are 0. */
+/* The bytes of all free blocks now, and the fewest that there were. Before the heap is made they
+ * are 0. */
 size_t xPortGetFreeHeapSize(void) { return free_bytes; }
 size_t xPortGetMinimumEverFreeHeapSize(void) { return least_free_bytes; }
 
@@ -182,13 +189,16 @@ static void count_free(void *block, size_t bytes, int used, void *of)
         bool is_smallest = is_first || whole < stats->xSizeOfSmallestFreeBlockInBytes;
         bool is_largest = whole > stats->xSizeOfLargestFreeBlockInBytes;
         stats->xNumberOfFreeBlocks++;
-        stats->xSizeOfSmallestFreeBlockInBytes = is_smallest ? whole : stats->xSizeOfSmallestFreeBlockInBytes;
-        stats->xSizeOfLargestFreeBlockInBytes = is_largest ? whole : stats->xSizeOfLargestFreeBlockInBytes;
+        stats->xSizeOfSmallestFreeBlockInBytes =
+            is_smallest ? whole : stats->xSizeOfSmallestFreeBlockInBytes;
+        stats->xSizeOfLargestFreeBlockInBytes =
+            is_largest ? whole : stats->xSizeOfLargestFreeBlockInBytes;
     }
 }
 
-/* Puts the figures into *stats, exactly. Where no block is free the largest and the smallest are 0. It reads all
- * blocks, each 64 of them anew from the pool's first on, and takes tlsf_walk_pool's stack (docs/C.md). */
+/* Puts the figures into *stats, exactly. Where no block is free the largest and the smallest are 0.
+ * It reads all blocks, each 64 of them anew from the pool's first on, and takes tlsf_walk_pool's
+ * stack (c/bounds.txt). */
 void vPortGetHeapStats(HeapStats_t *stats)
 {
     memset(stats, 0, sizeof *stats);

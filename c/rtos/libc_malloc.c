@@ -1,16 +1,19 @@
 /* libc_malloc.c: the malloc of newlib or of picolibc over tlsf.h, for a board. Not proved.
  *
- * It is compiled by the C library's own headers, and linked in front of libtlsf.a. So printf and C++'s new take the
- * heap, too. For newlib it has _malloc_r and the calls like it, which newlib's malloc calls. For picolibc it has malloc
- * and the others themselves. In both it has aligned_alloc. The build tells the heap's memory in one of two ways:
+ * It is compiled by the C library's own headers, and linked in front of libtlsf.a. So printf and
+ * C++'s new take the heap, too. For newlib it has _malloc_r and the calls like it, which newlib's
+ * malloc calls. For picolibc it has malloc and the others themselves. In both it has aligned_alloc.
+ * The build tells the heap's memory in one of two ways:
  *
  * - TLSF_LIBC_BYTES: the bytes of an array.
- * - TLSF_LIBC_BEGIN, TLSF_LIBC_END: symbols of the linker. For picolibc they are __heap_start and __heap_end by default.
+ * - TLSF_LIBC_BEGIN, TLSF_LIBC_END: symbols of the linker. For picolibc they are __heap_start and
+ *   __heap_end by default.
  *
- * Several threads, or a handler of an interrupt, want a lock. Newlib's __malloc_lock and __malloc_unlock stand around
- * each call here, so the program, or its kernel's port, has these two. For picolibc tlsf.h's files are built with
- * TLSF_LOCK and TLSF_UNLOCK (docs/C.md, "Threads"). A request for 0 bytes gets a block. One that is refused answers a
- * null pointer, with ENOMEM in errno, or EINVAL where the alignment is no power of two.
+ * Several threads, or a handler of an interrupt, want a lock. Newlib's __malloc_lock and
+ * __malloc_unlock stand around each call here, so the program, or its kernel's port, has these two.
+ * For picolibc tlsf.h's files are built with TLSF_LOCK and TLSF_UNLOCK (docs/C.md, "Threads"). A
+ * request for 0 bytes gets a block. One that is refused answers a null pointer, with ENOMEM in
+ * errno, or EINVAL where the alignment is no power of two.
  */
 #include <errno.h>
 #include <malloc.h>
@@ -30,7 +33,7 @@ static unsigned char memory[TLSF_LIBC_BYTES] __attribute__((aligned(16)));
 #define TLSF_LIBC_END __heap_end
 #endif
 #if !defined(TLSF_LIBC_BEGIN) || !defined(TLSF_LIBC_END)
-#error "libc_malloc.c: TLSF_LIBC_BYTES tells the bytes of the heap, or TLSF_LIBC_BEGIN and TLSF_LIBC_END where it lies"
+#error "TLSF_LIBC_BYTES tells the heap's bytes, or TLSF_LIBC_BEGIN and TLSF_LIBC_END where it lies"
 #endif
 extern unsigned char TLSF_LIBC_BEGIN[], TLSF_LIBC_END[];
 #define BEGIN ((uintptr_t)TLSF_LIBC_BEGIN)
@@ -59,8 +62,8 @@ void __malloc_unlock(struct _reent *reent);
 /* Blocks begin at a multiple of it. */
 enum { UNIT = 16 };
 
-/* The heap, which the first call makes. A null pointer where its memory is too small for one. A program that asks
- * tlsf.h for figures, or for a check, declares this function. */
+/* The heap, which the first call makes. A null pointer where its memory is too small for one. A
+ * program that asks tlsf.h for figures, or for a check, declares this function. */
 tlsf_t tlsf_libc_heap(void);
 tlsf_t tlsf_libc_heap(void)
 {
@@ -76,14 +79,15 @@ tlsf_t tlsf_libc_heap(void)
 __attribute__((constructor)) static void make(void) { (void)tlsf_libc_heap(); }
 #endif
 
-/* Without an address: a new block, of one byte at least. With one: room for the bytes in its block, which is
- * given back for no bytes. */
+/* Without an address: a new block, of one byte at least. With one: room for the bytes in its block,
+ * which is given back for no bytes. */
 static void *serve(struct _reent *reent, void *address, size_t align, size_t bytes)
 {
     size_t wanted = address == NULL && bytes == 0 ? 1 : bytes;
     LOCK(reent);
     tlsf_t heap = tlsf_libc_heap();
-    void *given = address == NULL ? tlsf_memalign(heap, align, wanted) : tlsf_realloc(heap, address, wanted);
+    void *given =
+        address == NULL ? tlsf_memalign(heap, align, wanted) : tlsf_realloc(heap, address, wanted);
     UNLOCK(reent);
     if (given == NULL && wanted != 0) {
         ERRNO(reent) = align == 0 || (align & (align - 1)) != 0 ? EINVAL : ENOMEM;

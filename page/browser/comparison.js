@@ -2,8 +2,6 @@
 "use strict";
 
 const MOST_NAMES = 5000, MOST_LETTERS = 1_200_000;
-const counted = (number, name) => `${told(number)} ${name}${number === 1 ? "" : "s"}`;
-const told = (number) => number.toLocaleString("en-US");
 const signed = (number) => (number < 0 ? "" : "+") + told(number);
 
 // The bytes of a text, a letter each: these stand in the order of the text's own letters.
@@ -11,9 +9,6 @@ const bytesOf = (text) => Array.from(new TextEncoder().encode(text), (byte) => S
 
 // What a site is compared by: its function and file, and no line, since a line that is inserted moves those behind it.
 const nameOf = ({ short, file }) => [short, file].filter(Boolean).join(" ") || NO_LOCATION;
-
-// A sum, as far as JavaScript counts.
-const sumOf = (numbers) => numberOf(String(numbers.reduce((sum, number) => sum + number, 0)));
 
 // Bytes at the end and at the peak, and calls, of the sites of each function.
 function sumsByName(log) {
@@ -30,15 +25,18 @@ function rowsOf(old, fresh) {
   const one = sumsByName(old), other = sumsByName(fresh), none = [0, 0, 0];
   const rows = [...new Set([...one.keys(), ...other.keys()])].map((name) => {
     const before = one.get(name) || none, after = other.get(name) || none;
-    return { name, bytes: bytesOf(name), numbers: before.flatMap((number, at) => [after[at] - number, number, after[at]]) };
+    const numbers = before.flatMap((number, at) => [minus(after[at], number), number, after[at]]);
+    return { name, bytes: bytesOf(name), numbers };
   });
-  return rows.sort((a, b) => b.numbers[0] - a.numbers[0] || b.numbers[3] - a.numbers[3] || (a.bytes < b.bytes ? -1 : 1));
+  const [atEnd, atPeak] = [0, 3].map((at) => fallingBy(({ numbers }) => numbers[at]));
+  return rows.sort((a, b) => atEnd(a, b) || atPeak(a, b) || (a.bytes < b.bytes ? -1 : 1));
 }
 
 // The rows for which there is room, and the rest as one: those that changed least.
 function keptRows(rows) {
-  const change = ({ numbers }) => Math.max(...[0, 3, 6].map((at) => Math.abs(numbers[at])));
-  const order = [...rows].sort((one, other) => change(other) - change(one)), kept = [];
+  const size = (number) => number < 0 ? -number : number;
+  const change = ({ numbers }) => mostOf([0, 3, 6].map((at) => size(numbers[at])));
+  const order = [...rows].sort(fallingBy(change)), kept = [];
   let text = 0;
   for (const { name, numbers } of order.slice(0, MOST_NAMES)) {
     text += Array.from(name).length;
@@ -61,7 +59,7 @@ function allRows(old, fresh) {
   for (const [name, rows] of [["at the peak", both((log) => log.rows[log.peakRow])], ["at the end", both((log) => log.rows[log.rows.length - 1])]]) {
     ["Bytes", "Blocks", ...fits ? ["Reach"] : []].forEach((what, at) => pairs.push([`${what} ${name}`, rows.map((row) => row[at + 1])]));
   }
-  return pairs.map(([name, [before, after]]) => [name, before, after, after - before]);
+  return pairs.map(([name, [before, after]]) => [name, before, after, minus(after, before)]);
 }
 
 // A number that was another.

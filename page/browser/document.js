@@ -4,7 +4,8 @@
 // JSON that nothing in it can end.
 function jsonText(data) {
   const escapes = { "<": "\\u003c", ">": "\\u003e", "&": "\\u0026", "\u2028": "\\u2028" };
-  return JSON.stringify(data).replace(/[<>&\u2028]/g, (letter) => escapes[letter]);
+  const toldAs = (_, value) => typeof value === "bigint" ? String(value) : value;
+  return JSON.stringify(data, toldAs).replace(/[<>&\u2028]/g, (letter) => escapes[letter]);
 }
 
 function escaped(text) {

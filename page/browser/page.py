@@ -12,7 +12,8 @@ from pathlib import Path
 
 sys.dont_write_bytecode = True
 HERE = Path(__file__).resolve().parent
-# What a worker runs, in this order.
+# What a worker runs, in this order; in front of it what it shares with the page of a log.
+SHARED = ("numbers.js",)
 WORKER = ("program.js", "texts.js", "reports.js", "stacks.js", "reading.js", "study.js", "comparison.js", "document.js", "worker.js")
 
 # What the page fills in each document beside what they share.
@@ -34,7 +35,7 @@ def page_of(program, parts):
     sys.path.insert(0, str(parts))
     import template
     from template import SCRIPTS, STYLES, digest_of, filled, json_text, text_of
-    worker, script = text_of(HERE, WORKER), text_of(HERE, ["open.js"])
+    worker, script = text_of(parts, SHARED) + text_of(HERE, WORKER), text_of(HERE, ["open.js"])
     if "</script" in (worker + script).lower():
         sys.exit("page.py: a script would end early")
     policy = f"default-src 'none'; style-src 'unsafe-inline'; script-src '{digest_of(script)}' '{digest_of(text_of(parts, SCRIPTS))}' " \

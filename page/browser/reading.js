@@ -7,8 +7,13 @@ const DIGITS = new Int8Array(256).fill(-1);
 Array.from("0123456789abcdef", (digit, value) => { DIGITS[digit.charCodeAt(0)] = value; });
 const NO_EFFECT = " ! (nil) 0";
 
-// The blocks that are held, by address: of each its size and its site. Addresses have two halves of 32 bits. Each stands in the first
-// free row from that on which its hash tells.
+// A number by its halves of 32 bits.
+function ofHalves(high, low) {
+  return high < 1 << 21 ? high * 4294967296 + low : BigInt(high) << 32n | BigInt(low);
+}
+
+// The blocks that are held, by address: of each its size and its site. Addresses and sizes have two
+// halves of 32 bits. Each stands in the first free row from that on which its hash tells.
 class Held {
   constructor() {
     this.count = 0;
@@ -19,7 +24,8 @@ class Held {
     this.mask = rows - 1;
     this.high = new Uint32Array(rows);
     this.low = new Uint32Array(rows);
-    this.sizes = new Float64Array(rows);
+    this.sizesHigh = new Uint32Array(rows);
+    this.sizesLow = new Uint32Array(rows);
     this.sites = new Int32Array(rows).fill(-1);
   }
 
@@ -35,21 +41,24 @@ class Held {
     return row;
   }
 
-  put(high, low, size, site) {
+  put(high, low, sizeHigh, sizeLow, site) {
     if (2 * this.count > this.mask) this.widen();
     const row = this.rowOf(high, low);
     if (this.sites[row] < 0) this.count++;
     this.high[row] = high;
     this.low[row] = low;
-    this.sizes[row] = size;
+    this.sizesHigh[row] = sizeHigh;
+    this.sizesLow[row] = sizeLow;
     this.sites[row] = site;
   }
 
   widen() {
-    const { high, low, sizes, sites } = this;
+    const { high, low, sizesHigh, sizesLow, sites } = this;
     this.count = 0;
     this.begin(2 * (this.mask + 1));
-    sites.forEach((site, row) => { if (site >= 0) this.put(high[row], low[row], sizes[row], site); });
+    sites.forEach((site, row) => {
+      if (site >= 0) this.put(high[row], low[row], sizesHigh[row], sizesLow[row], site);
+    });
   }
 
   // Takes a row out, and moves those up that stand behind their homes.
@@ -60,7 +69,8 @@ class Held {
       if ((next - home & this.mask) < (next - free & this.mask)) continue;
       this.high[free] = this.high[next];
       this.low[free] = this.low[next];
-      this.sizes[free] = this.sizes[next];
+      this.sizesHigh[free] = this.sizesHigh[next];
+      this.sizesLow[free] = this.sizesLow[next];
       this.sites[free] = this.sites[next];
       free = next;
     }
@@ -135,6 +145,21 @@ class Counts {
     this.changed = [];
     this.isChanged = new Uint8Array(1 << 10);
     this.numbers = new Float64Array(5 << 10);
+    // By place what is too great to stand among the numbers, and belongs to these.
+    this.more = new Map();
+  }
+
+  // Adds bytes to the number at a place.
+  add(place, bytes) {
+    const sum = typeof bytes === "number" ? this.numbers[place] + bytes : NaN;
+    if (Number.isSafeInteger(sum)) this.numbers[place] = sum;
+    else this.more.set(place, plus(this.more.get(place) || 0, bytes));
+  }
+
+  // The numbers of a site.
+  at(site) {
+    const numbers = Array.from(this.numbers.subarray(5 * site, 5 * site + 5));
+    return numbers.map((number, at) => plus(number, this.more.get(5 * site + at) || 0));
   }
 
   // Where a site's numbers stand: bytes asked for, calls, bytes freed, frees, temporary blocks.
@@ -157,15 +182,16 @@ class Counts {
 
   // What has changed, six numbers each: site, bytes and blocks held more, calls, bytes asked for, temporary blocks.
   snapshot() {
-    const changes = new Float64Array(6 * this.changed.length);
-    this.changed.forEach((site, row) => {
-      const [asked, calls, freed, frees, temporary] = this.numbers.subarray(5 * site, 5 * site + 5);
-      changes.set([site, asked - freed, calls - frees, calls, asked, temporary], 6 * row);
+    const changes = this.changed.flatMap((site) => {
+      const [asked, calls, freed, frees, temporary] = this.at(site);
       this.numbers.fill(0, 5 * site, 5 * site + 5);
       this.isChanged[site] = 0;
+      return [site, minus(asked, freed), calls - frees, calls, asked, temporary];
     });
+    const isGreat = this.more.size > 0;
     this.changed = [];
-    return changes;
+    this.more.clear();
+    return isGreat ? changes : Float64Array.from(changes);
   }
 }
 
@@ -178,7 +204,7 @@ class Reading {
     this.locations = new Locations();
     this.counts = new Counts();
     this.calls = new Float64Array(65);
-    this.asked = new Float64Array(65);
+    this.asked = Array(65).fill(0);
     this.largest = null;
     this.mostPlain = -1;
     this.number = 0;
@@ -244,15 +270,17 @@ class Reading {
       align = this.high * 4294967296 + this.low;
     }
     this.word(bytes, at);
-    const size = this.high * 4294967296 + this.low, power = this.high ? 64 - Math.clz32(this.high) : 32 - Math.clz32(this.low);
+    const { high: sizeHigh, low: sizeLow } = this, size = ofHalves(sizeHigh, sizeLow);
+    const power = this.high ? 64 - Math.clz32(this.high) : 32 - Math.clz32(this.low);
     const site = this.locations.number(bytes, begun, Math.max(begun, end)), place = this.counts.of(site);
-    this.counts.numbers[place] += size;
+    this.counts.add(place, size);
     this.counts.numbers[place + 1] += 1;
     this.calls[power] += 1;
-    this.asked[power] += size;
-    this.held.put(high, low, size, site);
+    this.asked[power] = plus(this.asked[power], size);
+    this.held.put(high, low, sizeHigh, sizeLow, site);
     this.last = [high, low];
-    if (aligned || size > this.mostPlain) this.asks(align, size, site);
+    // No heap serves what is greater than JavaScript counts, and then this isn't told.
+    if (aligned || size > this.mostPlain) this.asks(align, Number(size), site);
   }
 
   // Keeps the first line that asks for the most; of one class that with the most bytes.
@@ -268,7 +296,7 @@ class Reading {
     const row = this.held.rowOf(high, low), site = this.held.sites[row];
     if (site < 0) throw new Differs(`line ${this.number} frees what isn't held, and no report says so`);
     const place = this.counts.of(site);
-    this.counts.numbers[place + 2] += this.held.sizes[row];
+    this.counts.add(place + 2, ofHalves(this.held.sizesHigh[row], this.held.sizesLow[row]));
     this.counts.numbers[place + 3] += 1;
     if (last && last[0] === high && last[1] === low) this.counts.numbers[place + 4] += 1;
     this.held.remove(row);

@@ -9,24 +9,23 @@ const [TOO_LONG, NOT_A_LINE, NOT_HELD, ALREADY_HELD, REFUSED, HALF, STRAY] = KIN
 // What `fit` may read again, in seconds of one processor by the estimate below.
 const SECONDS_TO_FIT = 3;
 const LINES = "line bytes blocks", HEAP_LINES = "line bytes blocks reach free largest";
+const HELD_AT = /^(\d+) bytes in (\d+) blocks(?: at (.*))?$/s;
 
 // The reports don't agree with each other, or with what was read beside them.
 class Differs extends Error {}
 
-// A number that a report tells. Above the greatest that JavaScript counts to there is no page.
-function numberOf(digits) {
-  const number = Number(digits);
-  if (!Number.isSafeInteger(number)) throw new Error(`This log has the number ${digits}. A browser counts up to ${Number.MAX_SAFE_INTEGER}.`);
-  return number;
+// The lines of a text, without their newlines, from a place on.
+function* linesOf(bytes, from) {
+  for (let at = from; at < bytes.length;) {
+    const newline = bytes.indexOf(10, at), end = newline < 0 ? bytes.length : newline;
+    yield byteText(bytes, at, end);
+    at = end + 1;
+  }
 }
 
 // Calls `take` for each line of a text, without its newline, from a place on.
 function eachLine(bytes, from, take) {
-  for (let at = from; at < bytes.length;) {
-    const newline = bytes.indexOf(10, at), end = newline < 0 ? bytes.length : newline;
-    take(byteText(bytes, at, end));
-    at = end + 1;
-  }
+  for (const line of linesOf(bytes, from)) take(line);
 }
 
 function kindOf(said) {
@@ -59,18 +58,35 @@ function readNamed(bytes) {
   return bodyOf(bytes).map((line) => [line.slice(0, line.indexOf(": ")), line.slice(line.indexOf(": ") + 2)]);
 }
 
-// Each row: line, bytes, blocks, and with a heap reach, free, largest.
-function readTimeline(bytes, header) {
-  const [first, ...rows] = bodyOf(bytes);
-  if (first !== header) throw new Differs("the timeline has no header");
+// Each row of a timeline on a heap: line, bytes, blocks, reach, free, largest.
+function readTimeline(bytes) {
+  const [header, ...rows] = bodyOf(bytes);
+  if (header !== HEAP_LINES) throw new Differs("the timeline has no header");
   return rows.map((row) => row.split(" ").map(numberOf));
+}
+
+// Each row of a timeline by location: line, bytes and blocks; and of the locations whose bytes or blocks changed since the row before
+// what they hold then.
+function* rowsBySite(bytes) {
+  const lines = linesOf(bytes, readDiagnostics(bytes, () => {}));
+  if (lines.next().value !== LINES) throw new Differs("the timeline has no header");
+  let row = null, sites = new Map();
+  for (const line of lines) {
+    const held = HELD_AT.exec(line);
+    if (held) sites.set(held[3] || "", [numberOf(held[1]), numberOf(held[2])]);
+    else {
+      if (row) yield { row, sites };
+      [row, sites] = [line.split(" ").map(numberOf), new Map()];
+    }
+  }
+  if (row) yield { row, sites };
 }
 
 // Who holds the memory at the peak and at the end, for each location bytes and blocks; and who asks: calls, bytes and temporary blocks.
 function readSites(bytes) {
   const parts = [];
   for (const line of bodyOf(bytes)) {
-    const held = /^(\d+) bytes in (\d+) blocks(?: at (.*))?$/s.exec(line);
+    const held = HELD_AT.exec(line);
     const asked = held ? null : /^(\d+) bytes in (\d+) calls, (\d+) temporary(?: at (.*))?$/s.exec(line);
     if (/^Held at the |^Asked over the log: /.test(line)) parts.push(new Map());
     else if (held) parts[parts.length - 1].set(held[3] || "", [numberOf(held[1]), numberOf(held[2])]);

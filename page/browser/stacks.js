@@ -2,6 +2,8 @@
 "use strict";
 
 const PART = /^([ms])([0-9]+)([=+])([\x21-\x7e\x80-\xff]*)$/, AGE = /^t([0-9]{1,15})$/;
+// A location whose stack has more calls than it tells.
+const CUT = /(?:^|<)\?:(?:\[0x[0-9a-f]+\]<)*\[0x0\]$/;
 const FRAME_TEXT = /^(?:([^]+):)?\[(0x[0-9a-f]+)\]$/;
 
 class Stacks {
@@ -65,6 +67,13 @@ class Stacks {
       this.known.set(key, { module: of, offset: found[2].replace(/^0+(?=.)/, "") });
     }
     return this.known.get(key);
+  }
+
+  // Whether a location's stack has more calls, for which its last frame stands.
+  isCut(location) {
+    let last = null;
+    for (let list = this.lists.get(location); list; list = list.rest) last = list.frame;
+    return last ? last.module === "?" && last.offset === "0" : CUT.test(location);
   }
 
   // A location with its frames for a stack's number; else as it is.

@@ -8,7 +8,7 @@ const POINTS = 200, MOST_SITES = 5000, MOST_TEXT = 700_000, MOST_CHANGES = 40_00
 const OTHERS = ["other functions", "", "other files", "other modules"];
 
 // The sums of two lists of numbers.
-const added = (one, other) => one.map((number, at) => number + other[at]);
+const added = (one, other) => one.map((number, at) => plus(number, other[at]));
 
 // There is no page where both differ.
 function expectSame(what, reckoned, told) {
@@ -33,6 +33,13 @@ function jsonLength(text) {
 function howItEnds(file) {
   const last = file.piece(Math.max(0, file.size - 16), 16), text = byteText(last, 0, last.length);
   return text.endsWith("= End\n") ? "whole" : text.endsWith("@ cut ! (nil) 0\n") ? "left" : "ended";
+}
+
+// How many calls a log says that it has lost, at least.
+function missedCalls(file) {
+  const last = file.piece(Math.max(0, file.size - 64), 64), text = byteText(last, 0, last.length);
+  const found = /(?:^|\n)@ lost ! \(nil\) (0x[0-9a-f]{1,16})\n@ cut ! \(nil\) 0\n$/.exec(text);
+  return found ? numberOf(found[1]) : 0;
 }
 
 // The functions of sites, each with its number, and its short name: with the line where it is one.
@@ -86,7 +93,7 @@ class Study {
 
   // The reports go on side by side, those first on whose answers others wait. Meanwhile the log is read.
   async read() {
-    const [sums, onHeap, timeline, sites, leaks] = [["peak", "--no-heap"], ["peak", ...GREATEST], ["timeline", "--points", String(POINTS)],
+    const [sums, onHeap, timeline, sites, leaks] = [["peak", "--no-heap"], ["peak", ...GREATEST], ["timeline", "--points", String(POINTS), "--sites"],
       ["sites", "--calls"], ["leaks", "--no-heap"]].map((words) => this.begin(words));
     this.readPeak(await sums);
     const points = pointsOf(this.lines, this.peak, POINTS), heap = this.lookAtHeap(onHeap, timeline, points);
@@ -94,6 +101,7 @@ class Study {
     heap.catch(() => {});
     this.peakRow = points.indexOf(this.peak);
     this.end = howItEnds(this.file);
+    this.missed = missedCalls(this.file);
     this.reader = new PointReader(points, this.faulty, (location, line) => this.stacks.take(location, line));
     await readLog(this.file, this.reader, this.progress);
     this.reached.resolve(this.reader.places[this.peakRow]);
@@ -150,7 +158,8 @@ class Study {
 
   // What the heap holds at the peak and at the end, and the pools that the log needs; or heaps by size.
   async lookAtHeap(onHeap, timeline, points) {
-    this.rows = readTimeline(await timeline, LINES);
+    this.byLocation = await timeline;
+    this.rows = Array.from(rowsBySite(this.byLocation), ({ row }) => row);
     expectSame("in the lines of the timeline", points, this.rows.map(([line]) => line));
     this.findRefused(await onHeap);
     if (!this.fits) {
@@ -163,7 +172,7 @@ class Study {
     const onLines = this.begin(["timeline", "--points", String(POINTS), ...GREATEST]), atEnd = this.begin(["walk", ...GREATEST]);
     const atPeak = this.begin(["walk", ...GREATEST], await this.reached.promise);
     this.heaps = [readWalk(await atPeak), readWalk(await atEnd)];
-    this.heapRows = readTimeline(await onLines, HEAP_LINES);
+    this.heapRows = readTimeline(await onLines);
     this.fit = readNamed(await fit);
   }
 
@@ -185,21 +194,9 @@ class Study {
 
   // What was reckoned here is what the proved reports tell, or there is no page.
   agree() {
-    const count = this.locations.length, zeros = () => new Float64Array(count);
+    const count = this.locations.length, zeros = () => Array(count).fill(0);
     Object.assign(this, { most: zeros(), asked: zeros(), changed: zeros(), calls: zeros(), temporary: zeros() });
-    const held = zeros(), blocks = zeros();
-    let bytes = 0, allBlocks = 0;
-    this.rows.forEach((row, point) => {
-      for (const [site, more, moreBlocks, ...over] of changesOf(this.reader.changes[point])) {
-        held[site] += more;
-        blocks[site] += moreBlocks;
-        bytes += more;
-        allBlocks += moreBlocks;
-        this.count(site, over, held[site]);
-      }
-      expectSame(`after line ${row[0]}`, [bytes, allBlocks], row.slice(1, 3));
-      if (point === this.peakRow) expectSameSites(`by site at the peak, line ${row[0]}`, this.bySite(held, blocks), this.atPeak);
-    });
+    const { held, blocks } = this.agreeOnRows(zeros(), zeros());
     expectSameSites("by site at the end", this.bySite(held, blocks), this.atEnd);
     const byCalls = this.locations.map((location, site) => [location, [this.calls[site], this.asked[site], this.temporary[site]]]);
     expectSameSites("by site over the log", new Map(byCalls.filter(([, [calls]]) => calls)), this.byCalls);
@@ -207,12 +204,34 @@ class Study {
     if (this.fits) this.agreeOnHeap();
   }
 
+  // What is held after each point, in all and by site: it begins with these zeros.
+  agreeOnRows(held, blocks) {
+    let bytes = 0, allBlocks = 0, point = 0;
+    for (const { row, sites } of rowsBySite(this.byLocation)) {
+      const changed = new Map();
+      for (const [site, more, moreBlocks, ...over] of changesOf(this.reader.changes[point])) {
+        held[site] = plus(held[site], more);
+        blocks[site] += moreBlocks;
+        bytes = plus(bytes, more);
+        allBlocks += moreBlocks;
+        this.count(site, over, held[site]);
+        if (more || moreBlocks) changed.set(this.locations[site], [held[site], blocks[site]]);
+      }
+      expectSame(`after line ${row[0]}`, [bytes, allBlocks], row.slice(1, 3));
+      expectSameSites(`by site after line ${row[0]}`, changed, sites);
+      if (point === this.peakRow) expectSameSites(`by site at the peak, line ${row[0]}`, this.bySite(held, blocks), this.atPeak);
+      point++;
+    }
+    this.byLocation = null;
+    return { held, blocks };
+  }
+
   count(site, [calls, asked, temporary], held) {
     this.calls[site] += calls;
-    this.asked[site] += asked;
+    this.asked[site] = plus(this.asked[site], asked);
     this.temporary[site] += temporary;
     this.changed[site] += 1;
-    this.most[site] = Math.max(this.most[site], held);
+    this.most[site] = mostOf([this.most[site], held]);
   }
 
   // Bytes and blocks of each location that holds any.
@@ -225,7 +244,7 @@ class Study {
   agreeOnLeaks() {
     let bytes = 0, blocks = 0;
     readLeaks(this.leaks, (size) => {
-      bytes += size;
+      bytes = plus(bytes, size);
       blocks += 1;
     });
     expectSame("not freed", [bytes, blocks], this.rows[this.rows.length - 1].slice(1, 3));
@@ -248,8 +267,10 @@ class Study {
   }
 
   keepGreatest() {
-    const order = [...this.locations.keys()].sort((one, other) => this.most[other] - this.most[one] || this.asked[other] - this.asked[one]
-      || (this.locations[one] < this.locations[other] ? -1 : 1));
+    const byMost = fallingBy((site) => this.most[site]);
+    const byAsked = fallingBy((site) => this.asked[site]);
+    const order = [...this.locations.keys()].sort((one, other) => byMost(one, other)
+      || byAsked(one, other) || (this.locations[one] < this.locations[other] ? -1 : 1));
     this.kept = [];
     const seen = new Set();
     let text = 0;
@@ -301,9 +322,10 @@ class Study {
     for (const site of sites) {
       const of = this.functionOf[site];
       points.set(of, (points.get(of) || 0) + this.changed[site]);
-      most.set(of, (most.get(of) || 0) + this.most[site]);
+      most.set(of, plus(most.get(of) || 0, this.most[site]));
     }
-    const order = [...points.keys()].sort((one, other) => most.get(other) - most.get(one) || one - other);
+    const byMost = fallingBy((of) => most.get(of));
+    const order = [...points.keys()].sort((one, other) => byMost(one, other) || one - other);
     let taken = 0;
     return new Set(order.filter((of) => (taken += Math.min(points.get(of), this.rows.length)) <= MOST_REST_CHANGES));
   }
@@ -344,7 +366,7 @@ class Study {
       let calls = 0, asked = 0;
       this.reader.powers.forEach(([allCalls, allAsked], point) => {
         if (allCalls[power] === calls) return;
-        numbers.push(point, allCalls[power] - calls, allAsked[power] - asked);
+        numbers.push(point, allCalls[power] - calls, minus(allAsked[power], asked));
         calls = allCalls[power];
         asked = allAsked[power];
       });
@@ -360,11 +382,13 @@ class Study {
     readLeaks(this.leaks, (size, line, location) => {
       const at = this.totalRow.get(index.get(location));
       const [bytes, blocks, first, last, least, most] = rows.get(at) || [0, 0, line, line, size, size];
-      rows.set(at, [bytes + size, blocks + 1, Math.min(first, line), Math.max(last, line), Math.min(least, size), Math.max(most, size)]);
+      rows.set(at, [plus(bytes, size), blocks + 1, Math.min(first, line), Math.max(last, line),
+        leastOf([least, size]), mostOf([most, size])]);
     });
     const lost = new Map(Array.from(rows.keys(), (row) => [row, (this.lost || []).map(() => 0)]));
     (this.lost || []).forEach((part, place) => part.forEach(([bytes], location) => {
-      lost.get(this.totalRow.get(index.get(location)))[place] += bytes;
+      const sums = lost.get(this.totalRow.get(index.get(location)));
+      sums[place] = plus(sums[place], bytes);
     }));
     return Array.from(rows, ([row, numbers]) => [row, ...numbers, ...lost.get(row)]);
   }
@@ -376,7 +400,9 @@ class Study {
 
   headData() {
     const at = this.limits && { at: this.functions.label(this.functionOf[this.reader.reading.largest.site]) };
-    return { sites: this.locations.length, end: this.end, bare: "", kinds: this.kinds, refused: this.refused, firstRefused: this.firstRefused,
+    const cutStacks = this.locations.filter((location) => this.stacks.isCut(location)).length;
+    return { sites: this.locations.length, cutStacks, end: this.end, missed: this.missed, bare: "",
+      kinds: this.kinds, refused: this.refused, firstRefused: this.firstRefused,
       limits: this.limits && { ...this.limits, ...at } };
   }
 
@@ -397,7 +423,7 @@ class Study {
 
 // The changes of a snapshot: site, bytes and blocks held more, calls, bytes asked for, temporary blocks.
 function* changesOf(changes) {
-  for (let at = 0; at < changes.length; at += 6) yield changes.subarray(at, at + 6);
+  for (let at = 0; at < changes.length; at += 6) yield changes.slice(at, at + 6);
 }
 
 // The greatest end of a used block, the free bytes, and the largest free block.

@@ -1,5 +1,5 @@
-/* What a proved program takes from C, for a processor for which the kit has no C library: its words,
- * its environment, errno, and memory. scripts/program links it. Not proved. */
+/* What a proved program takes from C, for a processor for which the kit has no C library: its
+ * words, its environment, errno, and memory. scripts/program links it. Not proved. */
 #include <errno.h>
 #include <stdbool.h>
 #include <stdint.h>
@@ -32,8 +32,8 @@ __attribute__((constructor)) static void keep_words(int number, char **first)
     words = first;
 }
 
-/* Copies a text without its last zero. Answers its bytes, or -1 where there is none, or -2 where it has
- * more bytes than there is room for. */
+/* Copies a text without its last zero. Answers its bytes, or -1 where there is none, or -2 where it
+ * has more bytes than there is room for. */
 static int64_t copied(const char *text, char *to, uint64_t room)
 {
     uint64_t length = 0;
@@ -56,7 +56,10 @@ int64_t rattle_arg(uint64_t number, char *to, uint64_t room)
     return copied(number < (uint64_t)count ? words[number] : NULL, to, room);
 }
 
-int64_t rattle_env(const char *name, char *to, uint64_t room) { return copied(getenv(name), to, room); }
+int64_t rattle_env(const char *name, char *to, uint64_t room)
+{
+    return copied(getenv(name), to, room);
+}
 
 int64_t rattle_env_at(uint64_t number, char *to, uint64_t room)
 {

@@ -6,12 +6,12 @@ enum { HELD = 1000, BLOCKS = 500000 };
 static void *held[HELD];
 
 /* The empty instruction behind the call keeps it from being the function's last. */
-#define DEEPER(name, next)                              \
+#define DEEPER(name, next) \
     __attribute__((noinline)) static void *name(size_t bytes) \
-    {                                                   \
-        void *block = next(bytes);                      \
-        __asm__ volatile("" : : : "memory");            \
-        return block;                                   \
+    { \
+        void *block = next(bytes); \
+        __asm__ volatile("" : : : "memory"); \
+        return block; \
     }
 
 DEEPER(first, malloc)

@@ -1,4 +1,5 @@
-"""Tables of what is measured: printed row by row, and put into a page below the heading that they stand under there."""
+"""Tables of what is measured: printed row by row, and put into a page below the heading that they
+stand under there."""
 import os
 import re
 import subprocess
@@ -14,7 +15,8 @@ MEASURED = "Measured on "
 def version_of(name, words):
     """A program with its version, or nothing where it isn't there."""
     try:
-        told = subprocess.run(words, capture_output=True, text=True, check=False).stdout.split("\n")[0]
+        told = subprocess.run(words, capture_output=True, text=True,
+                              check=False).stdout.split("\n")[0]
     except OSError:
         return None
     found = re.search(r"\d+\.\d+(?:\.\d+)*(?=\D*$)", told)
@@ -24,16 +26,20 @@ def version_of(name, words):
 def processor():
     """The name of the processor, as Linux has it."""
     found = re.search(r"^model name\s*: (.*)", Path("/proc/cpuinfo").read_text(), re.M)
-    name = re.sub(r"\((?:R|TM)\)|\bProcessor\b|\bCPU\b", "", found[1] if found else os.uname().machine)
+    name = re.sub(r"\((?:R|TM)\)|\bProcessor\b|\bCPU\b", "",
+                  found[1] if found else os.uname().machine)
     return " ".join(name.replace("@", "").split())
 
 
 def measured_here():
     """When, and on which machine."""
-    versions = [version_of("gcc", ["gcc", "--version"]), version_of("glibc", ["ldd", "--version"]), version_of("heaptrack", ["heaptrack", "--version"])]
-    told = " and ".join(filter(None, [", ".join(version for version in versions[:-1] if version), versions[-1]]))
+    versions = [version_of("gcc", ["gcc", "--version"]), version_of("glibc", ["ldd", "--version"]),
+                version_of("heaptrack", ["heaptrack", "--version"])]
+    told = " and ".join(filter(None, [", ".join(version for version in versions[:-1] if version),
+                                      versions[-1]]))
     day = date.today()
-    return f"{MEASURED}{day.day} {day:%B %Y} on {os.cpu_count()} processors ({processor()}), with {told}."
+    return (f"{MEASURED}{day.day} {day:%B %Y} on {os.cpu_count()} processors ({processor()}), with "
+            f"{told}.")
 
 
 class Page:
@@ -44,7 +50,8 @@ class Page:
         self.lines = self.path.read_text().split("\n") if path else []
 
     def table(self, heading, head, rows, which=0):
-        """Prints a table, each row as soon as it is known, and puts it in the place of the one below a heading: the first, or another."""
+        """Prints a table, each row as soon as it is known, and puts it in the place of the one
+        below a heading: the first, or another."""
         lines = [" | ".join(head), "|".join(["---"] * len(head))]
         print("\n".join(lines))
         for row in rows:
@@ -68,7 +75,8 @@ class Page:
     def section(self, heading):
         """Where a heading stands, and where the next one does."""
         start = self.lines.index(f"## {heading}")
-        return start, next((at for at in range(start + 1, len(self.lines)) if self.lines[at].startswith("#")), len(self.lines))
+        return start, next((at for at in range(start + 1, len(self.lines))
+                            if self.lines[at].startswith("#")), len(self.lines))
 
     def tell_machine(self):
         """Puts the machine in the place of the paragraph that names the last one."""
@@ -78,7 +86,9 @@ class Page:
         start = next((at for at, line in enumerate(self.lines) if line.startswith(MEASURED)), None)
         if start is None:
             raise SystemExit(f"{self.path} has no paragraph that begins with {MEASURED!r}")
-        self.lines[start:self.lines.index("", start)] = textwrap.wrap(measured_here(), WIDTH, break_long_words=False, break_on_hyphens=False)
+        self.lines[start:self.lines.index("", start)] = textwrap.wrap(measured_here(), WIDTH,
+                                                                      break_long_words=False,
+                                                                      break_on_hyphens=False)
         self.write()
 
     def write(self):

@@ -1,7 +1,8 @@
-/* What a careful C programmer writes in an afternoon: the report of leaks of a log of mtrace(3), by a parser and a hash table.
- * No heap, no diagnostics: a line that is none of the forms is passed over. tests/benchmark measures it beside `tlsf leaks`, and
- * compares the reports. It isn't proved. An entry has its location in it, or where NUMBERED is defined, the number of that: each
- * location is then kept once, for less memory. */
+/* What a careful C programmer writes in an afternoon: the report of leaks of a log of mtrace(3), by
+ * a parser and a hash table. No heap, no diagnostics: a line that is none of the forms is passed
+ * over. tests/benchmark measures it beside `tlsf leaks`, and compares the reports. It isn't proved.
+ * An entry has its location in it, or where NUMBERED is defined, the number of that: each location
+ * is then kept once, for less memory. */
 #include <stdbool.h>
 #include <stdint.h>
 #include <stdio.h>
@@ -22,8 +23,8 @@ struct entry {
 #endif
 };
 
-/* Places of entries by the hash of their address, 0 for none, with linear probing; and entries from 1 on, those linked that
- * are held no more. */
+/* Places of entries by the hash of their address, 0 for none, with linear probing; and entries from
+ * 1 on, those linked that are held no more. */
 static uint32_t *places;
 static size_t mask;
 static struct entry *entries;
@@ -37,7 +38,10 @@ static void *grown(void *old, size_t bytes)
     return more;
 }
 
-static size_t home(uint64_t address) { return (size_t)((address * 0x9E3779B97F4A7C15u) >> 20) & mask; }
+static size_t home(uint64_t address)
+{
+    return (size_t)((address * 0x9E3779B97F4A7C15u) >> 20) & mask;
+}
 
 /* Where the address stands in the table, or the empty place that ends its search. */
 static size_t find(uint64_t address)
@@ -62,11 +66,13 @@ static void rehash(size_t count)
 }
 
 #ifdef NUMBERED
-/* The locations by number, of which 0 is that of no bytes, and places of numbers by the hash of the bytes, 0 for none. */
-static struct location {
+/* The locations by number, of which 0 is that of no bytes, and places of numbers by the hash of the
+ * bytes, 0 for none. */
+struct location {
     uint16_t length;
     char bytes[];
-} **locations;
+};
+static struct location **locations;
 static uint32_t *numbers;
 static uint32_t known;
 static size_t numbers_mask;
@@ -89,7 +95,9 @@ static size_t hash_of(const char *bytes, size_t length)
 static size_t find_number(const char *bytes, size_t length)
 {
     size_t at = hash_of(bytes, length) & numbers_mask;
-    while (numbers[at] && (locations[numbers[at]]->length != length || memcmp(locations[numbers[at]]->bytes, bytes, length)))
+    while (numbers[at]
+           && (locations[numbers[at]]->length != length
+               || memcmp(locations[numbers[at]]->bytes, bytes, length)))
         at = (at + 1) & numbers_mask;
     return at;
 }
@@ -123,8 +131,14 @@ static void keep(struct entry *entry, const char *bytes, size_t length)
     entry->location = numbers[at];
 }
 
-static int length_of(const struct entry *entry) { return entry->location ? locations[entry->location]->length : 0; }
-static const char *location_of(const struct entry *entry) { return entry->location ? locations[entry->location]->bytes : ""; }
+static int length_of(const struct entry *entry)
+{
+    return entry->location ? locations[entry->location]->length : 0;
+}
+static const char *location_of(const struct entry *entry)
+{
+    return entry->location ? locations[entry->location]->bytes : "";
+}
 #else
 static void keep(struct entry *entry, const char *bytes, size_t length)
 {
@@ -178,8 +192,8 @@ static void drop(uint64_t address)
 
 /* One more than the digit that a byte writes, and 0 for any other byte. */
 static const signed char digit[256] = {
-    ['0'] = 1, ['1'] = 2, ['2'] = 3, ['3'] = 4, ['4'] = 5, ['5'] = 6, ['6'] = 7, ['7'] = 8, ['8'] = 9, ['9'] = 10,
-    ['a'] = 11, ['b'] = 12, ['c'] = 13, ['d'] = 14, ['e'] = 15, ['f'] = 16,
+    ['0'] = 1, ['1'] = 2,  ['2'] = 3,  ['3'] = 4,  ['4'] = 5,  ['5'] = 6,  ['6'] = 7,  ['7'] = 8,
+    ['8'] = 9, ['9'] = 10, ['a'] = 11, ['b'] = 12, ['c'] = 13, ['d'] = 14, ['e'] = 15, ['f'] = 16,
 };
 
 /* Reads a number, `0x` and digits, or `0`; false where there is none. */
@@ -228,7 +242,8 @@ static void read_line(const char *at, uint64_t line)
 
 static int by_address(const void *one, const void *other)
 {
-    uint64_t a = (*(struct entry *const *)one)->address, b = (*(struct entry *const *)other)->address;
+    uint64_t a = (*(struct entry *const *)one)->address,
+             b = (*(struct entry *const *)other)->address;
     return (a > b) - (a < b);
 }
 static void report(void)
@@ -243,8 +258,9 @@ static void report(void)
     puts(count ? "Memory not freed:" : "No memory leaks.");
     for (size_t k = 0; k < count; k++) {
         sum += all[k]->size;
-        printf("0x%llx %llu line %llu%s%.*s\n", (unsigned long long)all[k]->address, (unsigned long long)all[k]->size,
-               (unsigned long long)all[k]->line, length_of(all[k]) ? " at " : "", length_of(all[k]), location_of(all[k]));
+        printf("0x%llx %llu line %llu%s%.*s\n", (unsigned long long)all[k]->address,
+               (unsigned long long)all[k]->size, (unsigned long long)all[k]->line,
+               length_of(all[k]) ? " at " : "", length_of(all[k]), location_of(all[k]));
     }
     if (count)
         printf("Total: %zu blocks, %llu bytes.\n", count, (unsigned long long)sum);

@@ -1,4 +1,5 @@
-"""A browser that a test drives: chromium without a window, by its protocol for developers over two pipes."""
+"""A browser that a test drives: chromium without a window, by its protocol for developers over two
+pipes."""
 import base64
 import fcntl
 import json
@@ -9,8 +10,9 @@ import subprocess
 import time
 
 NAME = shutil.which("chromium") or shutil.which("chromium-browser") or shutil.which("google-chrome")
-WORDS = ["--headless", "--disable-gpu", "--no-sandbox", "--disable-dev-shm-usage", "--no-first-run", "--disable-sync", "--disable-extensions",
-         "--disable-background-networking", "--disable-component-update", "--remote-debugging-pipe", "--hide-scrollbars"]
+WORDS = ["--headless", "--disable-gpu", "--no-sandbox", "--disable-dev-shm-usage", "--no-first-run",
+         "--disable-sync", "--disable-extensions", "--disable-background-networking",
+         "--disable-component-update", "--remote-debugging-pipe", "--hide-scrollbars"]
 FROM_TEST, TO_TEST = 3, 4
 
 
@@ -30,8 +32,10 @@ class Chromium:
             os.dup2(high[0], FROM_TEST)
             os.dup2(high[1], TO_TEST)
 
-        self.run = subprocess.Popen([NAME, *WORDS, f"--user-data-dir={folder}", "about:blank"], stdin=subprocess.DEVNULL, stdout=subprocess.DEVNULL,
-                                    stderr=subprocess.DEVNULL, preexec_fn=put_pipes, pass_fds=(FROM_TEST, TO_TEST), start_new_session=True)
+        self.run = subprocess.Popen([NAME, *WORDS, f"--user-data-dir={folder}", "about:blank"],
+                                    stdin=subprocess.DEVNULL, stdout=subprocess.DEVNULL,
+                                    stderr=subprocess.DEVNULL, preexec_fn=put_pipes,
+                                    pass_fds=(FROM_TEST, TO_TEST), start_new_session=True)
         for end in (reads, writes, *high):
             os.close(end)
         self.rest, self.number, self.session, self.events = b"", 0, None, []
@@ -72,13 +76,17 @@ class Chromium:
             self.ask(f"{domain}.enable")
         self.events.clear()
         self.ask("Page.navigate", url=path.resolve().as_uri())
-        self.wait("document.readyState === 'complete' && location.protocol === 'file:' && typeof Work === 'function'")
+        self.wait("document.readyState === 'complete' && location.protocol === 'file:' && typeof "
+                  "Work === 'function'")
 
     def value(self, expression, seconds=60):
         """What an expression is in the page, or what it promises."""
-        told = self.ask("Runtime.evaluate", seconds=seconds, expression=expression, awaitPromise=True, returnByValue=True)
+        told = self.ask("Runtime.evaluate", seconds=seconds, expression=expression,
+                        awaitPromise=True, returnByValue=True)
         if "exceptionDetails" in told:
-            raise Failed(told["exceptionDetails"].get("exception", {}).get("description", told["exceptionDetails"]["text"]))
+            raise Failed(told["exceptionDetails"].get("exception", {}).get("description",
+                                                                           told["exceptionDetails"][
+                                                                               "text"]))
         return told["result"].get("value")
 
     def wait(self, expression, seconds=60):
@@ -103,13 +111,16 @@ class Chromium:
 
     def press(self, key, code=0, text=""):
         """Presses a key."""
-        self.ask("Input.dispatchKeyEvent", type="keyDown", key=key, windowsVirtualKeyCode=code, text=text)
+        self.ask("Input.dispatchKeyEvent", type="keyDown", key=key, windowsVirtualKeyCode=code,
+                 text=text)
         self.ask("Input.dispatchKeyEvent", type="keyUp", key=key, windowsVirtualKeyCode=code)
 
     def screen(self, width, height, colour="light"):
         """Another size of the window, and light or dark colours."""
-        self.ask("Emulation.setDeviceMetricsOverride", width=width, height=height, deviceScaleFactor=1, mobile=False)
-        self.ask("Emulation.setEmulatedMedia", features=[{"name": "prefers-color-scheme", "value": colour}])
+        self.ask("Emulation.setDeviceMetricsOverride", width=width, height=height,
+                 deviceScaleFactor=1, mobile=False)
+        self.ask("Emulation.setEmulatedMedia", features=[{"name": "prefers-color-scheme",
+                                                          "value": colour}])
 
     def picture(self, path):
         """A picture of what is seen."""
@@ -123,8 +134,12 @@ class Chromium:
             if event.get("method") == "Log.entryAdded":
                 found.append(told["entry"]["text"])
             elif event.get("method") == "Runtime.exceptionThrown":
-                found.append(told["exceptionDetails"].get("exception", {}).get("description", told["exceptionDetails"]["text"]))
-            elif event.get("method") == "Network.requestWillBeSent" and not told["request"]["url"].startswith(("file:", "blob:", "data:")):
+                found.append(told["exceptionDetails"].get("exception", {}).get("description",
+                                                                               told[
+                                                                                   "exceptionDetails"][
+                                                                                       "text"]))
+            elif event.get("method") == "Network.requestWillBeSent" and not told["request"]["url"].startswith(
+                ("file:", "blob:", "data:")):
                 found.append(told["request"]["url"])
         return found
 

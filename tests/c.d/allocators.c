@@ -51,10 +51,7 @@ static inline void take(uint32_t k, size_t bytes)
     refused += tlsf_heap_malloc(&heap, bytes, &blocks[k]) != TLSF_OK;
 }
 
-static inline void give(uint32_t k)
-{
-    refused += tlsf_heap_free(&heap, blocks[k]) != TLSF_OK;
-}
+static inline void give(uint32_t k) { refused += tlsf_heap_free(&heap, blocks[k]) != TLSF_OK; }
 #else
 static void *blocks[MOST];
 
@@ -88,10 +85,7 @@ static inline void take(uint32_t k, size_t bytes)
     refused += blocks[k] == NULL;
 }
 
-static inline void give(uint32_t k)
-{
-    FREE(blocks[k]);
-}
+static inline void give(uint32_t k) { FREE(blocks[k]); }
 #endif
 
 /* ---- what is measured ---- */

@@ -90,15 +90,13 @@ static double of_glibc(uint32_t live)
     return taken;
 }
 
-static double least(double one, double other)
-{
-    return one < other ? one : other;
-}
+static double least(double one, double other) { return one < other ? one : other; }
 
 int main(void)
 {
     const uint32_t lives[] = {100, 1000, 30000, 60000};
-    puts("| Live blocks | ns a pair | Plain C | Times plain C | glibc | Times glibc | Answers |\n|---|---|---|---|---|---|---|");
+    puts("| Live blocks | ns a pair | Plain C | Times plain C | glibc | Times glibc | Answers "
+         "|\n|---|---|---|---|---|---|---|");
     for (int row = 0; row < 4; row++) {
         uint32_t refused = 0;
         uint64_t ours_at = 0, plain_at = 0;
@@ -108,8 +106,9 @@ int main(void)
             other = least(other, of_plain(lives[row], &refused, &plain_at));
             theirs = least(theirs, of_glibc(lives[row]));
         }
-        printf("| %u | %.0f | %.0f | %.2f | %.0f | %.2f | %s, %u refused |\n", (unsigned)lives[row], 1e9 * ours / PAIRS, 1e9 * other / PAIRS,
-            ours / other, 1e9 * theirs / PAIRS, ours / theirs, ours_at == plain_at ? "the same" : "not the same", (unsigned)refused);
+        printf("| %u | %.0f | %.0f | %.2f | %.0f | %.2f | %s, %u refused |\n", (unsigned)lives[row],
+               1e9 * ours / PAIRS, 1e9 * other / PAIRS, ours / other, 1e9 * theirs / PAIRS,
+               ours / theirs, ours_at == plain_at ? "the same" : "not the same", (unsigned)refused);
     }
     return 0;
 }

@@ -1,7 +1,7 @@
 /* What tests/c compares between targets: a million random calls over ten heaps. `between make FILE`
- * writes a line for each heap, with a number made of all that its calls and walks answered, and puts
- * an image of each into FILE. `between load FILE` makes the heaps of these images, and goes on. A program
- * for a board gets these two words as it is built, as MODE and IMAGES. */
+ * writes a line for each heap, with a number made of all that its calls and walks answered, and
+ * puts an image of each into FILE. `between load FILE` makes the heaps of these images, and goes
+ * on. A program for a board gets these two words as it is built, as MODE and IMAGES. */
 #include <stdio.h>
 #include <stdlib.h>
 #include <string.h>
@@ -35,10 +35,7 @@ static void see(uint64_t number)
 }
 
 /* Sizes of all classes, most of them small; alignments and wrong words among them. */
-static uint64_t some_bytes(void)
-{
-    return below(8) == 0 ? below(1ull << below(32)) : below(2000);
-}
+static uint64_t some_bytes(void) { return below(8) == 0 ? below(1ull << below(32)) : below(2000); }
 
 /* One word a statement, for a compiler may take a call's words in any order. */
 static void call(tlsf_heap *heap)
@@ -106,7 +103,8 @@ static int make(FILE *file)
     for (int number = 1; number <= HEAPS; number++) {
         tlsf_heap heap = {0};
         memset(blocks, 0, sizeof blocks);
-        if (tlsf_heap_create(RECORDS, &heap) != TLSF_OK || tlsf_heap_add_pool(&heap, 0, 1u << (15 + number)) != TLSF_OK) {
+        if (tlsf_heap_create(RECORDS, &heap) != TLSF_OK
+            || tlsf_heap_add_pool(&heap, 0, 1u << (15 + number)) != TLSF_OK) {
             return 1;
         }
         uint64_t bytes = run(&heap, number, (uint64_t)number);
@@ -122,7 +120,8 @@ static int load(FILE *file)
 {
     for (int number = 1; number <= HEAPS; number++) {
         tlsf_heap heap = {0};
-        if (fread(image, 1, IMAGE, file) != IMAGE || tlsf_heap_load(image, IMAGE, &heap) != TLSF_OK) {
+        if (fread(image, 1, IMAGE, file) != IMAGE
+            || tlsf_heap_load(image, IMAGE, &heap) != TLSF_OK) {
             return 1;
         }
         memset(blocks, 0, sizeof blocks);

@@ -1,5 +1,5 @@
-/* A board's program, whose calls of the heap go to the console as a log: names that stay, readings that grow, and
- * one that is forgotten. docs/C.md, "A log from a board", runs it. */
+/* A board's program, whose calls of the heap go to the console as a log: names that stay, readings
+ * that grow, and one that is forgotten. docs/C.md, "A log from a board", runs it. */
 #include <string.h>
 
 #include "console.h"

@@ -1,12 +1,12 @@
 /* Each call of malloc's family, for a program on libtlsf_malloc.so: what it answers, errno,
  * threads, and forks while threads ask. With the word `refused` pointers that are no live block's
  * are freed, which the C library's own malloc wouldn't bear. With `served` it writes how many times
- * one byte is served, with `usable` how many bytes four blocks have. With `refused_twice` two requests
- * are refused. With `hold` it ends with blocks held; with `spoil_front` or `spoil_table` with
- * bytes changed that aren't its own. With `locks` it asks while another thread has the lock. With
- * `many` it holds 2^24 blocks, with `again` many twice, with `large` blocks above a pool. With `apart`
- * threads have heaps of their own. With `handed` threads free, resize and ask about each other's blocks,
- * now and then. With `alone` there are no threads and no forks. */
+ * one byte is served, with `usable` how many bytes four blocks have. With `refused_twice` two
+ * requests are refused. With `hold` it ends with blocks held; with `spoil_front` or `spoil_table`
+ * with bytes changed that aren't its own. With `locks` it asks while another thread has the lock.
+ * With `many` it holds 2^24 blocks, with `again` many twice, with `large` blocks above a pool. With
+ * `apart` threads have heaps of their own. With `handed` threads free, resize and ask about each
+ * other's blocks, now and then. With `alone` there are no threads and no forks. */
 #define _GNU_SOURCE
 #include <errno.h>
 #include <malloc.h>
@@ -37,7 +37,8 @@ static bool is_at(const void *address, size_t align)
 }
 
 /* More than any block has; the compiler isn't to know. */
-/* After so many seconds a program is ended that waits for ever. QEMU is slow where threads contend. */
+/* After so many seconds a program is ended that waits for ever. QEMU is slow where threads
+ * contend. */
 #ifdef __aarch64__
 enum { SECONDS = 480 };
 #else
@@ -48,7 +49,8 @@ static volatile size_t huge = (size_t)1 << 40, half = (size_t)1 << 63, zero = 0;
 static void plain(void)
 {
     unsigned char *none = malloc(zero), *other = malloc(zero);
-    expect(none != NULL && other != NULL && none != other, "malloc of no bytes: an address of its own");
+    expect(none != NULL && other != NULL && none != other,
+           "malloc of no bytes: an address of its own");
     free(none);
     free(other);
     free(NULL);
@@ -69,7 +71,8 @@ static void plain(void)
     expect(zeros != NULL && holds(zeros, 3000, 0), "calloc: zeros, where bytes were");
     free(zeros);
     errno = 0;
-    expect(calloc(half, 4) == NULL && errno == ENOMEM, "calloc of a product that is too much: ENOMEM");
+    expect(calloc(half, 4) == NULL && errno == ENOMEM,
+           "calloc of a product that is too much: ENOMEM");
     errno = 0;
     expect(calloc(huge, 1) == NULL && errno == ENOMEM, "calloc of too much: ENOMEM");
     bool overflows = true;
@@ -147,13 +150,17 @@ static void moves(void)
     memset(block, 7, room);
     unsigned char *behind = malloc(1);
     unsigned char *volatile more = realloc(block, 5000);
-    expect(more != NULL && more != block && holds(more, room, 7), "realloc that moves: all bytes that there was room for");
+    expect(more != NULL && more != block && holds(more, room, 7),
+           "realloc that moves: all bytes that there was room for");
     errno = 0;
-    expect(realloc(more, huge) == NULL && errno == ENOMEM && holds(more, room, 7), "realloc of too much: ENOMEM, and the block stays");
+    expect(realloc(more, huge) == NULL && errno == ENOMEM && holds(more, room, 7),
+           "realloc of too much: ENOMEM, and the block stays");
     errno = 0;
-    expect(reallocarray(more, half, 4) == NULL && errno == ENOMEM && holds(more, room, 7), "reallocarray of a product that is too much: ENOMEM, and the block stays");
+    expect(reallocarray(more, half, 4) == NULL && errno == ENOMEM && holds(more, room, 7),
+           "reallocarray of a product that is too much: ENOMEM, and the block stays");
     unsigned char *array = reallocarray(more, 100, 100);
-    expect(array != NULL && malloc_usable_size(array) >= 10000 && holds(array, room, 7), "reallocarray");
+    expect(array != NULL && malloc_usable_size(array) >= 10000 && holds(array, room, 7),
+           "reallocarray");
     unsigned char *less = realloc(array, 5);
     expect(less != NULL && holds(less, 5, 7), "realloc to fewer bytes");
     expect(realloc(less, zero) == NULL, "realloc to no bytes: a free");
@@ -198,8 +205,11 @@ static void aligned(void)
     expect(allocs, "aligned_alloc at each power of two up to 2^24");
     expect(posix, "posix_memalign at each power of two up to 2^24");
     void *out = &out;
-    expect(posix_memalign(&out, 24, 10) == EINVAL && posix_memalign(&out, 4, 10) == EINVAL && posix_memalign(&out, zero, 10) == EINVAL, "posix_memalign at no power of two, or a small one: EINVAL");
-    expect(posix_memalign(&out, 64, huge) == ENOMEM && out == &out, "posix_memalign of too much: ENOMEM, and out stays");
+    expect(posix_memalign(&out, 24, 10) == EINVAL && posix_memalign(&out, 4, 10) == EINVAL
+               && posix_memalign(&out, zero, 10) == EINVAL,
+           "posix_memalign at no power of two, or a small one: EINVAL");
+    expect(posix_memalign(&out, 64, huge) == ENOMEM && out == &out,
+           "posix_memalign of too much: ENOMEM, and out stays");
     errno = 0;
     expect(memalign(64, huge) == NULL && errno == ENOMEM, "memalign of too much: ENOMEM");
     errno = 0;
@@ -207,7 +217,8 @@ static void aligned(void)
     errno = 0;
     expect(pvalloc(huge) == NULL && errno == ENOMEM, "pvalloc of too much: ENOMEM");
     void *page = valloc(10), *pages = pvalloc(10);
-    expect(is_at(page, 4096) && is_at(pages, 4096) && malloc_usable_size(pages) >= 4096, "valloc and pvalloc");
+    expect(is_at(page, 4096) && is_at(pages, 4096) && malloc_usable_size(pages) >= 4096,
+           "valloc and pvalloc");
     free(page);
     free(pages);
     page = valloc(5000);
@@ -303,7 +314,8 @@ static void locks(void)
     }
     sized = NULL;
     pthread_join(thread, &answer);
-    expect(child > 0 && waitpid(child, &status, 0) == child && status == 0 && answer == block, "malloc_usable_size in a thread while another forks");
+    expect(child > 0 && waitpid(child, &status, 0) == child && status == 0 && answer == block,
+           "malloc_usable_size in a thread while another forks");
     expect(!is_early, "it waits at the lock");
     free(block);
 }
@@ -350,7 +362,8 @@ static void forks(void)
         pthread_join(threads[k], &answer);
         served = served && answer != NULL;
     }
-    expect(good, "a hundred children of a process whose threads ask are served, and children of theirs");
+    expect(good,
+           "a hundred children of a process whose threads ask are served, and children of theirs");
     expect(served, "each thread's bytes stay its own");
 }
 
@@ -374,11 +387,16 @@ static void refused(void)
         free(unmapped);
     }
     void *volatile nowhere = (void *)16;
-    bool none = malloc_usable_size(nowhere) == 0 && malloc_usable_size(inside) == 0 && malloc_usable_size(stale) == 0;
-    expect(none, "malloc_usable_size of what is no live block's: 0, and nothing is read where no memory is");
-    expect(realloc(foreign, 10) == NULL && malloc_usable_size(foreign) == 0, "realloc of another's address: a null pointer");
+    bool none = malloc_usable_size(nowhere) == 0 && malloc_usable_size(inside) == 0
+                && malloc_usable_size(stale) == 0;
+    expect(
+        none,
+        "malloc_usable_size of what is no live block's: 0, and nothing is read where no memory is");
+    expect(realloc(foreign, 10) == NULL && malloc_usable_size(foreign) == 0,
+           "realloc of another's address: a null pointer");
     unsigned char *third = malloc(100);
-    expect(third != one && third != other && holds(one, 100, 1) && holds(other, 100, 2), "a second free, and one of an address that was never given, change nothing");
+    expect(third != one && third != other && holds(one, 100, 1) && holds(other, 100, 2),
+           "a second free, and one of an address that was never given, change nothing");
     free(one);
     free(other);
     free(third);
@@ -465,12 +483,14 @@ static bool hand_over(unsigned turn)
 {
     size_t bytes = 16 + turn % 200, had = 0;
     unsigned char *block = filled(malloc(bytes + 1), bytes);
-    unsigned char *other = __atomic_exchange_n(&handed_over[turn % HANDED], block, __ATOMIC_ACQ_REL);
+    unsigned char *other =
+        __atomic_exchange_n(&handed_over[turn % HANDED], block, __ATOMIC_ACQ_REL);
     if (other == NULL) {
         return block != NULL;
     }
     had = *other;
-    bool good = block != NULL && malloc_usable_size(other) > had && holds(other, had, (unsigned char)had);
+    bool good =
+        block != NULL && malloc_usable_size(other) > had && holds(other, had, (unsigned char)had);
     if (turn % 3 == 0) {
         other = realloc(other, 3 * had);
         good = good && other != NULL && holds(other, had, (unsigned char)had);
@@ -515,7 +535,8 @@ static void handed(void)
     for (unsigned k = 0; k < HANDED; k++) {
         free(handed_over[k]);
     }
-    expect(good, "threads free, resize and ask about each other's blocks, and each keeps its bytes");
+    expect(good,
+           "threads free, resize and ask about each other's blocks, and each keeps its bytes");
 }
 
 static unsigned served(size_t bytes)
@@ -530,10 +551,13 @@ static unsigned served(size_t bytes)
 /* The bytes of three blocks, and of one that begins behind the start of its part's block. */
 static void usable(void)
 {
-    void *plain = malloc(1), *more = malloc(65), *most = malloc(1000), *aligned = memalign(512, 100);
+    void *plain = malloc(1), *more = malloc(65), *most = malloc(1000),
+         *aligned = memalign(512, 100);
     size_t step = (512 - (uintptr_t)aligned % 512) % 512;
-    printf("%zu %zu %zu %zu\n", malloc_usable_size(plain), malloc_usable_size(more), malloc_usable_size(most), step);
-    printf("%d\n", malloc_usable_size(aligned) >= 100 && malloc_usable_size(aligned) <= malloc_usable_size(most));
+    printf("%zu %zu %zu %zu\n", malloc_usable_size(plain), malloc_usable_size(more),
+           malloc_usable_size(most), step);
+    printf("%d\n", malloc_usable_size(aligned) >= 100
+                       && malloc_usable_size(aligned) <= malloc_usable_size(most));
 }
 
 /* Blocks that each keep their number, in a list that doesn't come from the malloc. */
@@ -592,7 +616,8 @@ static void again(void)
         good = frees(FEWER, 3) && asks_for(FEWER, 3);
     }
     long later = resident();
-    expect(good && later - held < (held - before) / 4, "a third of 2^20 blocks is freed and asked for three times, in the same memory");
+    expect(good && later - held < (held - before) / 4,
+           "a third of 2^20 blocks is freed and asked for three times, in the same memory");
     unsigned *moved = realloc(list[5], 3000);
     expect(moved != NULL && *moved == 5, "a block of a full heap moves to another");
     list[5] = moved;
@@ -613,18 +638,22 @@ static void large(void)
 {
     enum { BYTES = 600000000, FAR = 2000000000 };
     unsigned char *one = calloc(1, BYTES), *other = memalign(1 << 24, BYTES), *small = malloc(5);
-    expect(is_at(one, 16) && is_at(other, 1 << 24) && holds(one, 1000, 0) && malloc_usable_size(one) >= BYTES, "blocks of 600,000,000 bytes are served");
+    expect(is_at(one, 16) && is_at(other, 1 << 24) && holds(one, 1000, 0)
+               && malloc_usable_size(one) >= BYTES,
+           "blocks of 600,000,000 bytes are served");
     memset(one, 1, 1000);
     one[BYTES - 1] = 2;
     other[BYTES - 1] = 3;
     unsigned char *more = realloc(one, FAR);
     more[FAR - 1] = 4;
-    expect(holds(more, 1000, 1) && more[BYTES - 1] == 2 && other[BYTES - 1] == 3, "one grows to 2,000,000,000, with its bytes");
+    expect(holds(more, 1000, 1) && more[BYTES - 1] == 2 && other[BYTES - 1] == 3,
+           "one grows to 2,000,000,000, with its bytes");
     unsigned char *volatile inside = more + 4096;
     free(inside);
     unsigned char *less = realloc(more, 700000000);
     unsigned char *least = realloc(less, 100);
-    expect(holds(least, 100, 1) && malloc_usable_size(inside) == 0, "it shrinks again, and a pointer into it is refused");
+    expect(holds(least, 100, 1) && malloc_usable_size(inside) == 0,
+           "it shrinks again, and a pointer into it is refused");
     free(other);
     void *volatile stale = other;
     free(stale);
@@ -642,7 +671,9 @@ static void large(void)
 int main(int count, char **words)
 {
     alarm(SECONDS);
-    if (count > 1 && (strcmp(words[1], "many") == 0 || strcmp(words[1], "again") == 0 || strcmp(words[1], "large") == 0)) {
+    if (count > 1
+        && (strcmp(words[1], "many") == 0 || strcmp(words[1], "again") == 0
+            || strcmp(words[1], "large") == 0)) {
         *words[1] == 'm' ? many() : *words[1] == 'a' ? again() : large();
         return cases_end();
     }

@@ -1,6 +1,6 @@
-/* A checksum over all that a heap answers to random calls, the same on each processor. Between the calls
- * the heap is read, saved, loaded again, and an image with a changed bit is tried. The last line is
- * `CALLS calls, LIVE live, CHECKSUM`. All memory is the program's own. */
+/* A checksum over all that a heap answers to random calls, the same on each processor. Between the
+ * calls the heap is read, saved, loaded again, and an image with a changed bit is tried. The last
+ * line is `CALLS calls, LIVE live, CHECKSUM`. All memory is the program's own. */
 #include <inttypes.h>
 #include <stdio.h>
 
@@ -31,10 +31,7 @@ static uint32_t below(uint32_t bound)
     return (uint32_t)(state >> 33) % bound;
 }
 
-static void add(uint64_t value)
-{
-    sum = (sum ^ value) * 0x100000001b3u;
-}
+static void add(uint64_t value) { sum = (sum ^ value) * 0x100000001b3u; }
 
 static void add_block(enum tlsf_status status, tlsf_heap_block block)
 {
@@ -59,7 +56,8 @@ static void add_rows(uint64_t base)
     } while (left > 16);
 }
 
-/* The heap goes on as the one that is loaded from its image. Where a bit of that is changed, the status tells. */
+/* The heap goes on as the one that is loaded from its image. Where a bit of that is changed, the
+ * status tells. */
 static void reload(void)
 {
     tlsf_heap other = {0};
@@ -72,20 +70,24 @@ static void reload(void)
     add(bytes);
     tlsf_heap_destroy(&heap);
     table = 1 - table;
-    add((uint64_t)tlsf_heap_load_in(tables[table], sizeof tables[table], image, sizeof image, &heap));
+    add((uint64_t)tlsf_heap_load_in(tables[table], sizeof tables[table], image, sizeof image,
+                                    &heap));
     uint32_t bit = below(8);
     image[below(sizeof image)] ^= (unsigned char)(1u << bit);
-    add((uint64_t)tlsf_heap_load_in(tables[1 - table], sizeof tables[1 - table], image, sizeof image, &other));
+    add((uint64_t)tlsf_heap_load_in(tables[1 - table], sizeof tables[1 - table], image,
+                                    sizeof image, &other));
     tlsf_heap_destroy(&other);
 }
 
 static void ask(void)
 {
-    uint32_t bytes = below(8) > 0 ? below(600) : below(40000), k = live > 0 ? below(live) : 0, kind = below(10), size = 0;
+    uint32_t bytes = below(8) > 0 ? below(600) : below(40000), k = live > 0 ? below(live) : 0,
+             kind = below(10), size = 0;
     tlsf_heap_block block = {0, 0};
     enum tlsf_status status = TLSF_OK;
     if (kind < 5 && live < LIVE) {
-        status = kind > 0 ? tlsf_heap_malloc(&heap, bytes, &block) : tlsf_heap_memalign(&heap, 1u << below(14), bytes, &block);
+        status = kind > 0 ? tlsf_heap_malloc(&heap, bytes, &block)
+                          : tlsf_heap_memalign(&heap, 1u << below(14), bytes, &block);
         blocks[live] = block;
         live += status == TLSF_OK;
     } else if (kind < 8 && live > 0) {
@@ -138,6 +140,7 @@ int main(void)
             reload();
         }
     }
-    printf("%d calls, %" PRIu32 " live, %08" PRIx32 "%08" PRIx32 "\n", CALLS, live, (uint32_t)(sum >> 32), (uint32_t)sum);
+    printf("%d calls, %" PRIu32 " live, %08" PRIx32 "%08" PRIx32 "\n", CALLS, live,
+           (uint32_t)(sum >> 32), (uint32_t)sum);
     return 0;
 }

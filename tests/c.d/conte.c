@@ -91,10 +91,7 @@ static void erase(struct heap *heap, size_t at)
     memmove(&heap->blocks[at], &heap->blocks[at + 1], (heap->count - at) * sizeof heap->blocks[0]);
 }
 
-static unsigned char *pointer_of(const struct block *block)
-{
-    return block->start + FRONT;
-}
+static unsigned char *pointer_of(const struct block *block) { return block->start + FRONT; }
 
 static void fill(struct block *block)
 {
@@ -113,10 +110,7 @@ static bool is_filled(const unsigned char *bytes, size_t length, unsigned char s
     return true;
 }
 
-static size_t least(size_t one, size_t other)
-{
-    return one < other ? one : other;
-}
+static size_t least(size_t one, size_t other) { return one < other ? one : other; }
 
 static size_t rounded(size_t bytes)
 {
@@ -223,8 +217,8 @@ static bool takes(struct heap *heap, unsigned char *given, size_t m, size_t alig
         if (given > block->start && given < block->start + block->size) {
             unsigned char *start = given - FRONT;
             size_t more = rests(block, align, m);
-            if (m == 0 || !is_of(block, class) || block->size < m
-                || start != start_in(block, align) || heap->count + more > heap->records) {
+            if (m == 0 || !is_of(block, class) || block->size < m || start != start_in(block, align)
+                || heap->count + more > heap->records) {
                 return false;
             }
             size_t at = k + (start > block->start);
@@ -333,8 +327,8 @@ static struct sums sums_of(const struct heap *heap)
     return sums;
 }
 
-/* The figures are the model's. A realloc that moves holds both blocks for a while, but tells that of
- * neither: so the most is that between calls. */
+/* The figures are the model's. A realloc that moves holds both blocks for a while, but tells that
+ * of neither: so the most is that between calls. */
 static bool figures_agree(struct heap *heap)
 {
     tlsf_figures told;
@@ -379,11 +373,12 @@ static bool ask_for_block(struct heap *heap)
            align = below(3) == 0 ? (size_t)1 << below(13) : 16;
     bool bad = below(40) == 0;
     if (bad) {
-        align = below(2) == 0 ? 3 * ((size_t)1 << below(20)) : (size_t)1 << (22 + below(8 * sizeof(size_t) - 22));
+        align = below(2) == 0 ? 3 * ((size_t)1 << below(20))
+                              : (size_t)1 << (22 + below(8 * sizeof(size_t) - 22));
     }
-    unsigned char *given = (unsigned char *)(align == 16 && below(2) == 0
-                                                 ? tlsf_malloc(heap->tlsf, bytes)
-                                                 : tlsf_memalign(heap->tlsf, align, bytes));
+    unsigned char *given =
+        (unsigned char *)(align == 16 && below(2) == 0 ? tlsf_malloc(heap->tlsf, bytes)
+                                                       : tlsf_memalign(heap->tlsf, align, bytes));
     align = align < 16 ? 16 : align;
     if (given == NULL) {
         refused++;
@@ -439,8 +434,8 @@ static bool stays(struct heap *heap, size_t at, size_t m, bool has_next)
         erase(heap, at + 1);
     }
     split(heap, at, block->start, m);
-    bool good = tlsf_block_size(given) == m - FRONT
-                && is_filled(given, least(had, m) - FRONT, seed);
+    bool good =
+        tlsf_block_size(given) == m - FRONT && is_filled(given, least(had, m) - FRONT, seed);
     fill(&heap->blocks[at]);
     return good;
 }
@@ -526,8 +521,8 @@ static bool ask_with_copied_front(struct heap *heap)
     unsigned char *pointer = pointer_of(&heap->blocks[at]);
     memcpy(pointer + 8, pointer - FRONT, FRONT);
     tlsf_free(heap->tlsf, pointer + 16);
-    bool good = tlsf_realloc(heap->tlsf, pointer + 16, 20) == NULL
-                && tlsf_block_size(pointer + 16) == 0;
+    bool good =
+        tlsf_realloc(heap->tlsf, pointer + 16, 20) == NULL && tlsf_block_size(pointer + 16) == 0;
     fill(&heap->blocks[at]);
     bad_pointers++;
     heap->bad_pointers += 2;
@@ -563,8 +558,8 @@ static bool add_pool(struct heap *heap)
     size_t skip = 8 * below(40), bytes = below(8) == 0 ? below(60) : below(AREA - skip);
     skip += below(30) == 0 ? 1 + below(7) : 0;
     unsigned char *memory = areas[area] + skip, *start = areas[area] + (skip + 7) / 16 * 16 + 8;
-    size_t usable = bytes < (size_t)(start - memory) ? 0
-                                                     : (bytes - (size_t)(start - memory)) / 16 * 16;
+    size_t usable =
+        bytes < (size_t)(start - memory) ? 0 : (bytes - (size_t)(start - memory)) / 16 * 16;
     bool own = overlaps(heap, start, usable);
     if (area_taken[area] && !own) {
         return true;
@@ -572,7 +567,8 @@ static bool add_pool(struct heap *heap)
     while (k < POOLS && heap->pools[k].handle != NULL) {
         k++;
     }
-    bool right = skip % sizeof(void *) == 0 && usable >= 16 && k < POOLS && !own && heap->count < heap->records;
+    bool right = skip % sizeof(void *) == 0 && usable >= 16 && k < POOLS && !own
+                 && heap->count < heap->records;
     pool_t handle = tlsf_add_pool(heap->tlsf, memory, bytes);
     if (!right) {
         pools_refused++;

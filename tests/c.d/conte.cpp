@@ -15,12 +15,8 @@ template <class T> struct Allocator {
     using value_type = T;
     tlsf_t heap;
 
-    explicit Allocator(tlsf_t heap) : heap(heap)
-    {
-    }
-    template <class U> Allocator(const Allocator<U> &other) : heap(other.heap)
-    {
-    }
+    explicit Allocator(tlsf_t heap) : heap(heap) {}
+    template <class U> Allocator(const Allocator<U> &other) : heap(other.heap) {}
 
     T *allocate(std::size_t count)
     {
@@ -33,10 +29,7 @@ template <class T> struct Allocator {
         return static_cast<T *>(block);
     }
 
-    void deallocate(T *block, std::size_t)
-    {
-        tlsf_free(heap, block);
-    }
+    void deallocate(T *block, std::size_t) { tlsf_free(heap, block); }
 
     template <class U> bool operator==(const Allocator<U> &other) const
     {

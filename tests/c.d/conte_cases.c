@@ -100,7 +100,8 @@ static void creates(void)
     expect(tlsf != NULL && tlsf_get_pool(tlsf) == NULL
                && tlsf_create_records(memory, control_bytes(1) - 9, 1) == NULL,
            "one record, and no byte for a pool");
-    expect(tlsf_size_records(1) == control_bytes(1) && tlsf_size_records(RECORDS) == tlsf_size() - MOST_SKIPPED
+    expect(tlsf_size_records(1) == control_bytes(1)
+               && tlsf_size_records(RECORDS) == tlsf_size() - MOST_SKIPPED
                && tlsf_create_records(memory + 8, tlsf_size_records(1), 1) != NULL
                && tlsf_get_pool(memory + 8) == NULL,
            "tlsf_size_records: the bytes of a heap without a pool");
@@ -126,7 +127,8 @@ static void creates(void)
 static bool has_records(void *mem, size_t bytes, size_t records)
 {
     tlsf_t tlsf = tlsf_create_with_pool(mem, bytes);
-    while (tlsf_malloc(tlsf, 1) != NULL) {}
+    while (tlsf_malloc(tlsf, 1) != NULL) {
+    }
     struct counted counted = count(tlsf_get_pool(tlsf));
     bool good = counted.live + counted.free == records
                 && counted.bytes == (bytes - control_bytes(records)) / 16 * 16;
@@ -144,7 +146,9 @@ static void records(void)
         each = each && has_records(memory, tlsf_size_records(0) + each_bytes * k, k + 1)
                && has_records(memory, tlsf_size_records(0) + each_bytes * k - 16, k);
     }
-    expect(each, "one record, and one more for each 112 bytes, or 80, that a heap without records leaves");
+    expect(
+        each,
+        "one record, and one more for each 112 bytes, or 80, that a heap without records leaves");
     expect(has_records(large, tlsf_size_records(0) + each_bytes * 65534, 65535), "65,535 records");
     expect(has_records(large, bytes, 65535), "and no more");
     free(large);
@@ -167,14 +171,15 @@ static size_t filled(size_t bytes, size_t size, uint32_t records)
     return blocks;
 }
 
-/* Of 1,000 bytes a block takes 1,008, and a record 16. So 9,344 records leave 1 MiB room for 889, and
- * at 32 bits 13,082 for 830. 1,022 leave it for 1,021, as do 1,023 at 32 bits. */
+/* Of 1,000 bytes a block takes 1,008, and a record 16. So 9,344 records leave 1 MiB room for 889,
+ * and at 32 bits 13,082 for 830. 1,022 leave it for 1,021, as do 1,023 at 32 bits. */
 static void capacities(void)
 {
     uint32_t few = (uint32_t)(((1 << 20) - tlsf_size_records(0)) / 1024 + 1);
     expect(filled(65536, 64, 0) >= 560, "64 KiB: at least 560 blocks of 64 bytes");
     expect(filled(1 << 20, 64, 0) >= 9300, "1 MiB: at least 9,300 blocks of 64 bytes");
-    expect(filled(1 << 20, 1000, 0) == (sizeof(void *) == 8 ? 889 : 830), "1 MiB: 889 or 830 blocks of 1,000 bytes");
+    expect(filled(1 << 20, 1000, 0) == (sizeof(void *) == 8 ? 889 : 830),
+           "1 MiB: 889 or 830 blocks of 1,000 bytes");
     expect(filled(64 << 20, 16, 0) == 65534, "64 MiB: a block of 16 bytes for each record but one");
     expect(few == (sizeof(void *) == 8 ? 1022 : 1023) && filled(1 << 20, 1000, few) == 1021,
            "1 MiB, a record for each 1,024 bytes: 1,021 blocks of 1,000 bytes");
@@ -196,7 +201,8 @@ static void limits(void)
     }
     expect(fits && least,
            "tlsf_pool_overhead() more bytes are enough for a block, and eight less aren't");
-    expect(tlsf_pool_overhead() % sizeof(void *) == 0, "a pool may begin so many bytes behind another address");
+    expect(tlsf_pool_overhead() % sizeof(void *) == 0,
+           "a pool may begin so many bytes behind another address");
     tlsf_t tlsf = tlsf_create_with_pool(memory, sizeof memory);
     void *one = tlsf_malloc(tlsf, 1);
     expect(tlsf_block_size(one) == tlsf_block_size_min() && tlsf_block_size_min() == 8,
@@ -313,8 +319,8 @@ static void great_alignments(unsigned char *large)
     expect(aligned, "alignments of 2^20 and 2^21 in pools that aren't so aligned");
 }
 
-/* A pool whose first pointer is a multiple of 2^21, and one record: so the heap has its one block at
- * the place 0, in the slot 0. A request that is refused leaves it. */
+/* A pool whose first pointer is a multiple of 2^21, and one record: so the heap has its one block
+ * at the place 0, in the slot 0. A request that is refused leaves it. */
 static void first_place(unsigned char *large)
 {
     size_t two = (size_t)2 << 20;
@@ -342,7 +348,8 @@ static void side_by_side(void)
            "one that shares 32 bytes with it is refused");
     pool_t before = tlsf_add_pool(tlsf, area + 4096 - 1024, 1024),
            behind = tlsf_add_pool(tlsf, area + 4096 + 1024, 1024);
-    expect(before != NULL && behind != NULL, "one directly in front of it, and one directly behind");
+    expect(before != NULL && behind != NULL,
+           "one directly in front of it, and one directly behind");
     expect(tlsf_add_pool(tlsf, area + 8192 - 1024 + 32, 1024) == NULL
                && tlsf_add_pool(tlsf, area + 8192 + own / 16 * 16 - 32, 1024) == NULL,
            "one that shares 32 bytes with the heap itself is refused");
@@ -369,7 +376,8 @@ static bool keeps_its_memory(unsigned char *at)
     for (uintptr_t from = own - 128; from <= end + 128; from += 8) {
         uintptr_t first = (from + 7) / 16 * 16 + 8;
         bool shares = first + 64 > own && first < end;
-        pool_t pool = tlsf_add_pool(tlsf, at + (ptrdiff_t)(from - own), (size_t)(first - from) + 64);
+        pool_t pool =
+            tlsf_add_pool(tlsf, at + (ptrdiff_t)(from - own), (size_t)(first - from) + 64);
         good = good && (pool == NULL) == shares && tlsf_check(tlsf) == 0;
         tlsf_remove_pool(tlsf, pool);
     }
@@ -437,7 +445,8 @@ static void places(unsigned char *large)
            "one is gone, and another is added");
 }
 
-/* Four of the greatest pools side by side, from a multiple of 2^21 on, leave 64 of the 2^32 places. */
+/* Four of the greatest pools side by side, from a multiple of 2^21 on, leave 64 of the 2^32
+ * places. */
 static void all_places(unsigned char *large)
 {
     size_t two = (size_t)2 << 20;
@@ -484,8 +493,8 @@ static void places_between(unsigned char *large)
            "and one behind it");
 }
 
-/* Eight pools of 500 MiB, and each second one removed: four gaps of places, and some 96 MiB behind. A
- * pool that is greater than a gap finds room where two gaps have become one. */
+/* Eight pools of 500 MiB, and each second one removed: four gaps of places, and some 96 MiB behind.
+ * A pool that is greater than a gap finds room where two gaps have become one. */
 static void places_removed(unsigned char *large)
 {
     enum { MEGABYTE = 1 << 20 };
@@ -649,7 +658,8 @@ static void old_pointers(void)
     expect(tlsf_check(tlsf) == 0 && tlsf_block_size(moved) == 3000, "whole again");
 }
 
-/* Writes at a place the front that a live block would have there: its own, with the distance added. */
+/* Writes at a place the front that a live block would have there: its own, with the distance
+ * added. */
 static void forge_front(unsigned char *at, const unsigned char *live)
 {
     uint64_t front;
@@ -658,7 +668,8 @@ static void forge_front(unsigned char *at, const unsigned char *live)
     memcpy(at - 8, &front, 8);
 }
 
-/* A whole front where no block begins. tlsf_block_size gets no heap, and looks at no more than it. */
+/* A whole front where no block begins. tlsf_block_size gets no heap, and looks at no more than
+ * it. */
 static void forged_fronts(void)
 {
     tlsf_t tlsf = tlsf_create_with_pool(memory, sizeof memory),
@@ -696,12 +707,13 @@ static void other_fronts(void)
            "so is one with another slot");
     tlsf_free(tlsf, one);
     memcpy(one - 8, now, 8);
-    expect(tlsf_check(tlsf) == 0 && tlsf_live_size(tlsf, one) == 104 && tlsf_live_size(tlsf, two) == 104,
+    expect(tlsf_check(tlsf) == 0 && tlsf_live_size(tlsf, one) == 104
+               && tlsf_live_size(tlsf, two) == 104,
            "and both blocks are kept");
 }
 
-/* Each byte of a front, in each way: the check tells it, no call takes the pointer for its block, and
- * with the byte as it was all is whole. */
+/* Each byte of a front, in each way: the check tells it, no call takes the pointer for its block,
+ * and with the byte as it was all is whole. */
 static void each_byte_in_front(void)
 {
     tlsf_t tlsf = tlsf_create_with_pool(memory, sizeof memory);
@@ -720,8 +732,8 @@ static void each_byte_in_front(void)
     expect(kept && tlsf_block_size(one) == 40, "and the block is kept");
 }
 
-/* A size and a slot take 42 bits of a front before it is scrambled. A bit above them, in each place:
- * no call takes the pointer for its block. */
+/* A size and a slot take 42 bits of a front before it is scrambled. A bit above them, in each
+ * place: no call takes the pointer for its block. */
 static void each_bit_too_many(void)
 {
     tlsf_t tlsf = tlsf_create_with_pool(memory, sizeof memory);
@@ -787,8 +799,8 @@ static void tell(enum tlsf_refusal what, const void *ptr, size_t bytes, void *us
 static bool was_told(struct told *told, size_t calls, enum tlsf_refusal what, const void *ptr,
                      size_t bytes)
 {
-    bool good = told->calls == calls && told->what == what && told->ptr == ptr
-                && told->bytes == bytes;
+    bool good =
+        told->calls == calls && told->what == what && told->ptr == ptr && told->bytes == bytes;
     told->calls = 0;
     return good;
 }
@@ -815,7 +827,8 @@ static void refused_requests(void)
            && was_told(&told, 1, TLSF_REFUSED_NO_FIT, one, 40000)
            && tlsf_realloc(tlsf, one, SIZE_MAX) == NULL
            && was_told(&told, 1, TLSF_REFUSED_NO_FIT, one, SIZE_MAX);
-    expect(good && refused(tlsf, TLSF_REFUSED_NO_FIT) == 5, "requests without room are told: no fit");
+    expect(good && refused(tlsf, TLSF_REFUSED_NO_FIT) == 5,
+           "requests without room are told: no fit");
     good = tlsf_malloc(tlsf, 100) == NULL && was_told(&told, 1, TLSF_REFUSED_TABLE_FULL, NULL, 100)
            && tlsf_memalign(tlsf, 64, 100) == NULL
            && was_told(&told, 1, TLSF_REFUSED_TABLE_FULL, NULL, 100)
@@ -823,11 +836,12 @@ static void refused_requests(void)
            && was_told(&told, 1, TLSF_REFUSED_TABLE_FULL, NULL, 100);
     expect(good && refused(tlsf, TLSF_REFUSED_TABLE_FULL) == 3,
            "requests without a record are told: table full");
-    good = tlsf_memalign(tlsf, 48, 1) == NULL && was_told(&told, 1, TLSF_REFUSED_ALIGNMENT, NULL, 1)
-           && tlsf_memalign(tlsf, 3, 2) == NULL && was_told(&told, 1, TLSF_REFUSED_ALIGNMENT, NULL, 2)
-           && tlsf_memalign(tlsf, 1 << 22, 1) == NULL
-           && was_told(&told, 1, TLSF_REFUSED_ALIGNMENT, NULL, 1) && tlsf_memalign(tlsf, 0, 5) == NULL
-           && was_told(&told, 1, TLSF_REFUSED_ALIGNMENT, NULL, 5);
+    good =
+        tlsf_memalign(tlsf, 48, 1) == NULL && was_told(&told, 1, TLSF_REFUSED_ALIGNMENT, NULL, 1)
+        && tlsf_memalign(tlsf, 3, 2) == NULL && was_told(&told, 1, TLSF_REFUSED_ALIGNMENT, NULL, 2)
+        && tlsf_memalign(tlsf, 1 << 22, 1) == NULL
+        && was_told(&told, 1, TLSF_REFUSED_ALIGNMENT, NULL, 1) && tlsf_memalign(tlsf, 0, 5) == NULL
+        && was_told(&told, 1, TLSF_REFUSED_ALIGNMENT, NULL, 5);
     expect(good && refused(tlsf, TLSF_REFUSED_ALIGNMENT) == 4, "alignments are told");
     tlsf_free(tlsf, NULL);
     good = tlsf_malloc(tlsf, 0) == NULL && tlsf_memalign(tlsf, 48, 0) == NULL
@@ -859,8 +873,8 @@ static void refused_once(void)
     tlsf = tlsf_create_records(memory, control_bytes(1), 1);
     tlsf_add_pool(tlsf, other_memory, 2096 + 16);
     tlsf_set_refusal_hook(tlsf, tell, &told);
-    good = tlsf_malloc(tlsf, 2072) == NULL
-           && was_told(&told, 1, TLSF_REFUSED_TABLE_FULL, NULL, 2072);
+    good =
+        tlsf_malloc(tlsf, 2072) == NULL && was_told(&told, 1, TLSF_REFUSED_TABLE_FULL, NULL, 2072);
     expect(good && refused(tlsf, TLSF_REFUSED_TABLE_FULL) == 1
                && refused(tlsf, TLSF_REFUSED_NO_FIT) == 0,
            "a block of the class below, without a record for its rest, is told: table full");
@@ -939,9 +953,9 @@ static void figures(void)
            "of two blocks and a free one");
     tlsf_free(tlsf, one);
     two = tlsf_realloc(tlsf, two, 500);
-    good = tlsf_stats(tlsf, &figures) == 0 && figures.bytes_live == 504
-           && figures.blocks_live == 1 && figures.records_used == 3
-           && figures.bytes_free == 4096 - 512 && figures.most_bytes_live == 1104;
+    good = tlsf_stats(tlsf, &figures) == 0 && figures.bytes_live == 504 && figures.blocks_live == 1
+           && figures.records_used == 3 && figures.bytes_free == 4096 - 512
+           && figures.most_bytes_live == 1104;
     expect(good && two != NULL, "a block that is free, and one that shrinks");
     two = tlsf_realloc(tlsf, two, 3000);
     good = tlsf_stats(tlsf, &figures) == 0 && figures.bytes_live == 3000
@@ -949,7 +963,8 @@ static void figures(void)
     expect(good && two != NULL, "and one that grows");
 }
 
-/* A control part that has forgotten its pools: no call looks for a block's pool behind the eight. */
+/* A control part that has forgotten its pools: no call looks for a block's pool behind the
+ * eight. */
 static void forgotten_pools(void)
 {
     enum { AT = 8 + 8, BYTES = 8 * 32 };
@@ -979,7 +994,8 @@ static void each_byte_of_control(tlsf_t tlsf, const pool_t pools[3])
         *at ^= change;
     }
     expect(told == changes, "each byte of the control part, changed to each other value, is told");
-    expect(of_pool[0] == changes && of_pool[1] == changes && of_pool[2] == changes, "and by the check of a pool");
+    expect(of_pool[0] == changes && of_pool[1] == changes && of_pool[2] == changes,
+           "and by the check of a pool");
 }
 
 /* Pieces of the control part are overwritten, or copied over others. */
@@ -1004,8 +1020,9 @@ static void pieces_of_control(tlsf_t tlsf)
     expect(told, "pieces of it that are overwritten or copied are told");
 }
 
-/* Each byte of the table in turn, with each of its bits: where it leads to its records they are told, and
- * no other leads the check astray. The records lie between two pieces of 16 bytes, and the rest is behind. */
+/* Each byte of the table in turn, with each of its bits: where it leads to its records they are
+ * told, and no other leads the check astray. The records lie between two pieces of 16 bytes, and
+ * the rest is behind. */
 static void each_byte_of_table(void)
 {
     enum { RECORDS = 40 };
@@ -1014,7 +1031,8 @@ static void each_byte_of_table(void)
     void *one = tlsf_malloc(tlsf, 100);
     size_t leads = control_part() + 16 + 16 * RECORDS + 16, told = 0, wanted = 0;
     for (size_t at = control_part(); at < tlsf_size_records(RECORDS); at++) {
-        bool is = (at >= leads && at < leads + sizeof(void *)) || (at >= leads + 8 && at < leads + 16);
+        bool is =
+            (at >= leads && at < leads + sizeof(void *)) || (at >= leads + 8 && at < leads + 16);
         for (int way = 0; way < 8; way++) {
             memory[at] ^= 1u << way;
             bool tells = tlsf_check(tlsf) < 0;
@@ -1024,11 +1042,13 @@ static void each_byte_of_table(void)
             memory[at] ^= 1u << way;
         }
     }
-    expect(one != NULL && told == wanted && wanted == 8 * (8 + sizeof(void *)) && tlsf_check(tlsf) == 0,
+    expect(one != NULL && told == wanted && wanted == 8 * (8 + sizeof(void *))
+               && tlsf_check(tlsf) == 0,
            "a table that leads elsewhere than to its records is told");
 }
 
-/* An entry behind the eight, which says that it is the hundredth: its last four bytes are its number. */
+/* An entry behind the eight, which says that it is the hundredth: its last four bytes are its
+ * number. */
 static void ninth_pool(void)
 {
     uint32_t number = 100;
@@ -1079,7 +1099,8 @@ static void spoiled_control(void)
     for (int k = 0; k < 3; k++) {
         pools[k] = tlsf_add_pool(tlsf, other_memory + 4096 * k + 8 * k, 2048);
     }
-    void *one = tlsf_malloc(tlsf, 1500), *two = tlsf_malloc(tlsf, 1600), *three = tlsf_malloc(tlsf, 100);
+    void *one = tlsf_malloc(tlsf, 1500), *two = tlsf_malloc(tlsf, 1600),
+         *three = tlsf_malloc(tlsf, 100);
     tlsf_set_refusal_hook(tlsf, tell, &told);
     tlsf_free(tlsf, one);
     tlsf_free(tlsf, one);
@@ -1136,8 +1157,8 @@ static void walks_that_end(void)
         }
         struct ending ending = {tlsf, tlsf_get_pool(tlsf), 0, whole ? 3 : 101, whole, NULL, true};
         tlsf_walk_pool(ending.pool, end_all, &ending);
-        expect(ending.calls == (whole ? 64 : 101) && ending.in_order
-                   && tlsf_get_pool(tlsf) == NULL && has(ending.pool, 0, 0),
+        expect(ending.calls == (whole ? 64 : 101) && ending.in_order && tlsf_get_pool(tlsf) == NULL
+                   && has(ending.pool, 0, 0),
                whole ? "a walker may end the heap" : "a walker may end the pool");
     }
 }
@@ -1164,7 +1185,8 @@ static void walks_that_grow(void)
     expect(ending.calls == 74 && tlsf_check(tlsf) == 0, "a walker may allocate");
 }
 
-/* No call takes this for a heap, or its entry for a pool: it is a copy of a heap that has a block. */
+/* No call takes this for a heap, or its entry for a pool: it is a copy of a heap that has a
+ * block. */
 static bool is_none(unsigned char *copy, tlsf_t heap, void *one)
 {
     size_t bytes = tlsf_size_records(8);
@@ -1187,7 +1209,8 @@ static bool is_none(unsigned char *copy, tlsf_t heap, void *one)
            && tlsf_check(heap) == 0;
 }
 
-/* Copies near and far, up to 4 GiB behind the heap. A near one lies over the heap, which has moved. */
+/* Copies near and far, up to 4 GiB behind the heap. A near one lies over the heap, which has
+ * moved. */
 static void copies(unsigned char *large)
 {
     static const size_t near[] = {8, 16, 32, 64, 224, 256, 400};
@@ -1226,7 +1249,8 @@ static void walks_that_shrink(void)
     }
     struct ending ending = {tlsf, NULL, 0, 64, false, NULL, true};
     tlsf_walk_pool(tlsf_get_pool(tlsf), shrink_last, &ending);
-    expect(ending.calls == 101 && has(tlsf_get_pool(tlsf), 100, 2), "a walker may make a block smaller");
+    expect(ending.calls == 101 && has(tlsf_get_pool(tlsf), 100, 2),
+           "a walker may make a block smaller");
 }
 
 static void ends(void)

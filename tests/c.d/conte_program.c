@@ -44,7 +44,7 @@ static const struct {
     size_t (*size)(void *);
     pool_t (*pool)(tlsf_t);
     int (*check)(tlsf_t);
-} calls = {tlsf_malloc, tlsf_memalign, tlsf_realloc, tlsf_free,
+} calls = {tlsf_malloc,     tlsf_memalign, tlsf_realloc, tlsf_free,
            tlsf_block_size, tlsf_get_pool, tlsf_check};
 
 int main(void)

@@ -1,6 +1,6 @@
-/* Heaps of each number of records, 1 to 65,535. Each is created. Each of at most 4,096 records, and each 61st above, is
- * also saved and loaded. No call is refused memory that is there. On processors other than x86-64 fewer are created: those
- * that are saved. */
+/* Heaps of each number of records, 1 to 65,535. Each is created. Each of at most 4,096 records, and
+ * each 61st above, is also saved and loaded. No call is refused memory that is there. On processors
+ * other than x86-64 fewer are created: those that are saved. */
 #include <stdlib.h>
 
 #include "cases.h"
@@ -11,10 +11,7 @@ enum { MOST = 65535, ALL = 4096, STEP = 61 };
 static unsigned char image[TLSF_HEAP_IMAGE_BYTES(MOST)];
 
 /* Whether a heap of so many records is saved too. */
-static bool is_saved(uint32_t records)
-{
-    return records <= ALL || records % STEP == 0;
-}
+static bool is_saved(uint32_t records) { return records <= ALL || records % STEP == 0; }
 
 /* Whether a heap of so many records is made. */
 static bool is_made(uint32_t records)

@@ -1,4 +1,5 @@
-/* The example of docs/C.md: a heap over an array, with its table in another, and what it refuses. */
+/* The example of docs/C.md: a heap over an array, with its table in another, and what it
+ * refuses. */
 #include <stdio.h>
 
 #include "tlsf_heap.h"

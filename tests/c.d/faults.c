@@ -1,11 +1,23 @@
-/* What tlsf_check_at and tlsf_load_at tell: of each bit that is changed in the heap's start, in its table and in front of its
- * blocks, which block is wrong, and in what way. The records are read here by docs/FORMATS.md; the blocks are those of a walk. */
+/* What tlsf_check_at and tlsf_load_at tell: of each bit that is changed in the heap's start, in its
+ * table and in front of its blocks, which block is wrong, and in what way. The records are read
+ * here by docs/FORMATS.md; the blocks are those of a walk. */
 #include <string.h>
 
 #include "cases.h"
 #include "tlsf.h"
 
-enum { RECORDS = 48, POOLS = 3, POOL = 2048, BLOCKS = 16, RECORD = 16, WALKED = 64, FRONT = 8, VACANT = 0, FREE = 1, LIVE = 2 };
+enum {
+    RECORDS = 48,
+    POOLS = 3,
+    POOL = 2048,
+    BLOCKS = 16,
+    RECORD = 16,
+    WALKED = 64,
+    FRONT = 8,
+    VACANT = 0,
+    FREE = 1,
+    LIVE = 2
+};
 
 static _Alignas(16) unsigned char memory[4096], areas[POOLS][POOL + 64];
 static tlsf_t heap;
@@ -60,7 +72,8 @@ static void make(void)
     walk();
 }
 
-/* Where the heap's parts lie in its memory: its start, the records behind 16 bytes, and the table's head behind 16 more. */
+/* Where the heap's parts lie in its memory: its start, the records behind 16 bytes, and the table's
+ * head behind 16 more. */
 static size_t start_bytes(void) { return tlsf_size_records(0) - 8 - 1696; }
 static unsigned char *records(void) { return memory + start_bytes() + 16; }
 
@@ -90,7 +103,8 @@ static const struct walked *block_of(const unsigned char *record)
 static bool names(const tlsf_fault *fault, const struct walked *block)
 {
     return fault->block == block->at && fault->pool == block->pool
-           && fault->offset == (size_t)(block->at - areas[block->pool]) - 2 * FRONT && fault->text != NULL;
+           && fault->offset == (size_t)(block->at - areas[block->pool]) - 2 * FRONT
+           && fault->text != NULL;
 }
 
 static bool names_none(const tlsf_fault *fault, enum tlsf_fault_kind what)
@@ -111,8 +125,8 @@ static tlsf_fault told(unsigned char *at, int bit, bool *is_wrong)
     return fault;
 }
 
-/* Each bit of a block's record: its place, size, state and neighbours name that block. The links of a free block's list name a
- * free block; those of a live one mean nothing. */
+/* Each bit of a block's record: its place, size, state and neighbours name that block. The links of
+ * a free block's list name a free block; those of a live one mean nothing. */
 static bool is_told_of(unsigned char *record)
 {
     const struct walked *block = block_of(record);
@@ -123,7 +137,8 @@ static bool is_told_of(unsigned char *record)
             if (at < 12) {
                 bool is_link = at >= 8;
                 good = wrong && names(&fault, block)
-                       && (fault.what == TLSF_FAULT_RECORD || (is_link && fault.what == TLSF_FAULT_CHAIN));
+                       && (fault.what == TLSF_FAULT_RECORD
+                           || (is_link && fault.what == TLSF_FAULT_CHAIN));
             } else if (state_of(record) == FREE) {
                 good = wrong && fault.what == TLSF_FAULT_LIST && fault.block != NULL;
             } else {
@@ -157,13 +172,16 @@ static void records_and_head(void)
         vacant += state_of(record) == VACANT;
         good += state_of(record) == VACANT ? is_told_of_table(record, RECORD) : is_told_of(record);
     }
-    expect(free_blocks >= 4 && live >= 8 && vacant >= 8 && free_blocks + live == count, "live, free and vacant records");
+    expect(free_blocks >= 4 && live >= 8 && vacant >= 8 && free_blocks + live == count,
+           "live, free and vacant records");
     expect(good == RECORDS, "each bit of each record is told of its block");
-    expect(is_told_of_table(records() + RECORD * RECORDS + 16, 1664), "each bit of the table's head is told of the table");
+    expect(is_told_of_table(records() + RECORD * RECORDS + 16, 1664),
+           "each bit of the table's head is told of the table");
     expect(tlsf_check(heap) == 0, "and all is whole again");
 }
 
-/* The heap's start: its first 8 bytes, what is summed up, and the figures of live blocks, which aren't. */
+/* The heap's start: its first 8 bytes, what is summed up, and the figures of live blocks, which
+ * aren't. */
 static void start(void)
 {
     size_t none = 0, control = 0, figures = 0, others = 0;
@@ -177,11 +195,14 @@ static void start(void)
             others += !wrong;
         }
     }
-    expect(none == 8 * 8 && figures == 8 * 24 && control == 8 * (start_bytes() - 32) && others == 0,
-           "each bit of the heap's start is told: a heap that isn't there, its figures, and the rest");
+    expect(
+        none == 8 * 8 && figures == 8 * 24 && control == 8 * (start_bytes() - 32) && others == 0,
+        "each bit of the heap's start is told: a heap that isn't there, its figures, and the rest");
     tlsf_fault fault;
-    expect(tlsf_check_at(NULL, &fault) == -1 && names_none(&fault, TLSF_FAULT_NO_HEAP), "a null pointer is no heap");
-    expect(tlsf_check_at(heap, &fault) == 0 && names_none(&fault, TLSF_FAULT_NONE), "a whole heap has no fault");
+    expect(tlsf_check_at(NULL, &fault) == -1 && names_none(&fault, TLSF_FAULT_NO_HEAP),
+           "a null pointer is no heap");
+    expect(tlsf_check_at(heap, &fault) == 0 && names_none(&fault, TLSF_FAULT_NONE),
+           "a whole heap has no fault");
     expect(tlsf_check_at(heap, NULL) == 0, "nothing need be told");
 }
 
@@ -192,16 +213,20 @@ static void fronts(void)
     for (size_t k = 0; k < count; k++) {
         for (int at = 1; walked[k].used && at <= FRONT; at++) {
             tlsf_fault fault = told(walked[k].at - at, k % 8, &wrong);
-            good = good && wrong && names(&fault, &walked[k]) && fault.what == TLSF_FAULT_FRONT && fault.size == walked[k].size;
+            good = good && wrong && names(&fault, &walked[k]) && fault.what == TLSF_FAULT_FRONT
+                   && fault.size == walked[k].size;
             live++;
         }
     }
-    expect(good && live >= 8 * FRONT, "each byte in front of a live block is told of it, with its size");
+    expect(good && live >= 8 * FRONT,
+           "each byte in front of a live block is told of it, with its size");
     walked[1].at[-1] ^= 1;
     walked[count - 2].at[-1] ^= 1;
     tlsf_fault fault;
-    size_t first = walked[1].used ? 1 : count - 2, lost = (size_t)(walked[1].used != 0) + (size_t)(walked[count - 2].used != 0);
-    expect(tlsf_check_at(heap, &fault) == -(int)lost && lost > 0 && names(&fault, &walked[first]), "of two the first is told");
+    size_t first = walked[1].used ? 1 : count - 2,
+           lost = (size_t)(walked[1].used != 0) + (size_t)(walked[count - 2].used != 0);
+    expect(tlsf_check_at(heap, &fault) == -(int)lost && lost > 0 && names(&fault, &walked[first]),
+           "of two the first is told");
     walked[1].at[-1] ^= 1;
     walked[count - 2].at[-1] ^= 1;
 }
@@ -222,7 +247,8 @@ static void lost_pool(void)
         each = each && (kinds[kind] > 0) == (kind != TLSF_FAULT_POOL);
     }
     expect(each, "each other kind was told");
-    expect(tlsf_check_at(heap, &fault) < 0 && fault.what == TLSF_FAULT_POOL && fault.pool == 1 && fault.block == NULL,
+    expect(tlsf_check_at(heap, &fault) < 0 && fault.what == TLSF_FAULT_POOL && fault.pool == 1
+               && fault.block == NULL,
            "a pool that the table lacks is told by its number");
 }
 
@@ -239,16 +265,19 @@ static void images(void)
             walked[k].at[-at] ^= 0x20;
             int status = tlsf_load_at(other, sizeof other, image, length, of, &fault);
             walked[k].at[-at] ^= 0x20;
-            good = good && status == TLSF_BROKEN_FRONTS && names(&fault, &walked[k]) && fault.what == TLSF_FAULT_FRONT
-                   && fault.size == walked[k].size;
+            good = good && status == TLSF_BROKEN_FRONTS && names(&fault, &walked[k])
+                   && fault.what == TLSF_FAULT_FRONT && fault.size == walked[k].size;
             loaded++;
         }
     }
-    expect(length > 0 && good && loaded >= 8 * FRONT, "an image with a front that is spoiled: its block, pool and offset");
+    expect(length > 0 && good && loaded >= 8 * FRONT,
+           "an image with a front that is spoiled: its block, pool and offset");
     tlsf_fault fault = {TLSF_FAULT_NONE, NULL, NULL, 1, 1, 1};
-    expect(tlsf_load_at(other, sizeof other, image, length - 1, of, &fault) == TLSF_BROKEN_HEAD && fault.pool == 1,
+    expect(tlsf_load_at(other, sizeof other, image, length - 1, of, &fault) == TLSF_BROKEN_HEAD
+               && fault.pool == 1,
            "where something else is wrong nothing is told");
-    expect(tlsf_load_at(other, sizeof other, image, length, of, &fault) == 0 && fault.pool == 1 && tlsf_check(other) == 0,
+    expect(tlsf_load_at(other, sizeof other, image, length, of, &fault) == 0 && fault.pool == 1
+               && tlsf_check(other) == 0,
            "nor where it is loaded");
     expect(tlsf_load_at(other, sizeof other, image, length, of, NULL) == 0, "nothing need be told");
 }

@@ -1,4 +1,5 @@
-/* A program that passes numbers of floating point in registers, and keeps them in blocks of the heap. */
+/* A program that passes numbers of floating point in registers, and keeps them in blocks of the
+ * heap. */
 #include "cases.h"
 #include "tlsf.h"
 
@@ -18,7 +19,8 @@ int main(void)
 {
     tlsf_t heap = tlsf_create_with_pool(memory, sizeof memory);
     float *numbers = tlsf_malloc(heap, 100 * sizeof *numbers);
-    expect(numbers != NULL && halves(numbers, 100, 0.25f) == 2475.25f, "the sum of a hundred halves, and a quarter");
+    expect(numbers != NULL && halves(numbers, 100, 0.25f) == 2475.25f,
+           "the sum of a hundred halves, and a quarter");
     tlsf_free(heap, numbers);
     expect(tlsf_check(heap) == 0, "the heap is whole");
     return cases_end();

@@ -1,5 +1,6 @@
-/* c/rtos/heap_tlsf.c by the calls of FreeRTOS's manual, beside a list of what is live: the free blocks and all figures are
- * reckoned by that list. tests/c.d/rtos has the kernel's names. With configTLSF_REGIONS the heap has three regions, else ucHeap. */
+/* c/rtos/heap_tlsf.c by the calls of FreeRTOS's manual, beside a list of what is live: the free
+ * blocks and all figures are reckoned by that list. tests/c.d/rtos has the kernel's names. With
+ * configTLSF_REGIONS the heap has three regions, else ucHeap. */
 #include <stdlib.h>
 #include <string.h>
 
@@ -94,12 +95,15 @@ static bool take(size_t k, size_t bytes_told)
 static void add_gap(HeapStats_t *stats, size_t bytes)
 {
     if (bytes > 0) {
-        bool is_smallest = stats->xNumberOfFreeBlocks == 0 || bytes < stats->xSizeOfSmallestFreeBlockInBytes;
+        bool is_smallest =
+            stats->xNumberOfFreeBlocks == 0 || bytes < stats->xSizeOfSmallestFreeBlockInBytes;
         stats->xNumberOfFreeBlocks++;
         stats->xAvailableHeapSpaceInBytes += bytes;
-        stats->xSizeOfSmallestFreeBlockInBytes = is_smallest ? bytes : stats->xSizeOfSmallestFreeBlockInBytes;
-        stats->xSizeOfLargestFreeBlockInBytes
-            = bytes > stats->xSizeOfLargestFreeBlockInBytes ? bytes : stats->xSizeOfLargestFreeBlockInBytes;
+        stats->xSizeOfSmallestFreeBlockInBytes =
+            is_smallest ? bytes : stats->xSizeOfSmallestFreeBlockInBytes;
+        stats->xSizeOfLargestFreeBlockInBytes = bytes > stats->xSizeOfLargestFreeBlockInBytes
+                                                    ? bytes
+                                                    : stats->xSizeOfLargestFreeBlockInBytes;
     }
 }
 
@@ -127,8 +131,10 @@ static bool agrees(void)
            && told.xAvailableHeapSpaceInBytes == xPortGetFreeHeapSize()
            && told.xSizeOfLargestFreeBlockInBytes == wanted.xSizeOfLargestFreeBlockInBytes
            && told.xSizeOfSmallestFreeBlockInBytes == wanted.xSizeOfSmallestFreeBlockInBytes
-           && told.xNumberOfFreeBlocks == wanted.xNumberOfFreeBlocks && told.xMinimumEverFreeBytesRemaining == least
-           && xPortGetMinimumEverFreeHeapSize() == least && told.xNumberOfSuccessfulAllocations == asked
+           && told.xNumberOfFreeBlocks == wanted.xNumberOfFreeBlocks
+           && told.xMinimumEverFreeBytesRemaining == least
+           && xPortGetMinimumEverFreeHeapSize() == least
+           && told.xNumberOfSuccessfulAllocations == asked
            && told.xNumberOfSuccessfulFrees == given_back;
 }
 
@@ -140,7 +146,8 @@ static void note(void *block, size_t bytes)
     least = free_now < least ? free_now : least;
 }
 
-/* Blocks of 1 to 400 bytes come and go, by both calls that ask. Each is refused only where no free block is twice as large. */
+/* Blocks of 1 to 400 bytes come and go, by both calls that ask. Each is refused only where no free
+ * block is twice as large. */
 static bool runs(void)
 {
     static size_t bytes_of[BLOCKS];
@@ -154,7 +161,9 @@ static bool runs(void)
             for (size_t byte = 0; step % 3 == 0 && blocks[k] != NULL && byte < bytes; byte++) {
                 good = good && blocks[k][byte] == 0;
             }
-            good = good && (blocks[k] != NULL || stats_by_list().xSizeOfLargestFreeBlockInBytes < 2 * bytes + 32);
+            good = good
+                   && (blocks[k] != NULL
+                       || stats_by_list().xSizeOfLargestFreeBlockInBytes < 2 * bytes + 32);
             bytes_of[k] = bytes;
             if (blocks[k] != NULL) {
                 note(blocks[k], bytes);
@@ -183,7 +192,8 @@ static bool runs(void)
 #ifdef configTLSF_REGIONS
 static void define(void)
 {
-    const HeapRegion_t regions[] = {{memory, FIRST}, {memory + 8008, 3000}, {memory + 16008, 4001}, {NULL, 0}};
+    const HeapRegion_t regions[] = {
+        {memory, FIRST}, {memory + 8008, 3000}, {memory + 16008, 4001}, {NULL, 0}};
     defining = 1;
     vPortDefineHeapRegions(regions);
     defining = 0;
@@ -195,8 +205,8 @@ static void define(void)
 }
 #endif
 
-/* The first pool of an empty heap has the bytes that the others don't have, and ends as the first memory does: 8 bytes
- * behind a multiple of 16. */
+/* The first pool of an empty heap has the bytes that the others don't have, and ends as the first
+ * memory does: 8 bytes behind a multiple of 16. */
 static void find_first(void)
 {
     parts[0].bytes = xPortGetFreeHeapSize();
@@ -214,10 +224,12 @@ static void refusals(void)
     size_t hooked = hooks, assertions = failed_assertions;
     HeapStats_t before, after;
     vPortGetHeapStats(&before);
-    expect(pvPortMalloc(0) == NULL && hooks == hooked + 1, "0 bytes are refused, and the hook is called");
-    expect(pvPortMalloc(1 << 20) == NULL && hooks == hooked + 2, "too many bytes are refused, and the hook is called");
-    expect(pvPortCalloc(SIZE_MAX / 2, 3) == NULL && pvPortCalloc(0, 9) == NULL && pvPortCalloc(9, 0) == NULL
-               && hooks == hooked + 5,
+    expect(pvPortMalloc(0) == NULL && hooks == hooked + 1,
+           "0 bytes are refused, and the hook is called");
+    expect(pvPortMalloc(1 << 20) == NULL && hooks == hooked + 2,
+           "too many bytes are refused, and the hook is called");
+    expect(pvPortCalloc(SIZE_MAX / 2, 3) == NULL && pvPortCalloc(0, 9) == NULL
+               && pvPortCalloc(9, 0) == NULL && hooks == hooked + 5,
            "so are a product that is too great, and products of 0");
     vPortFree(NULL);
     expect(failed_assertions == assertions, "to free a null pointer does nothing");
@@ -239,7 +251,8 @@ int main(void)
 {
     HeapStats_t stats;
     vPortGetHeapStats(&stats);
-    expect(xPortGetFreeHeapSize() == 0 && stats.xNumberOfFreeBlocks == 0, "before there is a heap all figures are 0");
+    expect(xPortGetFreeHeapSize() == 0 && stats.xNumberOfFreeBlocks == 0,
+           "before there is a heap all figures are 0");
 #ifdef configTLSF_REGIONS
     define();
 #else
@@ -250,7 +263,8 @@ int main(void)
     expect(runs(), "random calls, and the figures of each");
     refusals();
     expect(agrees(), "the figures at the end");
-    expect(unsuspended == 0 && depth == 0 && suspended > STEPS, "each call of the heap ran with the scheduler suspended");
+    expect(unsuspended == 0 && depth == 0 && suspended > STEPS,
+           "each call of the heap ran with the scheduler suspended");
     expect(traced == asked + given_back, "each block was traced, asked for and given back");
     return cases_end();
 }

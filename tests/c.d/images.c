@@ -11,7 +11,8 @@ enum { SMALL = 1536, LARGE = 1520 + 16 * 300, MOST_LIVE = 200, REQUESTS = 20000 
 /* The image of a heap of one record whose one pool, 64 bytes from place 0 on, is free. */
 static void vector(unsigned char *image)
 {
-    static const unsigned char record[16] = {0, 0, 0, 0, 0x41, 0, 0, 0, 0xff, 0xff, 0xff, 0xff, 0xff, 0xff, 0xff, 0xff};
+    static const unsigned char record[16] = {0,    0,    0,    0,    0x41, 0,    0,    0,
+                                             0xff, 0xff, 0xff, 0xff, 0xff, 0xff, 0xff, 0xff};
     memset(image, 0, SMALL);
     memcpy(image, "TLSFIMG1", 8);
     image[8] = 1;
@@ -38,10 +39,13 @@ static void the_bytes(void)
     tlsf_heap heap = {0};
     uint64_t count = 0;
     vector(wanted);
-    expect(TLSF_HEAP_IMAGE_BYTES(1) == SMALL && TLSF_HEAP_IMAGE_BYTES(65535) == 1050080, "how many bytes an image has");
-    expect(tlsf_heap_create(1, &heap) == TLSF_OK && tlsf_heap_add_pool(&heap, 0, 64) == TLSF_OK, "a heap of one record");
+    expect(TLSF_HEAP_IMAGE_BYTES(1) == SMALL && TLSF_HEAP_IMAGE_BYTES(65535) == 1050080,
+           "how many bytes an image has");
+    expect(tlsf_heap_create(1, &heap) == TLSF_OK && tlsf_heap_add_pool(&heap, 0, 64) == TLSF_OK,
+           "a heap of one record");
     memset(bytes, 0xa5, sizeof bytes);
-    expect(tlsf_heap_save(&heap, bytes, sizeof bytes, &count) == TLSF_OK && count == SMALL, "its image is put");
+    expect(tlsf_heap_save(&heap, bytes, sizeof bytes, &count) == TLSF_OK && count == SMALL,
+           "its image is put");
     expect(memcmp(bytes, wanted, SMALL) == 0, "the bytes of the image");
     expect(are_all(bytes + SMALL, 16, 0xa5), "the bytes behind it stay");
     bool told = true, put = true, stay = true;
@@ -56,19 +60,23 @@ static void the_bytes(void)
     expect(put, "each smaller room: a beginning of the image");
     expect(stay, "each smaller room: no byte behind it");
     memset(bytes, 0xa5, sizeof bytes);
-    expect(tlsf_heap_save(&heap, bytes, SMALL, &count) == TLSF_OK && count == SMALL && memcmp(bytes, wanted, SMALL) == 0, "a room of just its length");
+    expect(tlsf_heap_save(&heap, bytes, SMALL, &count) == TLSF_OK && count == SMALL
+               && memcmp(bytes, wanted, SMALL) == 0,
+           "a room of just its length");
     tlsf_heap_block block;
     expect(tlsf_heap_malloc(&heap, 64, &block) == TLSF_OK && block.place == 0, "the heap goes on");
     tlsf_heap_destroy(&heap);
 }
 
-/* No heap comes of these bytes, over memory of malloc or handed in, and what out points to stays. */
+/* No heap comes of these bytes, over memory of malloc or handed in, and what out points to
+ * stays. */
 static bool refused(const unsigned char *bytes, size_t length, uint32_t status)
 {
     static _Alignas(16) unsigned char table[TLSF_HEAP_TABLE_BYTES(2)];
     tlsf_heap none = {0};
     return tlsf_heap_load(bytes, length, &none) == status && none.at == NULL
-           && tlsf_heap_load_in(table, sizeof table, bytes, length, &none) == status && none.at == NULL;
+           && tlsf_heap_load_in(table, sizeof table, bytes, length, &none) == status
+           && none.at == NULL;
 }
 
 /* The image of a heap of two records: the pool of the first is free, and the second is vacant. */
@@ -82,20 +90,24 @@ static void two_records(unsigned char *image)
 /* What two records can break, and one can't. */
 static void broken_chains(void)
 {
-    static const unsigned char block[16] = {32, 0, 0, 0, 0x21, 0, 0, 0, 0, 0, 0xff, 0xff, 0xff, 0xff, 0xff, 0xff};
+    static const unsigned char block[16] = {32, 0, 0,    0,    0x21, 0,    0,    0,
+                                            0,  0, 0xff, 0xff, 0xff, 0xff, 0xff, 0xff};
     unsigned char bytes[SMALL + 16];
     tlsf_heap heap = {0};
     two_records(bytes);
     expect(tlsf_heap_load(bytes, sizeof bytes, &heap) == TLSF_OK, "an image of two records");
     tlsf_heap_destroy(&heap);
     memcpy(bytes + SMALL, block, sizeof block);
-    expect(refused(bytes, sizeof bytes, TLSF_BROKEN_ON_CHAINS), "a block on no pool's chain breaks rule 9");
+    expect(refused(bytes, sizeof bytes, TLSF_BROKEN_ON_CHAINS),
+           "a block on no pool's chain breaks rule 9");
     bytes[1524] = 0x21;
     bytes[1530] = 1;
     bytes[1531] = 0;
-    expect(refused(bytes, sizeof bytes, TLSF_BROKEN_MERGED), "free blocks side by side break rule 10");
+    expect(refused(bytes, sizeof bytes, TLSF_BROKEN_MERGED),
+           "free blocks side by side break rule 10");
     memset(bytes + SMALL + 8, 0xff, 2);
-    expect(refused(bytes, sizeof bytes, TLSF_BROKEN_CHAINS), "a block that isn't linked back breaks rule 7");
+    expect(refused(bytes, sizeof bytes, TLSF_BROKEN_CHAINS),
+           "a block that isn't linked back breaks rule 7");
 }
 
 /* Each status has its name, and no other number has one. */
@@ -105,13 +117,32 @@ static void names(void)
         uint32_t status;
         const char *name;
     } named[] = {
-        {0, "served"}, {1, "zero size"}, {2, "no fit"}, {3, "table full"}, {4, "bad pointer"}, {5, "bad alignment"},
-        {6, "bad pool"}, {7, "pools full"}, {8, "pool in use"}, {9, "out of memory"}, {10, "no pool"}, {11, "bad count"},
-        {14, "no room"}, {15, "bad memory"}, {101, "broken image: magic"}, {102, "broken image: length"},
-        {103, "broken image: pools"}, {104, "broken image: unused pools"}, {105, "broken image: states"},
-        {106, "broken image: links"}, {107, "broken image: chains"}, {108, "broken image: cover"},
-        {109, "broken image: block on no chain"}, {110, "broken image: free blocks side by side"},
-        {111, "broken image: lists"}, {112, "broken image: free block on no list"},
+        {0, "served"},
+        {1, "zero size"},
+        {2, "no fit"},
+        {3, "table full"},
+        {4, "bad pointer"},
+        {5, "bad alignment"},
+        {6, "bad pool"},
+        {7, "pools full"},
+        {8, "pool in use"},
+        {9, "out of memory"},
+        {10, "no pool"},
+        {11, "bad count"},
+        {14, "no room"},
+        {15, "bad memory"},
+        {101, "broken image: magic"},
+        {102, "broken image: length"},
+        {103, "broken image: pools"},
+        {104, "broken image: unused pools"},
+        {105, "broken image: states"},
+        {106, "broken image: links"},
+        {107, "broken image: chains"},
+        {108, "broken image: cover"},
+        {109, "broken image: block on no chain"},
+        {110, "broken image: free blocks side by side"},
+        {111, "broken image: lists"},
+        {112, "broken image: free block on no list"},
     };
     enum { COUNT = sizeof named / sizeof named[0] };
     unsigned unknown = 0;
@@ -130,7 +161,8 @@ static void broken_bytes(void)
     vector(bytes);
     bytes[0] = 0x55;
     expect(refused(bytes, SMALL, TLSF_BROKEN_MAGIC), "another first byte breaks rule 1");
-    expect(TLSF_BROKEN_MAGIC == 101 && TLSF_BROKEN_LENGTH == 102 && TLSF_BROKEN_ON_LISTS == 112, "the numbers of rules 1, 2 and 12");
+    expect(TLSF_BROKEN_MAGIC == 101 && TLSF_BROKEN_LENGTH == 102 && TLSF_BROKEN_ON_LISTS == 112,
+           "the numbers of rules 1, 2 and 12");
     vector(bytes);
     expect(refused(bytes, SMALL + 1, TLSF_BROKEN_LENGTH), "a byte behind the record breaks rule 2");
     bytes[112 + 2 * 4] = bytes[112 + 2 * 4 + 1] = 0xff;
@@ -146,12 +178,12 @@ static void broken_bytes(void)
         unsigned char byte;
         uint32_t status;
     } changes[] = {
-        {16, 1, TLSF_BROKEN_POOLS},          /* the base of the pool is 1 */
-        {28, 1, TLSF_BROKEN_UNUSED_POOLS},   /* the second entry isn't zero */
-        {1524, 0x43, TLSF_BROKEN_STATES},    /* the record has the state 3 */
-        {1528, 1, TLSF_BROKEN_LINKS},        /* the record in front of it is record 65,281 */
-        {1520, 16, TLSF_BROKEN_COVER},       /* the block begins behind its pool's base */
-        {1524, 0x42, TLSF_BROKEN_LISTS},     /* the block in a list is live */
+        {16, 1, TLSF_BROKEN_POOLS},        /* the base of the pool is 1 */
+        {28, 1, TLSF_BROKEN_UNUSED_POOLS}, /* the second entry isn't zero */
+        {1524, 0x43, TLSF_BROKEN_STATES},  /* the record has the state 3 */
+        {1528, 1, TLSF_BROKEN_LINKS},      /* the record in front of it is record 65,281 */
+        {1520, 16, TLSF_BROKEN_COVER},     /* the block begins behind its pool's base */
+        {1524, 0x42, TLSF_BROKEN_LISTS},   /* the block in a list is live */
     };
     for (size_t k = 0; k < sizeof changes / sizeof changes[0]; k++) {
         vector(bytes);
@@ -171,8 +203,12 @@ static void loaded_vector(void)
     expect(tlsf_heap_load(bytes, SMALL, &heap) == TLSF_OK, "the image is loaded");
     memset(bytes, 0, sizeof bytes);
     expect(tlsf_heap_check(&heap), "its table is whole");
-    expect(tlsf_heap_walk(&heap, 0, 0, &row, 1, &count) == TLSF_OK && count == 1 && row.place == 0 && row.size == 64 && !row.used, "it has the row of the image");
-    expect(tlsf_heap_malloc(&heap, 60, &block) == TLSF_OK && block.place == 0 && tlsf_heap_malloc(&heap, 1, &block) == TLSF_NO_FIT, "it serves and refuses");
+    expect(tlsf_heap_walk(&heap, 0, 0, &row, 1, &count) == TLSF_OK && count == 1 && row.place == 0
+               && row.size == 64 && !row.used,
+           "it has the row of the image");
+    expect(tlsf_heap_malloc(&heap, 60, &block) == TLSF_OK && block.place == 0
+               && tlsf_heap_malloc(&heap, 1, &block) == TLSF_NO_FIT,
+           "it serves and refuses");
     tlsf_heap_destroy(&heap);
 }
 
@@ -196,7 +232,8 @@ static size_t lives;
 /* One random request of both heaps: the answers are equal but for slots. */
 static bool both_answer(unsigned heap_count)
 {
-    uint64_t kind = below(5), bytes = below(6) == 0 ? below(30000) : below(400), align = 1ull << below(10), at = lives ? below(lives) : 0;
+    uint64_t kind = below(5), bytes = below(6) == 0 ? below(30000) : below(400),
+             align = 1ull << below(10), at = lives ? below(lives) : 0;
     uint32_t status[2] = {0, 0};
     tlsf_heap_block given[2] = {{0, 0}, {0, 0}};
     if ((kind >= 3 && lives == 0) || (kind < 3 && lives == MOST_LIVE)) {
@@ -255,9 +292,12 @@ static void saved_and_loaded(void)
     expect(lives > 20, "blocks are live");
     for (unsigned round = 0; round < 10; round++) {
         heaps[1] = none;
-        expect(tlsf_heap_save(&heaps[0], image, LARGE, &count) == TLSF_OK && count == LARGE, "it is saved");
+        expect(tlsf_heap_save(&heaps[0], image, LARGE, &count) == TLSF_OK && count == LARGE,
+               "it is saved");
         expect(tlsf_heap_load(image, LARGE, &heaps[1]) == TLSF_OK, "and loaded");
-        expect(tlsf_heap_save(&heaps[1], again, LARGE, &count) == TLSF_OK && memcmp(image, again, LARGE) == 0, "the image of what is loaded is the same");
+        expect(tlsf_heap_save(&heaps[1], again, LARGE, &count) == TLSF_OK
+                   && memcmp(image, again, LARGE) == 0,
+               "the image of what is loaded is the same");
         memcpy(live[1], live[0], sizeof live[0]);
         bool same = same_rows();
         for (unsigned k = 0; k < REQUESTS; k++) {

@@ -50,10 +50,7 @@ static uint64_t below(uint64_t bound)
 static _Alignas(64) unsigned char memory[EDGE + TLSF_HEAP_TABLE_BYTES(RECORDS) + EDGE];
 static unsigned char image[TLSF_HEAP_IMAGE_BYTES(RECORDS)];
 
-static void fill(void)
-{
-    memset(memory, 0xa5, sizeof memory);
-}
+static void fill(void) { memset(memory, 0xa5, sizeof memory); }
 
 /* Whether the bytes in front of the table and behind it are as fill left them. */
 static bool edges_stay(size_t from, size_t bytes)
@@ -100,7 +97,8 @@ static void at_its_bytes(bool loads)
     expect(edges_stay(EDGE, bytes), name);
     bool refused = true;
     for (size_t less = 0; less < bytes; less++) {
-        refused = refused && make(loads, memory + EDGE, less, &heap) == TLSF_BAD_MEMORY && heap.at == NULL;
+        refused = refused && make(loads, memory + EDGE, less, &heap) == TLSF_BAD_MEMORY
+                  && heap.at == NULL;
     }
     snprintf(name, sizeof name, "%s at each smaller number of bytes", call);
     expect(refused && takes == 0, name);
@@ -121,14 +119,21 @@ static void other_refusals(void)
 {
     tlsf_heap heap = {0};
     start(0);
-    expect(tlsf_heap_create_in(memory, sizeof memory, 0, &heap) == TLSF_BAD_COUNT && tlsf_heap_create_in(memory, sizeof memory, 65536, &heap) == TLSF_BAD_COUNT, "create_in with a bad count");
-    expect(tlsf_heap_create_in(NULL, 0, 0, &heap) == TLSF_BAD_COUNT, "a bad count comes before bad memory");
+    expect(tlsf_heap_create_in(memory, sizeof memory, 0, &heap) == TLSF_BAD_COUNT
+               && tlsf_heap_create_in(memory, sizeof memory, 65536, &heap) == TLSF_BAD_COUNT,
+           "create_in with a bad count");
+    expect(tlsf_heap_create_in(NULL, 0, 0, &heap) == TLSF_BAD_COUNT,
+           "a bad count comes before bad memory");
     image[0] ^= 1;
-    expect(tlsf_heap_load_in(memory, 10, image, sizeof image, &heap) == TLSF_BROKEN_MAGIC, "a broken image comes before bad memory");
+    expect(tlsf_heap_load_in(memory, 10, image, sizeof image, &heap) == TLSF_BROKEN_MAGIC,
+           "a broken image comes before bad memory");
     image[0] ^= 1;
     expect(heap.at == NULL && takes == 0, "what out points to stays");
-    expect(strcmp(tlsf_heap_status_name(TLSF_BAD_MEMORY), "bad memory") == 0 && TLSF_BAD_MEMORY == 15, "its status has a name");
-    expect(tlsf_heap_create(RECORDS, &heap) == TLSF_OK && takes == 2, "behind a refused call memory is malloc's again");
+    expect(strcmp(tlsf_heap_status_name(TLSF_BAD_MEMORY), "bad memory") == 0
+               && TLSF_BAD_MEMORY == 15,
+           "its status has a name");
+    expect(tlsf_heap_create(RECORDS, &heap) == TLSF_OK && takes == 2,
+           "behind a refused call memory is malloc's again");
     tlsf_heap_destroy(&heap);
 }
 
@@ -163,11 +168,13 @@ static void after_refusals(void)
     is_free_again("too many records, and the memory is free again");
     refused = tlsf_heap_create_in(at, bytes - 1, RECORDS, &heap) == TLSF_BAD_MEMORY && refused;
     is_free_again("memory for one piece, and it is free again");
-    refused = tlsf_heap_load_in(at, bytes - 1, image, sizeof image, &heap) == TLSF_BAD_MEMORY && refused;
+    refused =
+        tlsf_heap_load_in(at, bytes - 1, image, sizeof image, &heap) == TLSF_BAD_MEMORY && refused;
     is_free_again("memory for one piece of an image's heap, and it is free again");
     refused = tlsf_heap_create_in(NULL, bytes, RECORDS, &heap) == TLSF_BAD_MEMORY && refused;
     is_free_again("no memory, and the next is taken");
-    refused = tlsf_heap_load_in(at, bytes, image, sizeof image - 1, &heap) == TLSF_BROKEN_LENGTH && refused;
+    refused = tlsf_heap_load_in(at, bytes, image, sizeof image - 1, &heap) == TLSF_BROKEN_LENGTH
+              && refused;
     is_free_again("a broken image, and the memory is free again");
     expect(refused && heap.at == NULL, "each was refused");
 }
@@ -177,10 +184,11 @@ static bool is_told_as(size_t at, uint32_t wanted)
 {
     tlsf_heap heap = {0};
     image[at] ^= 1;
-    bool told = tlsf_heap_load_in(NULL, 0, image, sizeof image, &heap) == wanted
-                && tlsf_heap_load_in(NULL, sizeof memory, image, sizeof image, &heap) == wanted
-                && tlsf_heap_load_in(memory, 0, image, sizeof image, &heap) == wanted
-                && tlsf_heap_load_in(memory + 1, sizeof memory, image, sizeof image, &heap) == wanted;
+    bool told =
+        tlsf_heap_load_in(NULL, 0, image, sizeof image, &heap) == wanted
+        && tlsf_heap_load_in(NULL, sizeof memory, image, sizeof image, &heap) == wanted
+        && tlsf_heap_load_in(memory, 0, image, sizeof image, &heap) == wanted
+        && tlsf_heap_load_in(memory + 1, sizeof memory, image, sizeof image, &heap) == wanted;
     image[at] ^= 1;
     return told && heap.at == NULL;
 }
@@ -193,7 +201,8 @@ static void broken_without_memory(void)
     start(0);
     expect(is_told_as(0, TLSF_BROKEN_MAGIC) && is_told_as(7, TLSF_BROKEN_MAGIC),
            "load_in at a null pointer of bytes that are no image: broken magic");
-    expect(is_told_as(8, TLSF_BROKEN_LENGTH), "and of one with another number of records: broken length");
+    expect(is_told_as(8, TLSF_BROKEN_LENGTH),
+           "and of one with another number of records: broken length");
     expect(tlsf_heap_load_in(NULL, 0, image, 0, &heap) == TLSF_BROKEN_MAGIC && takes == 0,
            "and of no byte: broken magic");
     expect(is_told_as(sizeof image - 16, TLSF_BROKEN_STATES),
@@ -218,7 +227,8 @@ static void beyond_all(void)
         memset(some.p, 0xff, bytes);
         rattle_dealloc(some.p);
     }
-    expect(served && takes == 100 && returns == 100, "of 0 to 99 bytes, at each alignment up to 16");
+    expect(served && takes == 100 && returns == 100,
+           "of 0 to 99 bytes, at each alignment up to 16");
 }
 
 /* A heap of malloc's memory asks for what the header tells, and each refusal is answered. */
@@ -239,12 +249,16 @@ static void of_malloc(void)
         tlsf_heap heap = {0};
         start(refused);
         uint32_t status = tlsf_heap_create(RECORDS, &heap);
-        bool right = refused <= 2 ? status == TLSF_OUT_OF_MEMORY && heap.at == NULL : status == TLSF_OK;
+        bool right =
+            refused <= 2 ? status == TLSF_OUT_OF_MEMORY && heap.at == NULL : status == TLSF_OK;
         tlsf_heap_destroy(&heap);
         uint32_t loaded = tlsf_heap_load(image, sizeof image, &heap);
-        right = right && (refused > takes || refused <= 2 || (loaded == TLSF_OUT_OF_MEMORY && heap.at == NULL));
+        right = right
+                && (refused > takes || refused <= 2
+                    || (loaded == TLSF_OUT_OF_MEMORY && heap.at == NULL));
         tlsf_heap_destroy(&heap);
-        expect(right && returns == takes - 1, "one of four requests refused: no heap, and all is given back");
+        expect(right && returns == takes - 1,
+               "one of four requests refused: no heap, and all is given back");
     }
 }
 
@@ -259,10 +273,12 @@ static void ends(void)
     expect(heap.at == NULL && returns == 2, "its end leaves zeros");
     tlsf_heap_destroy(&heap);
     expect(heap.at == NULL && returns == 2, "and may come once more");
-    expect(tlsf_heap_create_in(memory, sizeof memory, RECORDS, &heap) == TLSF_OK, "a heap in memory of the program");
+    expect(tlsf_heap_create_in(memory, sizeof memory, RECORDS, &heap) == TLSF_OK,
+           "a heap in memory of the program");
     tlsf_heap_destroy(&heap);
     expect(returns == 2, "its end by tlsf_heap_destroy gives nothing back to malloc");
-    expect(tlsf_heap_create_in(memory, sizeof memory, RECORDS, &heap) == TLSF_OK && works(&heap), "another in the same memory");
+    expect(tlsf_heap_create_in(memory, sizeof memory, RECORDS, &heap) == TLSF_OK && works(&heap),
+           "another in the same memory");
     tlsf_heap_destroy(&heap);
 }
 
@@ -303,7 +319,8 @@ static void side_by_side(void)
         while (lives[h] > 0) {
             ended = ended && tlsf_heap_free(&heaps[h], live[h][--lives[h]]) == TLSF_OK;
         }
-        ended = ended && tlsf_heap_check(&heaps[h]) && tlsf_heap_remove_pool(&heaps[h], 65536u * h) == TLSF_OK;
+        ended = ended && tlsf_heap_check(&heaps[h])
+                && tlsf_heap_remove_pool(&heaps[h], 65536u * h) == TLSF_OK;
         tlsf_heap_destroy(&heaps[h]);
     }
     expect(made, "forty heaps in one array");
@@ -350,8 +367,10 @@ static uint32_t beyond(uint32_t records)
 {
     tlsf_heap heap = {0};
     tlsf_heap_block one, other;
-    bool served = tlsf_heap_create(records, &heap) == TLSF_OK && tlsf_heap_add_pool(&heap, 0, 2048) == TLSF_OK;
-    served = served && tlsf_heap_malloc(&heap, 16, &one) == TLSF_OK && tlsf_heap_malloc(&heap, 16, &other) == TLSF_OK;
+    bool served = tlsf_heap_create(records, &heap) == TLSF_OK
+                  && tlsf_heap_add_pool(&heap, 0, 2048) == TLSF_OK;
+    served = served && tlsf_heap_malloc(&heap, 16, &one) == TLSF_OK
+             && tlsf_heap_malloc(&heap, 16, &other) == TLSF_OK;
     served = served && tlsf_heap_free(&heap, one) == TLSF_OK;
     uint32_t status = served ? tlsf_heap_memalign(&heap, 256, 100, &one) : TLSF_BAD_COUNT;
     tlsf_heap_destroy(&heap);
@@ -370,7 +389,8 @@ static void enough_records(void)
     expect(enough, "TLSF_HEAP_RECORDS are enough");
     expect(!is_enough(2 * 3 + 1, 3, 1, false), "one less is not");
     expect(aligned, "also where blocks are aligned");
-    expect(beyond(TLSF_HEAP_RECORDS(1, 1)) == TLSF_TABLE_FULL, "a block beyond them that is aligned can take one more");
+    expect(beyond(TLSF_HEAP_RECORDS(1, 1)) == TLSF_TABLE_FULL,
+           "a block beyond them that is aligned can take one more");
     expect(beyond(TLSF_HEAP_RECORDS(1, 1) + 1) == TLSF_OK, "and no second");
 }
 
@@ -380,15 +400,25 @@ static void limits(void)
     tlsf_heap heap = {0};
     tlsf_heap_block block;
     start(0);
-    expect(tlsf_heap_create(TLSF_HEAP_RECORDS_MOST + 1, &heap) == TLSF_BAD_COUNT && tlsf_heap_create(TLSF_HEAP_RECORDS_MOST, &heap) == TLSF_OK, "the most records");
-    expect(tlsf_heap_add_pool(&heap, 0, TLSF_HEAP_GREATEST + TLSF_HEAP_UNIT) == TLSF_BAD_POOL && tlsf_heap_add_pool(&heap, 0, TLSF_HEAP_GREATEST) == TLSF_OK, "the greatest pool");
-    expect(tlsf_heap_malloc(&heap, 1056964609, &block) == TLSF_NO_FIT && tlsf_heap_malloc(&heap, 1056964608, &block) == TLSF_OK, "the greatest that malloc serves");
-    expect(tlsf_heap_realloc(&heap, block, TLSF_HEAP_GREATEST + 1ull, &block) == TLSF_NO_FIT && tlsf_heap_realloc(&heap, block, TLSF_HEAP_GREATEST, &block) == TLSF_OK, "the greatest block");
+    expect(tlsf_heap_create(TLSF_HEAP_RECORDS_MOST + 1, &heap) == TLSF_BAD_COUNT
+               && tlsf_heap_create(TLSF_HEAP_RECORDS_MOST, &heap) == TLSF_OK,
+           "the most records");
+    expect(tlsf_heap_add_pool(&heap, 0, TLSF_HEAP_GREATEST + TLSF_HEAP_UNIT) == TLSF_BAD_POOL
+               && tlsf_heap_add_pool(&heap, 0, TLSF_HEAP_GREATEST) == TLSF_OK,
+           "the greatest pool");
+    expect(tlsf_heap_malloc(&heap, 1056964609, &block) == TLSF_NO_FIT
+               && tlsf_heap_malloc(&heap, 1056964608, &block) == TLSF_OK,
+           "the greatest that malloc serves");
+    expect(tlsf_heap_realloc(&heap, block, TLSF_HEAP_GREATEST + 1ull, &block) == TLSF_NO_FIT
+               && tlsf_heap_realloc(&heap, block, TLSF_HEAP_GREATEST, &block) == TLSF_OK,
+           "the greatest block");
     uint32_t status = TLSF_OK;
     for (uint32_t pool = 1; pool < TLSF_HEAP_POOLS; pool++) {
         status |= tlsf_heap_add_pool(&heap, 0x40000000u + 64u * pool, TLSF_HEAP_UNIT);
     }
-    expect(status == TLSF_OK && tlsf_heap_add_pool(&heap, 0x50000000u, TLSF_HEAP_UNIT) == TLSF_POOLS_FULL, "the most pools");
+    expect(status == TLSF_OK
+               && tlsf_heap_add_pool(&heap, 0x50000000u, TLSF_HEAP_UNIT) == TLSF_POOLS_FULL,
+           "the most pools");
     expect(tlsf_heap_add_pool(&heap, 0, TLSF_HEAP_UNIT / 2) == TLSF_BAD_POOL, "the unit");
     tlsf_heap_destroy(&heap);
 }
@@ -397,7 +427,10 @@ int main(void)
 {
     tlsf_heap heap = {0};
     uint64_t count = 0;
-    expect(tlsf_heap_create(RECORDS, &heap) == TLSF_OK && tlsf_heap_save(&heap, image, sizeof image, &count) == TLSF_OK && count == sizeof image, "a heap is saved");
+    expect(tlsf_heap_create(RECORDS, &heap) == TLSF_OK
+               && tlsf_heap_save(&heap, image, sizeof image, &count) == TLSF_OK
+               && count == sizeof image,
+           "a heap is saved");
     tlsf_heap_destroy(&heap);
     at_its_bytes(false);
     at_its_bytes(true);

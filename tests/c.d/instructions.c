@@ -36,20 +36,11 @@ static uint32_t next(void)
     return (uint32_t)(state >> 33);
 }
 
-APART static void counted_nothing(tlsf_heap_block block)
-{
-    status = block.place;
-}
+APART static void counted_nothing(tlsf_heap_block block) { status = block.place; }
 
-APART static void counted_malloc(uint64_t bytes)
-{
-    status = CALL(malloc)(&heap, bytes, &given);
-}
+APART static void counted_malloc(uint64_t bytes) { status = CALL(malloc)(&heap, bytes, &given); }
 
-APART static void counted_free(tlsf_heap_block block)
-{
-    status = CALL(free)(&heap, block);
-}
+APART static void counted_free(tlsf_heap_block block) { status = CALL(free)(&heap, block); }
 
 APART static void counted_memalign(uint64_t align, uint64_t bytes)
 {
@@ -147,7 +138,8 @@ static const char *sides(uint32_t live, int before, int behind, bool full, tlsf_
     if (full) {
         must(CALL(free)(&heap, both));
     }
-    snprintf(told, sizeof told, "the one in front %s, the one behind %s, their list %s", names[before], names[behind], full ? "full" : "empty");
+    snprintf(told, sizeof told, "the one in front %s, the one behind %s, their list %s",
+             names[before], names[behind], full ? "full" : "empty");
     return told;
 }
 
@@ -209,7 +201,8 @@ static void grows(uint32_t live)
 
 /* A split of the only block of a class, or of the first of two, each with a live block behind it.
  * The lists that the pieces enter are empty or not. */
-static void splits(uint32_t live, int pools, uint32_t base, uint32_t bytes, uint64_t align, uint64_t wanted, bool full)
+static void splits(uint32_t live, int pools, uint32_t base, uint32_t bytes, uint64_t align,
+                   uint64_t wanted, bool full)
 {
     static const uint64_t others[] = {496, 512, (1u << 19) - 32, 1u << 19};
     tlsf_heap_block kept[4], large[2];
@@ -254,8 +247,12 @@ static void anything(uint32_t live)
     must(CALL(add_pool)(&heap, 2u * WORK, GREATEST));
     must(CALL(add_pool)(&heap, 3u * WORK, 1u << 29));
     for (uint32_t call = 0; call < CALLS; call++) {
-        uint32_t kind = count < 50 ? next() % 2 : count == MOST_OWN ? 2 : next() % 4, at = count > 0 ? next() % count : 0;
-        uint64_t bytes = next() % 7 == 0 ? 1 + next() % 600000 : 1 + next() % 2000, align = 1u << next() % 16;
+        uint32_t kind = count < 50          ? next() % 2
+                        : count == MOST_OWN ? 2
+                                            : next() % 4,
+                 at = count > 0 ? next() % count : 0;
+        uint64_t bytes = next() % 7 == 0 ? 1 + next() % 600000 : 1 + next() % 2000,
+                 align = 1u << next() % 16;
         if (kind == 0) {
             counted_malloc(bytes);
         } else if (kind == 1) {
@@ -272,7 +269,12 @@ static void anything(uint32_t live)
             own[at] = given;
         }
         CALLGRIND_DUMP_STATS;
-        printf("%s: any: %s\n", kind == 0 ? "malloc" : kind == 1 ? "memalign" : kind == 2 ? "free" : "realloc", tlsf_heap_status_name(status));
+        printf("%s: any: %s\n",
+               kind == 0   ? "malloc"
+               : kind == 1 ? "memalign"
+               : kind == 2 ? "free"
+                           : "realloc",
+               tlsf_heap_status_name(status));
     }
     CALL(destroy)(&heap);
 }

@@ -1,5 +1,5 @@
-/* The lock of libtlsf_malloc.so alone, with c/malloc/lock.c: when it leans to a thread, what that thread and
- * others do then, and what happens between the two looks at the lock. */
+/* The lock of libtlsf_malloc.so alone, with c/malloc/lock.c: when it leans to a thread, what that
+ * thread and others do then, and what happens between the two looks at the lock. */
 #define _GNU_SOURCE
 #include <pthread.h>
 #include <stdlib.h>
@@ -86,7 +86,8 @@ static void another_waits(void)
     struct seat *seat = lock_it(&lock);
     bool good = seat == own_seat && pthread_create(&thread, NULL, come_in, NULL) == 0;
     usleep(WAIT);
-    expect(good && !is_in && lock.leans_to == NULL, "another thread takes it away, and waits until it is out");
+    expect(good && !is_in && lock.leans_to == NULL,
+           "another thread takes it away, and waits until it is out");
     unlock_it(&lock, seat);
     pthread_join(thread, NULL);
     expect(is_in && lock.word == 0, "then it is in");
@@ -101,7 +102,8 @@ static void nested(void)
         unlock_it(&other, lock_it(&other));
     }
     struct seat *outer = lock_it(&other), *inner = lock_it(&lock);
-    expect(outer == own_seat && inner == NULL && lock.word == 1 && own_seat->inside == mark_of_lock(&other),
+    expect(outer == own_seat && inner == NULL && lock.word == 1
+               && own_seat->inside == mark_of_lock(&other),
            "a thread that is in one takes another by the word");
     unlock_it(&lock, inner);
     unlock_it(&other, outer);

@@ -1,5 +1,6 @@
-/* The calls of malloc's family, and what of C's library takes memory, over c/rtos/libc_malloc.c. Each block is the heap's, and
- * each call of the heap has the lock: newlib's, or for picolibc that of a build of tlsf.h's files. */
+/* The calls of malloc's family, and what of C's library takes memory, over c/rtos/libc_malloc.c.
+ * Each block is the heap's, and each call of the heap has the lock: newlib's, or for picolibc that
+ * of a build of tlsf.h's files. */
 #define _GNU_SOURCE
 #include <errno.h>
 #include <malloc.h>
@@ -37,7 +38,8 @@ void __malloc_lock(struct _reent *reent)
 }
 void __malloc_unlock(struct _reent *reent) { unlocked += reent == NULL || --depth != 0; }
 
-/* The heap is asked with newlib's lock alone: the figures of this test, and a block's size, don't take it. */
+/* The heap is asked with newlib's lock alone: the figures of this test, and a block's size, don't
+ * take it. */
 static bool asks;
 void expect_suspended(const void *tlsf);
 void expect_suspended(const void *tlsf)
@@ -82,7 +84,8 @@ static void *ask(size_t bytes, size_t *align)
         return zeros == NULL || is_whole(&one, bytes) ? zeros : NULL;
     }
     *align = (size_t)16 << below(4);
-    return kind == 2 ? memalign(*align, bytes) : aligned_alloc(*align, (bytes + *align - 1) / *align * *align);
+    return kind == 2 ? memalign(*align, bytes)
+                     : aligned_alloc(*align, (bytes + *align - 1) / *align * *align);
 }
 
 /* A block is asked for, or changed, or given back. */
@@ -123,7 +126,8 @@ static void random_calls(void)
         of_heap = of_heap && (held[k].at == NULL || is_of_heap(held[k].at));
     }
     expect(good, "random calls: each block has its alignment, its room and its bytes");
-    expect(of_heap && count > BLOCKS / 4 && live_blocks() == live + count, "each block is the heap's");
+    expect(of_heap && count > BLOCKS / 4 && live_blocks() == live + count,
+           "each block is the heap's");
     for (int k = 0; k < BLOCKS; k++) {
         free(held[k].at);
     }
@@ -141,15 +145,18 @@ static void refusals(void)
     errno = 0;
     one = (char *)realloc(kept, most);
     kept = one == NULL ? kept : one;
-    expect(one == NULL && errno == ENOMEM && strcmp(kept, "kept") == 0, "a refused realloc leaves the block");
+    expect(one == NULL && errno == ENOMEM && strcmp(kept, "kept") == 0,
+           "a refused realloc leaves the block");
     free(kept);
     errno = 0;
     expect(calloc(most, 3) == NULL && errno == ENOMEM, "so is a product that is too great");
     errno = 0;
-    expect(memalign(48, 1) == NULL && errno == EINVAL, "an alignment that is no power of two is refused, with EINVAL");
+    expect(memalign(48, 1) == NULL && errno == EINVAL,
+           "an alignment that is no power of two is refused, with EINVAL");
     free(NULL);
     size_t live = live_blocks();
-    expect(realloc(other, none) == NULL && live_blocks() == live - 1, "a realloc to 0 bytes gives the block back");
+    expect(realloc(other, none) == NULL && live_blocks() == live - 1,
+           "a realloc to 0 bytes gives the block back");
     other = (char *)realloc(NULL, 10);
     expect(is_of_heap(other), "a realloc of a null pointer is a malloc");
     free(other);
@@ -160,12 +167,14 @@ static void by_library(size_t before)
 {
     char *text = NULL, *copy = strdup("a copy");
     int length = asprintf(&text, "%s %d %.15f", copy, -42, 3.141592653589793);
-    expect(is_of_heap(copy) && is_of_heap(text) && length == 28 && strcmp(text, "a copy -42 3.141592653589793") == 0,
+    expect(is_of_heap(copy) && is_of_heap(text) && length == 28
+               && strcmp(text, "a copy -42 3.141592653589793") == 0,
            "strdup and asprintf take blocks of the heap");
     free(text);
     free(copy);
 #ifndef __PICOLIBC__
-    expect(live_blocks() > before && is_of_heap(stdout->_bf._base), "printf's buffer is a block of the heap");
+    expect(live_blocks() > before && is_of_heap(stdout->_bf._base),
+           "printf's buffer is a block of the heap");
 #else
     expect(live_blocks() == before, "printf has no buffer of the heap");
 #endif
@@ -188,6 +197,7 @@ int main(void)
     refusals();
     by_library(before);
     expect(tlsf_check(tlsf_libc_heap()) == 0, "the heap is whole at the end");
-    expect(unlocked == 0 && depth == 0 && locked > STEPS, "the lock is taken once for each call, and given back");
+    expect(unlocked == 0 && depth == 0 && locked > STEPS,
+           "the lock is taken once for each call, and given back");
     return cases_end();
 }

@@ -1,4 +1,5 @@
-// What of C++'s library takes memory, over c/rtos/libc_malloc.c: each block is the heap's, and all are given back.
+// What of C++'s library takes memory, over c/rtos/libc_malloc.c: each block is the heap's, and all
+// are given back.
 #include <cstdint>
 #include <cstdio>
 #include <map>
@@ -26,7 +27,8 @@ static void by_new()
     std::unique_ptr<Wide> wide(new Wide);
     std::unique_ptr<char[]> most(new (std::nothrow) char[SIZE_MAX / 4]);
     expect(is_of_heap(one.get()) && *one == 7, "new takes a block of the heap");
-    expect(is_of_heap(wide.get()) && reinterpret_cast<std::uintptr_t>(wide.get()) % 64 == 0, "also one that is aligned");
+    expect(is_of_heap(wide.get()) && reinterpret_cast<std::uintptr_t>(wide.get()) % 64 == 0,
+           "also one that is aligned");
     expect(most == nullptr, "what isn't there is refused");
 }
 
@@ -44,7 +46,8 @@ static void by_containers()
             sum += static_cast<std::size_t>(value);
         }
     }
-    expect(of_heap && readings.size() == 30 && sum == 299 * 300 / 2, "so do a map, its strings and its vectors");
+    expect(of_heap && readings.size() == 30 && sum == 299 * 300 / 2,
+           "so do a map, its strings and its vectors");
 }
 
 static void by_resource()
@@ -55,7 +58,8 @@ static void by_resource()
         names.emplace_back("a name that is longer than a string has room for");
     }
     std::pmr::vector<int> numbers(1000, 5, std::pmr::new_delete_resource());
-    expect(names.size() == 100 && names[99] == names[0] && is_of_heap(numbers.data()) && numbers[999] == 5,
+    expect(names.size() == 100 && names[99] == names[0] && is_of_heap(numbers.data())
+               && numbers[999] == 5,
            "so do the resources of std::pmr");
 }
 

@@ -1,6 +1,6 @@
-/* Threads on one heap, by a tlsf.c that is built with a lock: each has blocks of its own, with bytes
- * of its own, and now and then reads all. The lock says where a call takes it twice, or gives back
- * what it hasn't. */
+/* Threads on one heap, by a tlsf.c that is built with a lock: each has blocks of its own, with
+ * bytes of its own, and now and then reads all. The lock says where a call takes it twice, or gives
+ * back what it hasn't. */
 #define _GNU_SOURCE
 #include <pthread.h>
 #include <string.h>
@@ -51,7 +51,6 @@ static unsigned below(struct worker *worker, unsigned most)
     worker->seed = worker->seed * 1664525u + 1013904223u;
     return (worker->seed >> 8) % most;
 }
-
 
 static void see(void *ptr, size_t size, int used, void *user)
 {
@@ -207,7 +206,8 @@ static void each_call(void)
     tlsf_set_refusal_hook(heap, NULL, NULL);
     good = good && took(1);
     tlsf_destroy(heap);
-    expect(good && took(1) && !wrong, "each call takes the lock of its heap once, and gives it back");
+    expect(good && took(1) && !wrong,
+           "each call takes the lock of its heap once, and gives it back");
 }
 
 /* The heap, as before it was ended. */
@@ -250,7 +250,8 @@ static void ended_while_waiting(void)
         memcpy(&owner, memory, sizeof owner);
         none = none && owner == 0;
     }
-    expect(none && bytes == 0 && !wrong, "a heap that ends while a call waits for its lock has no blocks");
+    expect(none && bytes == 0 && !wrong,
+           "a heap that ends while a call waits for its lock has no blocks");
 }
 
 int main(void)

@@ -1,5 +1,6 @@
-/* A log by c/tlsf_log.c: random calls, whose lines are written where this program is told, beside those that it
- * reckons itself, and a ring that is too small. The word, where there is one, is a file that gets the lines. */
+/* A log by c/tlsf_log.c: random calls, whose lines are written where this program is told, beside
+ * those that it reckons itself, and a ring that is too small. The word, where there is one, is a
+ * file that gets the lines. */
 #include <stdarg.h>
 #include <stdint.h>
 #include <stdio.h>
@@ -63,7 +64,8 @@ static const char *shown(const void *ptr)
     static char text[2][24];
     static int turn;
     turn = !turn;
-    snprintf(text[turn], sizeof text[turn], ptr == NULL ? "(nil)" : "0x%lx", (unsigned long)(uintptr_t)ptr);
+    snprintf(text[turn], sizeof text[turn], ptr == NULL ? "(nil)" : "0x%lx",
+             (unsigned long)(uintptr_t)ptr);
     return text[turn];
 }
 
@@ -124,7 +126,8 @@ static void random_calls(tlsf_t heap)
     }
     tlsf_log_end();
     want("= End\n");
-    expect(same_lines() && puts > CALLS / 3, "each call's lines, in the words of mtrace(3), and each call's at once");
+    expect(same_lines() && puts > CALLS / 3,
+           "each call's lines, in the words of mtrace(3), and each call's at once");
     size_t before = told_bytes;
     tlsf_free(heap, tlsf_malloc(heap, 10));
     expect(told_bytes == before, "none before the log begins, nor behind its end");
@@ -137,7 +140,8 @@ static void random_calls(tlsf_t heap)
 static size_t taken_into(tlsf_log_ring *ring, char *text)
 {
     size_t length = 0;
-    for (size_t count = tlsf_log_take(ring, text, 7); count > 0; count = tlsf_log_take(ring, text + length, 7)) {
+    for (size_t count = tlsf_log_take(ring, text, 7); count > 0;
+         count = tlsf_log_take(ring, text + length, 7)) {
         length += count;
     }
     text[length] = 0;
@@ -154,21 +158,25 @@ static void ring(tlsf_t heap)
         void *block = tlsf_malloc(heap, 100);
         tlsf_free(heap, block);
         size_t length = taken_into(&own, text);
-        whole = whole && length > 0 && text[length - 1] == '\n' && strstr(text, " + 0x") != NULL && strstr(text, " - 0x") != NULL;
+        whole = whole && length > 0 && text[length - 1] == '\n' && strstr(text, " + 0x") != NULL
+                && strstr(text, " - 0x") != NULL;
     }
-    expect(whole && own.lost == 0, "a ring that is emptied in time loses nothing, and lines go round its end");
+    expect(whole && own.lost == 0,
+           "a ring that is emptied in time loses nothing, and lines go round its end");
     for (int k = 0; k < 50; k++) {
         tlsf_free(heap, tlsf_malloc(heap, 100));
     }
     size_t lost = own.lost;
     taken_into(&own, text);
-    expect(lost > 0 && lost < 100 && strstr(text, "lost") == NULL && text[strlen(text) - 1] == '\n', "a full ring keeps whole lines, and counts what it loses");
+    expect(lost > 0 && lost < 100 && strstr(text, "lost") == NULL && text[strlen(text) - 1] == '\n',
+           "a full ring keeps whole lines, and counts what it loses");
     tlsf_free(heap, tlsf_malloc(heap, 100));
     tlsf_log_end();
     char end[80];
     snprintf(end, sizeof end, "@ lost ! (nil) 0x%lx\n@ cut ! (nil) 0\n", (unsigned long)(lost + 1));
     taken_into(&own, text);
-    expect(strcmp(text, end) == 0 && own.lost == lost + 3, "then the log ends with how many were lost, and as one that is cut");
+    expect(strcmp(text, end) == 0 && own.lost == lost + 3,
+           "then the log ends with how many were lost, and as one that is cut");
 }
 
 int main(int count, char **words)
@@ -179,7 +187,8 @@ int main(int count, char **words)
 #ifdef __linux__
     if (count > 1) {
         FILE *file = fopen(words[1], "w");
-        expect(file != NULL && fwrite(told, 1, told_bytes, file) == told_bytes && fclose(file) == 0, "the log is written");
+        expect(file != NULL && fwrite(told, 1, told_bytes, file) == told_bytes && fclose(file) == 0,
+               "the log is written");
     }
 #else
     (void)count, (void)words;

@@ -1,7 +1,8 @@
-/* Threads that ask at once: each has some blocks, and each step frees one of its own and asks for another
- * of 1 to 512 bytes. All threads of all allocators make the same choices. Built with -DOVER_TLSF each
- * thread has a heap of tlsf.h without a lock, else malloc is whatever it is. The words are how many threads
- * there are, the blocks of each, and its calls. It writes the processor's nanoseconds a call. No test. */
+/* Threads that ask at once: each has some blocks, and each step frees one of its own and asks for
+ * another of 1 to 512 bytes. All threads of all allocators make the same choices. Built with
+ * -DOVER_TLSF each thread has a heap of tlsf.h without a lock, else malloc is whatever it is. The
+ * words are how many threads there are, the blocks of each, and its calls. It writes the
+ * processor's nanoseconds a call. No test. */
 #define _DEFAULT_SOURCE
 #include <pthread.h>
 #include <stdint.h>
@@ -82,6 +83,7 @@ int main(int argc, char **argv)
         pthread_join(threads[k], NULL);
     }
     clock_gettime(CLOCK_PROCESS_CPUTIME_ID, &taken);
-    printf("%.1f\n", ((double)taken.tv_sec * 1e9 + (double)taken.tv_nsec) / ((double)count * calls));
+    printf("%.1f\n",
+           ((double)taken.tv_sec * 1e9 + (double)taken.tv_nsec) / ((double)count * calls));
     return 0;
 }

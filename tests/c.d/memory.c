@@ -50,12 +50,18 @@ static void calls(tlsf_heap *heap)
     uint32_t bytes;
     uint64_t count;
     static unsigned char image[TLSF_HEAP_IMAGE_BYTES(1000)];
-    bool served = tlsf_heap_add_pool(heap, 0, 4096) == TLSF_OK && tlsf_heap_add_pool(heap, 8192, 64) == TLSF_OK;
-    served = tlsf_heap_malloc(heap, 100, &one) == TLSF_OK && tlsf_heap_memalign(heap, 256, 40, &other) == TLSF_OK && served;
-    served = tlsf_heap_realloc(heap, one, 2000, &third) == TLSF_OK && tlsf_heap_block_size(heap, third, &bytes) == TLSF_OK && served;
-    served = tlsf_heap_walk(heap, 0, 0, rows, 4, &count) == TLSF_OK && tlsf_heap_check(heap) && served;
-    served = tlsf_heap_save(heap, image, sizeof image, &count) == TLSF_OK && tlsf_heap_save(heap, image, 100, &count) == TLSF_NO_ROOM && served;
-    served = tlsf_heap_free(heap, third) == TLSF_OK && tlsf_heap_free(heap, other) == TLSF_OK && served;
+    bool served = tlsf_heap_add_pool(heap, 0, 4096) == TLSF_OK
+                  && tlsf_heap_add_pool(heap, 8192, 64) == TLSF_OK;
+    served = tlsf_heap_malloc(heap, 100, &one) == TLSF_OK
+             && tlsf_heap_memalign(heap, 256, 40, &other) == TLSF_OK && served;
+    served = tlsf_heap_realloc(heap, one, 2000, &third) == TLSF_OK
+             && tlsf_heap_block_size(heap, third, &bytes) == TLSF_OK && served;
+    served =
+        tlsf_heap_walk(heap, 0, 0, rows, 4, &count) == TLSF_OK && tlsf_heap_check(heap) && served;
+    served = tlsf_heap_save(heap, image, sizeof image, &count) == TLSF_OK
+             && tlsf_heap_save(heap, image, 100, &count) == TLSF_NO_ROOM && served;
+    served =
+        tlsf_heap_free(heap, third) == TLSF_OK && tlsf_heap_free(heap, other) == TLSF_OK && served;
     served = tlsf_heap_remove_pool(heap, 8192) == TLSF_OK && served;
     expect(served && tlsf_heap_free(heap, other) == TLSF_BAD_POINTER, "each call is made");
 }
@@ -66,25 +72,34 @@ static void loads(void)
     tlsf_heap heap = {0};
     uint64_t count;
     start(0);
-    expect(tlsf_heap_create(1000, &heap) == TLSF_OK && tlsf_heap_save(&heap, image, sizeof image, &count) == TLSF_OK, "a heap is saved");
+    expect(tlsf_heap_create(1000, &heap) == TLSF_OK
+               && tlsf_heap_save(&heap, image, sizeof image, &count) == TLSF_OK,
+           "a heap is saved");
     tlsf_heap_destroy(&heap);
     for (unsigned refused = 1; refused <= 2; refused++) {
         tlsf_heap none = {0};
         start(refused);
-        expect(tlsf_heap_load(image, sizeof image, &none) == TLSF_OUT_OF_MEMORY, refused == 1 ? "load, where the first is refused" : "load, where the second is refused");
-        expect(none.at == NULL && live == 0, "what out points to stays, and what it took is given back");
+        expect(tlsf_heap_load(image, sizeof image, &none) == TLSF_OUT_OF_MEMORY,
+               refused == 1 ? "load, where the first is refused"
+                            : "load, where the second is refused");
+        expect(none.at == NULL && live == 0,
+               "what out points to stays, and what it took is given back");
     }
     start(3);
-    expect(tlsf_heap_load(image, sizeof image, &heap) == TLSF_OK && takes == 2 && live == 2, "load takes memory twice");
+    expect(tlsf_heap_load(image, sizeof image, &heap) == TLSF_OK && takes == 2 && live == 2,
+           "load takes memory twice");
     calls(&heap);
     tlsf_heap_destroy(&heap);
-    expect(takes == 2 && returns == 2 && live == 0, "no other call takes any, and destroy gives both back");
+    expect(takes == 2 && returns == 2 && live == 0,
+           "no other call takes any, and destroy gives both back");
     start(0);
     image[0] = 0;
-    expect(tlsf_heap_load(image, sizeof image, &heap) == TLSF_BROKEN_MAGIC && takes == 0, "bytes that are no image take no memory");
+    expect(tlsf_heap_load(image, sizeof image, &heap) == TLSF_BROKEN_MAGIC && takes == 0,
+           "bytes that are no image take no memory");
 }
 
-/* A call that fills a handle forgets the heap that it held: that goes on by a copy of the handle. */
+/* A call that fills a handle forgets the heap that it held: that goes on by a copy of the
+ * handle. */
 static void forgotten(void)
 {
     static unsigned char image[TLSF_HEAP_IMAGE_BYTES(100)];
@@ -92,14 +107,21 @@ static void forgotten(void)
     tlsf_heap_block block = {0, 0};
     uint64_t count = 0;
     start(0);
-    bool served = tlsf_heap_create(100, &heap) == TLSF_OK && tlsf_heap_add_pool(&heap, 0, 4096) == TLSF_OK
-                  && tlsf_heap_malloc(&heap, 100, &block) == TLSF_OK && tlsf_heap_save(&heap, image, sizeof image, &count) == TLSF_OK;
+    bool served = tlsf_heap_create(100, &heap) == TLSF_OK
+                  && tlsf_heap_add_pool(&heap, 0, 4096) == TLSF_OK
+                  && tlsf_heap_malloc(&heap, 100, &block) == TLSF_OK
+                  && tlsf_heap_save(&heap, image, sizeof image, &count) == TLSF_OK;
     first = heap;
     served = served && tlsf_heap_create(100, &heap) == TLSF_OK;
-    expect(served && returns == 0 && live == 4 && heap.at != first.at, "create over a heap in use gives nothing back");
+    expect(served && returns == 0 && live == 4 && heap.at != first.at,
+           "create over a heap in use gives nothing back");
     second = heap;
-    expect(tlsf_heap_load(image, sizeof image, &heap) == TLSF_OK && returns == 0 && live == 6 && heap.at != second.at, "load over a heap in use gives nothing back");
-    expect(tlsf_heap_check(&first) && tlsf_heap_free(&first, block) == TLSF_OK && tlsf_heap_check(&second), "what was forgotten is whole");
+    expect(tlsf_heap_load(image, sizeof image, &heap) == TLSF_OK && returns == 0 && live == 6
+               && heap.at != second.at,
+           "load over a heap in use gives nothing back");
+    expect(tlsf_heap_check(&first) && tlsf_heap_free(&first, block) == TLSF_OK
+               && tlsf_heap_check(&second),
+           "what was forgotten is whole");
     tlsf_heap_destroy(&first);
     tlsf_heap_destroy(&second);
     tlsf_heap_destroy(&heap);
@@ -159,7 +181,8 @@ static bool loads_what_is_saved(uint32_t records, uint32_t pools)
     served = served && tlsf_heap_save(&heap, image, sizeof image, &length) == TLSF_OK;
     tlsf_heap_destroy(&heap);
     start(0);
-    if (!served || length != TLSF_HEAP_IMAGE_BYTES(records) || tlsf_heap_load(image, length, &other) != TLSF_OK) {
+    if (!served || length != TLSF_HEAP_IMAGE_BYTES(records)
+        || tlsf_heap_load(image, length, &other) != TLSF_OK) {
         return false;
     }
     served = has_taken(records) && tlsf_heap_check(&other);
@@ -175,12 +198,13 @@ static bool loads_what_is_saved(uint32_t records, uint32_t pools)
 
 static void many_loads(void)
 {
-    static const uint32_t counts[] = {1, 2, 7, 8, 9, 999, 1000, 8191, 8192, 8193, 12345, 20001,
-                                      32767, 32768, 65534, 65535};
+    static const uint32_t counts[] = {1,    2,    7,     8,     9,     999,   1000,  8191,
+                                      8192, 8193, 12345, 20001, 32767, 32768, 65534, 65535};
     for (size_t k = 0; k < sizeof counts / sizeof counts[0]; k++) {
         uint32_t pools = counts[k] < 8 ? counts[k] : 8;
         char name[64];
-        snprintf(name, sizeof name, "%u records, %u pools: saved and loaded", (unsigned)counts[k], (unsigned)pools);
+        snprintf(name, sizeof name, "%u records, %u pools: saved and loaded", (unsigned)counts[k],
+                 (unsigned)pools);
         expect(loads_what_is_saved(counts[k], pools), name);
     }
 }
@@ -198,7 +222,9 @@ int main(void)
     for (unsigned refused = 1; refused <= 2; refused++) {
         tlsf_heap none = {0};
         start(refused);
-        expect(tlsf_heap_create(1000, &none) == TLSF_OUT_OF_MEMORY, refused == 1 ? "create, where the first is refused" : "create, where the second is refused");
+        expect(tlsf_heap_create(1000, &none) == TLSF_OUT_OF_MEMORY,
+               refused == 1 ? "create, where the first is refused"
+                            : "create, where the second is refused");
         expect(none.at == NULL, "what out points to stays");
         expect(live == 0, "what it took is given back");
     }
@@ -208,7 +234,8 @@ int main(void)
     tlsf_heap_destroy(&heap);
     expect(live == 0, "and its end");
     start(0);
-    expect(tlsf_heap_create(0, &heap) == TLSF_BAD_COUNT && takes == 0, "a bad count takes no memory");
+    expect(tlsf_heap_create(0, &heap) == TLSF_BAD_COUNT && takes == 0,
+           "a bad count takes no memory");
     loads();
     forgotten();
     each_count();

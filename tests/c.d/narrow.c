@@ -24,7 +24,8 @@ static void room(void)
            "a tlsf_heap takes eight bytes, at a multiple of 8");
     memcpy(&there.heap, words, sizeof words);
     tlsf_heap_destroy(&there.heap);
-    expect(there.heap.at == NULL, "a heap of zeros, whose second four bytes are others, is destroyed");
+    expect(there.heap.at == NULL,
+           "a heap of zeros, whose second four bytes are others, is destroyed");
     expect(sizeof table == 2720, "the table of 64 records takes 2,720 bytes");
 }
 
@@ -34,7 +35,8 @@ static void in_little(void)
     tlsf_heap heap = {0};
     tlsf_heap_block block = {0, 0}, last = {0, 0};
     uint32_t served = 0, size = 0;
-    expect(sizeof table + sizeof pool + sizeof heap <= SMALL, "8 KB hold the heap, its table and its pool");
+    expect(sizeof table + sizeof pool + sizeof heap <= SMALL,
+           "8 KB hold the heap, its table and its pool");
     expect(tlsf_heap_create_in(table, sizeof table, RECORDS, &heap) == TLSF_OK
                && tlsf_heap_add_pool(&heap, 0, sizeof pool / 16 * 16) == TLSF_OK,
            "a heap of 64 records");
@@ -43,7 +45,8 @@ static void in_little(void)
         last = block;
     }
     expect(served == sizeof pool / 112, "it serves all of its pool");
-    expect(tlsf_heap_block_size(&heap, last, &size) == TLSF_OK && size == 112, "the size of the last block");
+    expect(tlsf_heap_block_size(&heap, last, &size) == TLSF_OK && size == 112,
+           "the size of the last block");
     last.slot ^= 1;
     expect(tlsf_heap_free(&heap, last) == TLSF_BAD_POINTER, "another slot is refused");
     last.slot ^= 1;
@@ -74,9 +77,11 @@ static void by_pointer(void)
     tlsf_t tlsf = tlsf_create_records(memory, sizeof memory, RECORDS);
     unsigned char *first = (unsigned char *)tlsf_malloc(tlsf, 100);
     unsigned char *second = (unsigned char *)tlsf_memalign(tlsf, 256, 100);
-    expect(first != NULL && second != NULL && (uintptr_t)first % 16 == 0 && (uintptr_t)second % 256 == 0,
+    expect(first != NULL && second != NULL && (uintptr_t)first % 16 == 0
+               && (uintptr_t)second % 256 == 0,
            "tlsf.h serves from 8 KB");
-    expect(tlsf_alloc_overhead() == 8 && tlsf_block_size(first) == 104 && tlsf_live_size(tlsf, first) == 104,
+    expect(tlsf_alloc_overhead() == 8 && tlsf_block_size(first) == 104
+               && tlsf_live_size(tlsf, first) == 104,
            "eight bytes stand in front");
     changed_bytes(tlsf);
     first[-3] ^= 1;
@@ -84,9 +89,11 @@ static void by_pointer(void)
     first[-3] ^= 1;
     memset(first, 7, 100);
     first = (unsigned char *)tlsf_realloc(tlsf, first, 2000);
-    expect(first != NULL && first[0] == 7 && first[99] == 7, "a block that moves takes its bytes along");
+    expect(first != NULL && first[0] == 7 && first[99] == 7,
+           "a block that moves takes its bytes along");
     expect(tlsf_malloc(tlsf, SIZE_MAX) == NULL && tlsf_malloc(tlsf, SIZE_MAX - 8) == NULL
-               && tlsf_realloc(tlsf, first, SIZE_MAX - 20) == NULL && tlsf_memalign(tlsf, 64, SIZE_MAX - 3) == NULL,
+               && tlsf_realloc(tlsf, first, SIZE_MAX - 20) == NULL
+               && tlsf_memalign(tlsf, 64, SIZE_MAX - 3) == NULL,
            "the greatest sizes are refused");
     expect(tlsf_add_pool(tlsf, memory + 16, SIZE_MAX) == NULL
                && tlsf_add_pool(tlsf, (void *)(uintptr_t)(UINTPTR_MAX - 63), 128) == NULL,
@@ -94,12 +101,14 @@ static void by_pointer(void)
     tlsf_free(tlsf, first);
     tlsf_free(tlsf, second);
     tlsf_free(tlsf, second);
-    expect(tlsf_stats(tlsf, &figures) == 0 && figures.blocks_live == 0 && figures.bytes_live == 0, "the figures at the end");
+    expect(tlsf_stats(tlsf, &figures) == 0 && figures.blocks_live == 0 && figures.bytes_live == 0,
+           "the figures at the end");
     expect(tlsf_check(tlsf) == 0 && figures.refusals[TLSF_REFUSED_NO_FIT] == 4
                && figures.refusals[TLSF_REFUSED_POINTER] == 1,
            "and the refusals");
     tlsf_destroy(tlsf);
-    expect(tlsf_create_with_pool(memory, 100) == NULL && tlsf_create_with_pool(memory, 0) == NULL, "too few bytes are refused");
+    expect(tlsf_create_with_pool(memory, 100) == NULL && tlsf_create_with_pool(memory, 0) == NULL,
+           "too few bytes are refused");
 }
 
 int main(void)

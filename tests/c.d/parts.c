@@ -1,7 +1,8 @@
 /* Parts of tlsf_parts.h: their bytes as constant expressions beside the definitions, what each call
  * refuses, and random programs that stay within random limits, in memory of just the bytes told.
  *
- *     parts [CALLS]    the calls of the random programs: without it 2,000,000, and 200,000 on a board */
+ *     parts [CALLS]    the calls of the random programs: without it 2,000,000, and 200,000 on a
+ *                      board */
 #include <stdlib.h>
 #include <string.h>
 
@@ -28,10 +29,11 @@ static uint64_t below(uint64_t bound)
 
 /* ---- the bytes ---- */
 
-/* 2,130 blocks of 80 bytes and 16 more for each record; the heap's 1,696, its start, twice 8, and a bit
- * for each block in 34 words of 8 bytes. */
+/* 2,130 blocks of 80 bytes and 16 more for each record; the heap's 1,696, its start, twice 8, and a
+ * bit for each block in 34 words of 8 bytes. */
 #define START (sizeof(void *) == 8 ? 368 : 336)
-_Static_assert(TLSF_PART_BYTES(64, 2130) == 2130 * (80 + 16) + 1696 + START + 16 + 34 * 8, "a part");
+_Static_assert(TLSF_PART_BYTES(64, 2130) == 2130 * (80 + 16) + 1696 + START + 16 + 34 * 8,
+               "a part");
 _Static_assert(TLSF_PART_BYTES(64, 64) - TLSF_PART_BYTES(64, 63) == 80 + 16
                    && TLSF_PART_BYTES(64, 65) - TLSF_PART_BYTES(64, 64) == 80 + 16 + 8,
                "a word for 64 blocks");
@@ -61,7 +63,7 @@ static uint64_t low(uint64_t class)
 static void bytes(void)
 {
     bool same = true;
-    for (uint64_t class = 1; class < CLASSES; class++) {
+    for (uint64_t class = 1; class < CLASSES; class ++) {
         same = same && TLSF_CLASS_SIZE(low(class)) == low(class)
                && TLSF_CLASS_SIZE(low(class - 1) + 16) == low(class);
     }
@@ -74,12 +76,13 @@ static void bytes(void)
                && TLSF_SIZE_RECORDS(blocks) == tlsf_size_records(blocks);
     }
     expect(same, "TLSF_SURE_BYTES and tlsf_sure_bytes tell the same of 100,000 programs");
-    expect(tlsf_parts_bytes(list, 3) == sizeof memory, "tlsf_parts_bytes tells what the macro does");
+    expect(tlsf_parts_bytes(list, 3) == sizeof memory,
+           "tlsf_parts_bytes tells what the macro does");
 }
 
 static bool is_bad(uint32_t count, tlsf_part first, tlsf_part second)
 {
-    const tlsf_part told[9] = {first, second, {3000, 1}, {4000, 1}, {5000, 1},
+    const tlsf_part told[9] = {first,     second,    {3000, 1}, {4000, 1}, {5000, 1},
                                {6000, 1}, {7000, 1}, {8000, 1}, {9000, 1}};
     return tlsf_parts_bytes(told, count) == 0
            && tlsf_parts_create(memory, sizeof memory, told, count) == NULL;
@@ -94,14 +97,16 @@ static void large_parts(void)
         five[k] = (tlsf_part){16777200u + k, 63};
         sum += TLSF_PART_BYTES(16777200u + k, 63);
     }
-    expect(tlsf_parts_bytes(five, 5) == (sizeof(size_t) == 8 ? sum : 0) && tlsf_parts_bytes(five, 1) != 0,
+    expect(tlsf_parts_bytes(five, 5) == (sizeof(size_t) == 8 ? sum : 0)
+               && tlsf_parts_bytes(five, 1) != 0,
            "parts whose bytes have no size_t can't be made");
 }
 
 static void bad_parts(void)
 {
     const tlsf_part one = {16, 1}, two = {32, 1};
-    expect(is_bad(0, one, two) && is_bad(9, one, two) && !is_bad(8, one, two), "one to eight parts");
+    expect(is_bad(0, one, two) && is_bad(9, one, two) && !is_bad(8, one, two),
+           "one to eight parts");
     expect(is_bad(2, two, one) && is_bad(2, one, one), "parts in order of size");
     expect(is_bad(1, (tlsf_part){0, 1}, two) && is_bad(1, (tlsf_part){16, 0}, two)
                && is_bad(2, one, (tlsf_part){32, 0}) && is_bad(1, (tlsf_part){16, 65536}, two),
@@ -225,7 +230,8 @@ static void bad_pointers(void)
     expect(sums, "bytes and an alignment that are above SIZE_MAX together");
     memset(large - 8, 1, 8);
     tlsf_parts_free(parts, large);
-    expect(was_told(TLSF_REFUSED_FRONT, large, 0) && tlsf_parts_check(parts) < 0, "a spoiled front");
+    expect(was_told(TLSF_REFUSED_FRONT, large, 0) && tlsf_parts_check(parts) < 0,
+           "a spoiled front");
 }
 
 /* A block that is free again, and then another's, with its pointer further on. */
@@ -234,7 +240,8 @@ static void stale_pointers(void)
     tlsf_parts *parts = of_list();
     unsigned char *stale = (unsigned char *)tlsf_parts_malloc(parts, 1500);
     tlsf_parts_free(parts, stale);
-    /* An alignment that the block's start hasn't, at most 512, and the bytes for which its part serves. */
+    /* An alignment that the block's start hasn't, at most 512, and the bytes for which its part
+     * serves. */
     size_t align = 32;
     while ((uintptr_t)stale % align == 0) {
         align *= 2;
@@ -242,18 +249,20 @@ static void stale_pointers(void)
     size_t bytes_asked = 1516 - align;
     unsigned char *aligned = (unsigned char *)tlsf_parts_aligned_alloc(parts, align, bytes_asked);
     memset(aligned, 7, tlsf_parts_live_size(parts, aligned));
-    expect(stale < aligned && aligned < stale + 1500 && told.count == 0, "an aligned block in its place");
+    expect(stale < aligned && aligned < stale + 1500 && told.count == 0,
+           "an aligned block in its place");
     tlsf_parts_free(parts, stale);
     expect(was_told(TLSF_REFUSED_POINTER, stale, 0) && tlsf_parts_live_size(parts, stale) == 0
                && tlsf_parts_realloc(parts, stale, 10) == NULL
                && was_told(TLSF_REFUSED_POINTER, stale, 10),
            "the stale pointer is refused");
     unsigned char *other = (unsigned char *)tlsf_parts_malloc(parts, 1500);
-    expect(other != NULL && (other + 1500 <= stale || stale + 1500 <= other)
-               && aligned[0] == 7 && aligned[bytes_asked - 1] == 7,
+    expect(other != NULL && (other + 1500 <= stale || stale + 1500 <= other) && aligned[0] == 7
+               && aligned[bytes_asked - 1] == 7,
            "the live block stays its own");
     tlsf_parts_free(parts, aligned);
-    expect(told.count == 0 && tlsf_parts_live_size(parts, aligned) == 0, "it is freed by its own pointer");
+    expect(told.count == 0 && tlsf_parts_live_size(parts, aligned) == 0,
+           "it is freed by its own pointer");
     unsigned char *again = (unsigned char *)tlsf_parts_malloc(parts, 1500);
     tlsf_parts_free(parts, aligned);
     expect(again == stale && was_told(TLSF_REFUSED_POINTER, aligned, 0)
@@ -273,7 +282,8 @@ static void hooks(void)
     tlsf_parts_set_refusal_hook(parts, tell, &first);
     tlsf_parts_set_refusal_hook(parts, tell, &second);
     bool none = tlsf_parts_malloc(parts, SIZE_MAX) == NULL;
-    expect(none && first.count == 0 && second.count == 1 && second.bytes == SIZE_MAX && told.count == 0,
+    expect(none && first.count == 0 && second.count == 1 && second.bytes == SIZE_MAX
+               && told.count == 0,
            "another user of the hook");
     tlsf_parts_set_refusal_hook(parts, NULL, NULL);
     expect(tlsf_parts_malloc(parts, SIZE_MAX) == NULL && second.count == 1, "no hook");
@@ -402,12 +412,12 @@ static bool resizes(tlsf_parts *parts, struct held *block)
         return at == NULL && was_told(TLSF_REFUSED_NO_FIT, NULL, size) && is_own(&old);
     }
     size_t kept = old.bytes < size ? old.bytes : size;
-    bool good = at != NULL && told.count == 0 && (uintptr_t)at % 8 == 0
-                && tlsf_parts_live_size(parts, at) >= size
-                && is_marked(at, 0, kept < 64 ? kept : 64, old.byte)
-                && (size < old.bytes
-                    || is_marked(at, old.bytes - (old.bytes < 64 ? old.bytes : 64), old.bytes,
-                                 old.byte));
+    bool good =
+        at != NULL && told.count == 0 && (uintptr_t)at % 8 == 0
+        && tlsf_parts_live_size(parts, at) >= size
+        && is_marked(at, 0, kept < 64 ? kept : 64, old.byte)
+        && (size < old.bytes
+            || is_marked(at, old.bytes - (old.bytes < 64 ? old.bytes : 64), old.bytes, old.byte));
     live[old.part]--;
     stale[below(STALE)] = old.at;
     if (good) {
@@ -448,8 +458,8 @@ static unsigned char *no_pointer(void)
     static unsigned char own[64];
     const struct held *block = &held[below(SLOTS)];
     uint64_t kind = below(8);
-    unsigned char *ptr = kind < 5 ? stale[below(STALE)]
-                         : kind == 5 ? own + 16 * below(4)
+    unsigned char *ptr = kind < 5            ? stale[below(STALE)]
+                         : kind == 5         ? own + 16 * below(4)
                          : block->at == NULL ? NULL
                                              : block->at + 1 + below(block->bytes + 1);
     return ptr == NULL || is_held(ptr) ? NULL : ptr;
@@ -470,7 +480,8 @@ static bool refuses(tlsf_parts *parts)
     }
     bool none = frees_it || tlsf_parts_realloc(parts, ptr, asked) == NULL;
     enum tlsf_refusal what = told.what == TLSF_REFUSED_FRONT ? told.what : TLSF_REFUSED_POINTER;
-    return none && was_told(what, ptr, frees_it ? 0 : asked) && tlsf_parts_live_size(parts, ptr) == 0;
+    return none && was_told(what, ptr, frees_it ? 0 : asked)
+           && tlsf_parts_live_size(parts, ptr) == 0;
 }
 
 /* The figures are those of the program. */

@@ -76,7 +76,8 @@ static void others(tlsf_parts_resource &resource)
     }
     expect(aligned && live(resource, 1) == 20, "lines at multiples of 256");
     void *page = resource.allocate(100, 8192);
-    expect(reinterpret_cast<std::uintptr_t>(page) % 8192 == 0 && live(resource, 2) == 2, "a block at a multiple of 8,192");
+    expect(reinterpret_cast<std::uintptr_t>(page) % 8192 == 0 && live(resource, 2) == 2,
+           "a block at a multiple of 8,192");
     resource.deallocate(page, 100, 8192);
 }
 

@@ -8,15 +8,9 @@
 enum { NIL = 65535, VACANT = 0, FREE = 1, LIVE = 2 };
 #define GREATEST 1073741808u
 
-static uint32_t size_of(const struct plain_record *r)
-{
-    return r->word & ~15u;
-}
+static uint32_t size_of(const struct plain_record *r) { return r->word & ~15u; }
 
-static uint32_t state_of(const struct plain_record *r)
-{
-    return r->word & 15u;
-}
+static uint32_t state_of(const struct plain_record *r) { return r->word & 15u; }
 
 static uint32_t class_of(uint32_t size)
 {
@@ -149,7 +143,8 @@ static bool is_free(const plain_heap *heap, uint16_t slot)
 
 static bool is_live(const plain_heap *heap, tlsf_heap_block block)
 {
-    return block.slot < heap->count && state_of(&heap->records[block.slot]) == LIVE && heap->records[block.slot].place == block.place;
+    return block.slot < heap->count && state_of(&heap->records[block.slot]) == LIVE
+           && heap->records[block.slot].place == block.place;
 }
 
 uint32_t plain_create(uint32_t records, plain_heap *heap)
@@ -171,18 +166,17 @@ uint32_t plain_create(uint32_t records, plain_heap *heap)
     return TLSF_OK;
 }
 
-void plain_destroy(plain_heap *heap)
-{
-    free(heap->records);
-}
+void plain_destroy(plain_heap *heap) { free(heap->records); }
 
 uint32_t plain_add_pool(plain_heap *heap, uint64_t base, uint64_t bytes)
 {
-    if (base % 16 != 0 || bytes % 16 != 0 || bytes == 0 || bytes > GREATEST || base + bytes > 1ull << 32) {
+    if (base % 16 != 0 || bytes % 16 != 0 || bytes == 0 || bytes > GREATEST
+        || base + bytes > 1ull << 32) {
         return TLSF_BAD_POOL;
     }
     for (uint32_t k = 0; k < heap->pool_count; k++) {
-        if (base < heap->pools[k].base + heap->pools[k].bytes && heap->pools[k].base < base + bytes) {
+        if (base < heap->pools[k].base + heap->pools[k].bytes
+            && heap->pools[k].base < base + bytes) {
             return TLSF_BAD_POOL;
         }
     }
@@ -288,7 +282,8 @@ uint32_t plain_free(plain_heap *heap, tlsf_heap_block block)
     return TLSF_OK;
 }
 
-uint32_t plain_realloc(plain_heap *heap, tlsf_heap_block block, uint64_t bytes, tlsf_heap_block *out)
+uint32_t plain_realloc(plain_heap *heap, tlsf_heap_block block, uint64_t bytes,
+                       tlsf_heap_block *out)
 {
     if (!is_live(heap, block)) {
         return TLSF_BAD_POINTER;

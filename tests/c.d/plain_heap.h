@@ -33,6 +33,7 @@ uint32_t plain_add_pool(plain_heap *heap, uint64_t base, uint64_t bytes);
 uint32_t plain_malloc(plain_heap *heap, uint64_t bytes, tlsf_heap_block *out);
 uint32_t plain_memalign(plain_heap *heap, uint64_t align, uint64_t bytes, tlsf_heap_block *out);
 uint32_t plain_free(plain_heap *heap, tlsf_heap_block block);
-uint32_t plain_realloc(plain_heap *heap, tlsf_heap_block block, uint64_t bytes, tlsf_heap_block *out);
+uint32_t plain_realloc(plain_heap *heap, tlsf_heap_block block, uint64_t bytes,
+                       tlsf_heap_block *out);
 
 #endif

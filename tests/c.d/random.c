@@ -214,7 +214,8 @@ static uint32_t model_realloc(tlsf_heap_block block, uint64_t bytes, uint64_t *p
 
 static uint32_t model_add_pool(uint64_t base, uint64_t bytes)
 {
-    if (base % 16 != 0 || bytes % 16 != 0 || bytes < 16 || bytes > GREATEST_SIZE || base > END_OF_PLACES || base + bytes > END_OF_PLACES) {
+    if (base % 16 != 0 || bytes % 16 != 0 || bytes < 16 || bytes > GREATEST_SIZE
+        || base > END_OF_PLACES || base + bytes > END_OF_PLACES) {
         return TLSF_BAD_POOL;
     }
     for (uint64_t k = 0; k < pool_count; k++) {
@@ -244,7 +245,8 @@ static uint32_t model_remove_pool(uint64_t base)
     for (uint64_t k = 0; k < pool_count; k++) {
         if (pools[k][0] == base) {
             for (uint64_t at = 0; at < count; at++) {
-                if (blocks[at].place == base && blocks[at].size == pools[k][1] && !blocks[at].live) {
+                if (blocks[at].place == base && blocks[at].size == pools[k][1]
+                    && !blocks[at].live) {
                     erase(at);
                     pools[k][0] = pools[pool_count - 1][0];
                     pools[k][1] = pools[--pool_count][1];
@@ -351,7 +353,8 @@ static bool ask_for_free(void)
     tlsf_heap_block block = some_block();
     uint32_t size = 0xdeadbeef, status = tlsf_heap_block_size(&heap, block, &size);
     uint64_t at = find_live(block);
-    if (status != (at == count ? TLSF_BAD_POINTER : TLSF_OK) || size != (at == count ? 0xdeadbeef : blocks[at].size)) {
+    if (status != (at == count ? TLSF_BAD_POINTER : TLSF_OK)
+        || size != (at == count ? 0xdeadbeef : blocks[at].size)) {
         return false;
     }
     status = tlsf_heap_free(&heap, block);
@@ -385,11 +388,13 @@ static bool is_in_pieces(uint64_t base, const tlsf_heap_row *rows, uint64_t all)
     size_t room = 1 + calls % 5;
     uint64_t from = base, seen = 0, left = 0;
     do {
-        if (tlsf_heap_walk(&heap, base, from, piece, room, &left) != TLSF_OK || seen + left != all) {
+        if (tlsf_heap_walk(&heap, base, from, piece, room, &left) != TLSF_OK
+            || seen + left != all) {
             return false;
         }
         for (size_t k = 0; k < room && left > 0; k++, left--, seen++) {
-            if (piece[k].place != rows[seen].place || piece[k].size != rows[seen].size || piece[k].used != rows[seen].used) {
+            if (piece[k].place != rows[seen].place || piece[k].size != rows[seen].size
+                || piece[k].used != rows[seen].used) {
                 return false;
             }
             from = (uint64_t)piece[k].place + piece[k].size;
@@ -413,7 +418,8 @@ static bool agrees(void)
         }
         for (uint64_t row = 0; row < given; row++) {
             struct block *block = &blocks[at + row];
-            if (rows[row].place != block->place || rows[row].size != block->size || rows[row].used != block->live || block->pool != pools[k][0]) {
+            if (rows[row].place != block->place || rows[row].size != block->size
+                || rows[row].used != block->live || block->pool != pools[k][0]) {
                 return false;
             }
         }
@@ -425,7 +431,8 @@ static bool agrees(void)
     return seen == count && tlsf_heap_check(&heap);
 }
 
-/* Each block of the model has a record, and the largest request is the lowest size of the greatest class with a free one. */
+/* Each block of the model has a record, and the largest request is the lowest size of the greatest
+ * class with a free one. */
 static bool figures_agree(void)
 {
     uint64_t largest = 0;
@@ -450,7 +457,10 @@ static bool run(uint64_t seed, uint64_t how_many)
     for (uint64_t k = 0; k < how_many && good; k++) {
         uint64_t kind = below(40);
         calls++;
-        good = kind < 18 ? ask_for_block() : kind < 30 ? ask_for_free() : kind < 37 ? ask_for_realloc() : ask_for_pool();
+        good = kind < 18   ? ask_for_block()
+               : kind < 30 ? ask_for_free()
+               : kind < 37 ? ask_for_realloc()
+                           : ask_for_pool();
         good = good && agrees() && figures_agree();
     }
     tlsf_heap_destroy(&heap);

@@ -1,5 +1,6 @@
-/* What a heap takes for itself, and for a block of each size: one line, for the table of docs/C.md. A block takes what lies between
- * it and the next, and its record. Built with HEAP it is tlsf_heap.h's, with CONTE that of Conte's tlsf.c, else tlsf.h's. */
+/* What a heap takes for itself, and for a block of each size: one line, for the table of
+ * c/bounds.txt. A block takes what lies between it and the next, and its record. Built with HEAP it
+ * is tlsf_heap.h's, with CONTE that of Conte's tlsf.c, else tlsf.h's. */
 #include <stdint.h>
 #include <stdio.h>
 
@@ -19,7 +20,9 @@ static int make(void)
 static uintptr_t ask(size_t bytes)
 {
     tlsf_heap_block block = {0, 0};
-    return tlsf_heap_malloc(&heap, bytes, &block) == TLSF_OK ? (uintptr_t)tlsf_heap_address(memory, block) : 0;
+    return tlsf_heap_malloc(&heap, bytes, &block) == TLSF_OK
+               ? (uintptr_t)tlsf_heap_address(memory, block)
+               : 0;
 }
 #else
 #include "tlsf.h"

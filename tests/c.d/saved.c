@@ -1,6 +1,8 @@
-/* Writes the image of a heap of two pools with live blocks and free ones to standard output, by tlsf_save. With the word `spoiled` its last byte is
- * another: that of a link of the last record, which a block has. So the link is none of a record. With the word `dump` it writes
- * the memory in which the heap lies. Built with -DBOARD it writes the three to the board's console, each as a line in hex. */
+/* Writes the image of a heap of two pools with live blocks and free ones to standard output, by
+ * tlsf_save. With the word `spoiled` its last byte is another: that of a link of the last record,
+ * which a block has. So the link is none of a record. With the word `dump` it writes the memory in
+ * which the heap lies. Built with -DBOARD it writes the three to the board's console, each as a
+ * line in hex. */
 #include <stdbool.h>
 #include <stdio.h>
 #include <string.h>
@@ -10,11 +12,13 @@
 enum { RECORDS = 40, BYTES = 4096, HEAD = 280 };
 static _Alignas(16) unsigned char memory[BYTES], image[BYTES], more[512];
 
-/* How long the image is, or 0. Two blocks of 200 bytes were in one list, and one of them is live again. */
+/* How long the image is, or 0. Two blocks of 200 bytes were in one list, and one of them is live
+ * again. */
 static size_t save(void)
 {
     tlsf_t heap = tlsf_create_records(memory, sizeof memory, RECORDS);
-    void *one = tlsf_malloc(heap, 100), *two = tlsf_malloc(heap, 200), *three = tlsf_malloc(heap, 20);
+    void *one = tlsf_malloc(heap, 100), *two = tlsf_malloc(heap, 200),
+         *three = tlsf_malloc(heap, 20);
     void *four = tlsf_malloc(heap, 200), *five = tlsf_malloc(heap, 300);
     pool_t other = tlsf_add_pool(heap, more, sizeof more);
     tlsf_free(heap, two);

@@ -1,6 +1,6 @@
-/* How large a pool is always enough: the functions of tlsf_heap.h and tlsf.h beside the definitions,
- * an order of requests that is refused on just the bytes of a bound and served on 16 more, and
- * random programs that stay within their limits, some of them made to fragment. */
+/* How large a pool is always enough: the functions of tlsf_heap.h and tlsf.h beside the
+ * definitions, an order of requests that is refused on just the bytes of a bound and served on 16
+ * more, and random programs that stay within their limits, some of them made to fragment. */
 #include <stdlib.h>
 #include <string.h>
 
@@ -32,7 +32,7 @@ static uint64_t low(uint64_t class)
 static uint64_t wanted_class_size(uint64_t align, uint64_t bytes)
 {
     uint64_t asked = (bytes + 15) / 16 * 16 + (align > 16 ? align - 16 : 0);
-    for (uint64_t class = 0; class < CLASSES && bytes > 0 && bytes <= 1073741808; class++) {
+    for (uint64_t class = 0; class < CLASSES && bytes > 0 && bytes <= 1073741808; class ++) {
         if (low(class) >= asked) {
             return low(class);
         }
@@ -51,13 +51,13 @@ static void class_sizes(void)
     }
     expect(same, "the class sizes of 100,000 requests");
     same = true;
-    for (uint64_t class = 1; class < CLASSES; class++) {
+    for (uint64_t class = 1; class < CLASSES; class ++) {
         same = same && tlsf_heap_class_size(1, low(class)) == low(class)
                && tlsf_heap_class_size(1, low(class) - 15) == low(class);
     }
     expect(same, "each class's own");
     same = true;
-    for (uint64_t class = 1; class < CLASSES; class++) {
+    for (uint64_t class = 1; class < CLASSES; class ++) {
         uint64_t next = class + 1 < CLASSES ? low(class + 1) : TLSF_HEAP_GREATEST + 16;
         same = same && tlsf_heap_class_step(low(class)) == next - low(class)
                && tlsf_heap_class_step(next - 16) == next - low(class)
@@ -82,11 +82,14 @@ static void sure_pools(void)
     same = true;
     for (int k = 0; k < VALUES; k++) {
         uint64_t blocks = below(1000), bytes = any_size() / 2, size = low(1 + below(CLASSES / 2));
-        uint64_t refusing = bytes + (blocks + 1) * (size - 16), pool = tlsf_heap_sure_pool(blocks, bytes, (uint32_t)size);
+        uint64_t refusing = bytes + (blocks + 1) * (size - 16),
+                 pool = tlsf_heap_sure_pool(blocks, bytes, (uint32_t)size);
         bool small = refusing < 1073741808;
-        same = same && (small ? pool % 16 == 0 && pool > refusing && pool <= refusing + 16 : pool == 0);
+        same = same
+               && (small ? pool % 16 == 0 && pool > refusing && pool <= refusing + 16 : pool == 0);
     }
-    expect(same, "the sure pools of 100,000 programs are the least multiples of 16 above what refuses");
+    expect(same,
+           "the sure pools of 100,000 programs are the least multiples of 16 above what refuses");
     same = tlsf_heap_sure_pool(32767, 16, 16) == 0 && tlsf_heap_sure_pool(1, 16, 0) == 0
            && tlsf_heap_sure_pool(1, 1073741808, 16) == 0
            && tlsf_heap_sure_pool(1, UINT64_MAX, 16) == 0
@@ -182,8 +185,8 @@ static bool is_served(unsigned char *memory)
     return served;
 }
 
-/* The pool of a heap in just tlsf_sure_bytes has the bytes that the law of a sure pool asks for, and
- * at most a unit more. A block has 8 bytes in front, which take it to the next unit at most. */
+/* The pool of a heap in just tlsf_sure_bytes has the bytes that the law of a sure pool asks for,
+ * and at most a unit more. A block has 8 bytes in front, which take it to the next unit at most. */
 static bool has_sure_pool(unsigned char *memory)
 {
     tlsf_figures figures;
@@ -191,8 +194,8 @@ static bool has_sure_pool(unsigned char *memory)
     size_t largest = 1 + below(30000), bytes = 16 * below(200000);
     uint64_t class_size = wanted_class_size(1, largest + 8);
     uint64_t pool = bytes + 16 * (uint64_t)blocks + (blocks + 1) * (class_size - 16) + 16;
-    tlsf_t tlsf = tlsf_create_records(memory + 8 * below(2), tlsf_sure_bytes(blocks, bytes, largest),
-                                      2 * blocks + 3);
+    tlsf_t tlsf = tlsf_create_records(memory + 8 * below(2),
+                                      tlsf_sure_bytes(blocks, bytes, largest), 2 * blocks + 3);
     bool good = tlsf_stats(tlsf, &figures) == 0 && figures.bytes_free >= pool
                 && figures.bytes_free <= pool + 16 && figures.records == 2 * blocks + 3;
     tlsf_destroy(tlsf);
@@ -215,7 +218,8 @@ static void sure_bytes(void)
 static bool is_served_in_holes(unsigned char *memory, uint32_t blocks, size_t small, size_t large)
 {
     void *live[MOST_LIVE];
-    tlsf_t tlsf = tlsf_create_records(memory, tlsf_sure_bytes(blocks, blocks * large, large), 2 * blocks + 3);
+    tlsf_t tlsf =
+        tlsf_create_records(memory, tlsf_sure_bytes(blocks, blocks * large, large), 2 * blocks + 3);
     bool served = tlsf != NULL;
     for (uint32_t k = 0; served && k < blocks; k++) {
         live[k] = tlsf_malloc(tlsf, small);

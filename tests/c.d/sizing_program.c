@@ -71,7 +71,8 @@ static void wanted_text(struct bounds bounds, char *text, size_t room)
 }
 
 /* Puts an option and its number behind the words so far. */
-static void put_option(char **words, char numbers[][LONGEST], int *count, char *option, uint64_t number)
+static void put_option(char **words, char numbers[][LONGEST], int *count, char *option,
+                       uint64_t number)
 {
     snprintf(numbers[*count], LONGEST, "%llu", (unsigned long long)number);
     words[*count + 1] = numbers[*count];
@@ -105,7 +106,7 @@ static bool run_program(char *program, struct bounds bounds, char *text, size_t 
     posix_spawn_file_actions_destroy(&actions);
     close(ends[1]);
     size_t got = 0;
-    for (ssize_t more = 1; made && more > 0 && got < room - 1; got += more > 0 ? (size_t)more : 0) {
+    for (ssize_t more = 1; made && more > 0 && got<room - 1; got += more> 0 ? (size_t)more : 0) {
         more = read(ends[0], text + got, room - 1 - got);
     }
     text[got] = 0;
@@ -124,7 +125,8 @@ static bool agree(char *program, uint64_t seed, long many)
         if (!run_program(program, bounds, told, sizeof told) || strcmp(wanted, told) != 0) {
             printf("blocks %llu, largest %llu, bytes %llu, align %llu:\n%s and not\n%s",
                    (unsigned long long)bounds.blocks, (unsigned long long)bounds.largest,
-                   (unsigned long long)bounds.bytes, (unsigned long long)bounds.align, told, wanted);
+                   (unsigned long long)bounds.bytes, (unsigned long long)bounds.align, told,
+                   wanted);
             return false;
         }
     }

@@ -20,10 +20,7 @@ struct rattle_tried rattle_alloc(size_t bytes, size_t align)
     return some;
 }
 
-void rattle_dealloc(unsigned char *p)
-{
-    (void)p;
-}
+void rattle_dealloc(unsigned char *p) { (void)p; }
 
 static uint32_t seed;
 
@@ -111,7 +108,9 @@ int main(void)
         tlsf_heap heap = {0};
         struct run before = {0}, after;
         taken = 0;
-        bool made = tlsf_heap_create(RECORDS, &heap) == TLSF_OK && tlsf_heap_add_pool(&heap, 0, 4096) == TLSF_OK && tlsf_heap_add_pool(&heap, 8192, 1024) == TLSF_OK;
+        bool made = tlsf_heap_create(RECORDS, &heap) == TLSF_OK
+                    && tlsf_heap_add_pool(&heap, 0, 4096) == TLSF_OK
+                    && tlsf_heap_add_pool(&heap, 8192, 1024) == TLSF_OK;
         calls(&heap, &before, round, CALLS);
         expect(made && tlsf_heap_check(&heap), "a heap that was in use is whole");
         memcpy(kept, memory, sizeof memory);
@@ -121,7 +120,8 @@ int main(void)
         for (size_t at = 0; at < (size_t)RECORDS * RECORD; at++) {
             told = byte_is_told(&heap, &before, after.answers, at) && told;
         }
-        expect(told, "check tells each spoiled byte that means something, and later calls don't see the others");
+        expect(told, "check tells each spoiled byte that means something, and later calls don't "
+                     "see the others");
     }
     return cases_end();
 }

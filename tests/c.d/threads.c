@@ -33,12 +33,14 @@ static void *make(void *name)
     for (unsigned round = 0; round < ROUNDS; round++) {
         tlsf_heap in = {0}, of_malloc = {0};
         uint64_t count = 0;
-        good = good && tlsf_heap_create_in(tables[k], BYTES, RECORDS, &in) == TLSF_OK && is_in(&in, k);
+        good =
+            good && tlsf_heap_create_in(tables[k], BYTES, RECORDS, &in) == TLSF_OK && is_in(&in, k);
         good = good && tlsf_heap_create(RECORDS, &of_malloc) == TLSF_OK && !is_in(&of_malloc, k);
         good = good && works(&in) && works(&of_malloc);
         good = good && tlsf_heap_save(&of_malloc, image, sizeof image, &count) == TLSF_OK;
         tlsf_heap_destroy(&in);
-        good = good && tlsf_heap_load_in(tables[k], BYTES, image, count, &in) == TLSF_OK && is_in(&in, k);
+        good = good && tlsf_heap_load_in(tables[k], BYTES, image, count, &in) == TLSF_OK
+               && is_in(&in, k);
         good = good && tlsf_heap_check(&in);
         tlsf_heap_destroy(&in);
         tlsf_heap_destroy(&of_malloc);

@@ -1,4 +1,5 @@
-/* The lines of docs/C.md over tlsf.h: a block that is freed twice, and what the heap tells of it. */
+/* The lines of docs/C.md over tlsf.h: a block that is freed twice, and what the heap tells of
+ * it. */
 #include <stdio.h>
 
 #include "tlsf.h"

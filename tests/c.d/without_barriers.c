@@ -1,6 +1,7 @@
-/* Runs a program where the kernel refuses membarrier: without_barriers PROGRAM WORD... Without words it is
- * a program on libtlsf_malloc.so itself that refuses it later, once a lock leans to a thread. What
- * another thread then frees can't be taken from under that lock, so the process ends. */
+/* Runs a program where the kernel refuses membarrier: without_barriers PROGRAM WORD... Without
+ * words it is a program on libtlsf_malloc.so itself that refuses it later, once a lock leans to a
+ * thread. What another thread then frees can't be taken from under that lock, so the process
+ * ends. */
 #define _GNU_SOURCE
 #include <errno.h>
 #include <linux/filter.h>
@@ -24,7 +25,8 @@ static int refuse_barriers(void)
         BPF_STMT(BPF_RET | BPF_K, SECCOMP_RET_ALLOW),
     };
     struct sock_fprog filter = {sizeof lines / sizeof lines[0], lines};
-    return prctl(PR_SET_NO_NEW_PRIVS, 1, 0, 0, 0) != 0 || prctl(PR_SET_SECCOMP, SECCOMP_MODE_FILTER, &filter) != 0;
+    return prctl(PR_SET_NO_NEW_PRIVS, 1, 0, 0, 0) != 0
+           || prctl(PR_SET_SECCOMP, SECCOMP_MODE_FILTER, &filter) != 0;
 }
 
 static void *give_back(void *block)

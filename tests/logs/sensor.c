@@ -4,7 +4,8 @@
 #include <stdlib.h>
 #include <string.h>
 
-int main(void) {
+int main(void)
+{
     mtrace();
     char *name = strdup("sensor-7");
     int *readings = malloc(10 * sizeof *readings);

@@ -1,12 +1,14 @@
-"""Logs of servers, planted: `record` keeps a block of each eighth request, `put` is a cache that is emptied again and again, and `parse`
-frees what it takes. One of them has a burst of `record`, too. Who grows, and to what, is told by the plant."""
+"""Logs of servers, planted: `record` keeps a block of each eighth request, `put` is a cache that is
+emptied again and again, and `parse` frees what it takes. One of them has a burst of `record`, too.
+Who grows, and to what, is told by the plant."""
 import re
 
 KEPT, CACHED = 40, 900
 
 
 class Server:
-    """A log, line by line; and what `record` holds after each of its lines, the first of which is line 0."""
+    """A log, line by line; and what `record` holds after each of its lines, the first of which is
+    line 0."""
 
     def __init__(self):
         self.lines, self.recorded = [], [0]
@@ -23,7 +25,8 @@ class Server:
         return self.taken
 
     def serve(self, number, tooth):
-        """One request. The cache is emptied, but for a block, when it holds as many as a tooth has."""
+        """One request. The cache is emptied, but for a block, when it holds as many as a tooth
+        has."""
         parsed = self.ask("parse", 300 + number % 7)
         if number % 8 == 0:
             self.records.append(self.ask("record", KEPT))
@@ -72,7 +75,8 @@ def killed_server():
 
 
 def running_server():
-    """Its log is still written, and its cache is nearly full: its last tenth of lines is the upper part of a tooth."""
+    """Its log is still written, and its cache is nearly full: its last tenth of lines is the upper
+    part of a tooth."""
     server = Server()
     for number in range(1190):
         server.serve(number, 300)
@@ -80,7 +84,8 @@ def running_server():
 
 
 def bursting_server():
-    """Between its requests 300 and 600 `record` holds a hundred blocks more, so that what it holds falls behind them."""
+    """Between its requests 300 and 600 `record` holds a hundred blocks more, so that what it holds
+    falls behind them."""
     server = Server()
     for number in range(1200):
         server.serve(number, 90)
@@ -92,21 +97,24 @@ def bursting_server():
     return server
 
 
-SERVERS = {"a server that shuts down": shut_down_server, "a server that is killed": killed_server, "a server that runs": running_server,
-           "a server with a burst": bursting_server}
+SERVERS = {"a server that shuts down": shut_down_server, "a server that is killed": killed_server,
+           "a server that runs": running_server, "a server with a burst": bursting_server}
 TOLD = re.compile(r"(?:Until line ([\d,]+), where the program begins to give back what it holds: )?"
                   r"record: from ([\d,]+) bytes early on to ([\d,]+)( at the end)?\.")
 
 
 def is_told(told, server):
-    """Whether a head tells `record` alone, and what it holds behind a tenth of the lines, and at the end. Of a server that shuts down it
-    tells what is held where it begins to: at the last line drawn before, or the one before that."""
+    """Whether a head tells `record` alone, and what it holds behind a tenth of the lines, and at
+    the end. Of a server that shuts down it tells what is held where it begins to: at the last line
+    drawn before, or the one before that."""
     found = TOLD.fullmatch(told)
     if not found:
         return False
     until, early, most = (number and int(number.replace(",", "")) for number in found.groups()[:3])
     step, last = -(-len(server.lines) // 200), server.served or len(server.lines)
-    is_early = server.recorded[(last - 2 * step) // 10] <= early <= server.recorded[last // 10 + step]
+    is_early = server.recorded[(last - 2 * step) // 10] <= early <= server.recorded[last // 10
+                                                                                    + step]
     if server.served is None:
         return is_early and until is None and found[4] is not None and most == server.recorded[-1]
-    return is_early and found[4] is None and until is not None and last - 2 * step <= until <= last and most == server.recorded[until]
+    return (is_early and found[4] is None and until is not None and last - 2 * step <= until <= last
+            and most == server.recorded[until])

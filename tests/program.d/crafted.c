@@ -1,7 +1,9 @@
-/* crafted WHAT HASHER LINES BITS: a log of so many lines that slows a hash map whose seed is fixed. WHAT is `addresses`, each held
- * at its own address, or `locations`, each asked for at its own location. The hash of each has the same lowest bits, so that all are
- * looked for from one place of the map on. HASHER is one of the kit's two: `fold`, or `sip`, which is SipHash-1-3, with keys of 0. It
- * takes the eight bytes of an address, or the bytes of a location, and the map puts both halves of its 64 bits over each other. */
+/* crafted WHAT HASHER LINES BITS: a log of so many lines that slows a hash map whose seed is fixed.
+ * WHAT is `addresses`, each held at its own address, or `locations`, each asked for at its own
+ * location. The hash of each has the same lowest bits, so that all are looked for from one place of
+ * the map on. HASHER is one of the kit's two: `fold`, or `sip`, which is SipHash-1-3, with keys of
+ * 0. It takes the eight bytes of an address, or the bytes of a location, and the map puts both
+ * halves of its 64 bits over each other. */
 #include <stdint.h>
 #include <stdio.h>
 #include <stdlib.h>
@@ -29,7 +31,8 @@ static void take(uint64_t v[4], uint64_t word)
 /* SipHash-1-3 of some bytes. */
 static uint64_t sip(const unsigned char *bytes, size_t length)
 {
-    uint64_t v[4] = {0x736f6d6570736575, 0x646f72616e646f6d, 0x6c7967656e657261, 0x7465646279746573};
+    uint64_t v[4] = {0x736f6d6570736575, 0x646f72616e646f6d, 0x6c7967656e657261,
+                     0x7465646279746573};
     uint64_t word = 0;
     for (size_t at = 0; at + 8 <= length; at += 8) {
         memcpy(&word, bytes + at, 8);
@@ -67,7 +70,8 @@ static uint64_t fold(const unsigned char *bytes, size_t length)
     state += length;
     for (size_t at = 0; length - at > 16; at += 16)
         state = folded(word_at(bytes + at) ^ state, word_at(bytes + at + 8) ^ MULTIPLIER);
-    return folded(word_at(bytes + (length > 16 ? length - 16 : 0)) ^ state, word_at(bytes + length - 8) ^ MULTIPLIER);
+    return folded(word_at(bytes + (length > 16 ? length - 16 : 0)) ^ state,
+                  word_at(bytes + length - 8) ^ MULTIPLIER);
 }
 
 int main(int count, char **words)
@@ -81,10 +85,13 @@ int main(int count, char **words)
     for (uint64_t number = 1; left > 0; number++) {
         uint64_t address = 4096 + 16 * number;
         char text[40];
-        int length = locations ? snprintf(text, sizeof text, "./p:[0x%llx]", (unsigned long long)number) : 8;
-        uint64_t hash = hasher(locations ? (unsigned char *)text : (unsigned char *)&address, (size_t)length);
+        int length =
+            locations ? snprintf(text, sizeof text, "./p:[0x%llx]", (unsigned long long)number) : 8;
+        uint64_t hash =
+            hasher(locations ? (unsigned char *)text : (unsigned char *)&address, (size_t)length);
         if (((hash ^ hash >> 32) & mask) == 0) {
-            printf("@ %s + 0x%llx 0x10\n", locations ? text : "./p:[0x1]", (unsigned long long)address);
+            printf("@ %s + 0x%llx 0x10\n", locations ? text : "./p:[0x1]",
+                   (unsigned long long)address);
             left--;
         }
     }

@@ -1,8 +1,9 @@
-"""growing.py PROGRAM TOOLS: whether the processor time of each report grows with the lines, and that of source-lines and page in TOOLS,
-which name locations and draw.
+"""growing.py PROGRAM TOOLS: whether the processor time of each report grows with the lines, and
+that of source-lines and page in TOOLS, which name locations and draw.
 
-For each kind of log, one with four times the lines may take MOST times as long. What looks at all that came before at each
-line takes sixteen times as long. Prints a line for each report of each kind, `KIND REPORT: as it should`, or how many times."""
+For each kind of log, one with four times the lines may take MOST times as long. What looks at all
+that came before at each line takes sixteen times as long. Prints a line for each report of each
+kind, `KIND REPORT: as it should`, or how many times."""
 import os
 import subprocess
 import sys
@@ -16,8 +17,9 @@ LINES, MOST, ROUNDS = 40_000, 9, 2
 LINES_OF_PAGE = 4_000
 # Less isn't measured well.
 LEAST_SECONDS = 0.01
-REPORTS = ["leaks --no-heap", "peak --no-heap", "sites", "sites --calls", "timeline --points 10000", "fit --heaps 4",
-           "leaks --records 65535", "sites --records 65535", "timeline --records 65535"]
+REPORTS = ["leaks --no-heap", "peak --no-heap", "sites", "sites --calls", "timeline --points 10000",
+           "fit --heaps 4", "leaks --records 65535", "sites --records 65535",
+           "timeline --records 65535"]
 
 
 def locations(lines):
@@ -27,7 +29,8 @@ def locations(lines):
 
 def locations_freed(lines):
     """A location for each block, each freed at once."""
-    return [line for k in range(1, lines // 2) for line in (f"@ prog:[0x{k:x}] + 0x10 0x8", "- 0x10")]
+    return [line for k in range(1, lines // 2) for line in (f"@ prog:[0x{k:x}] + 0x10 0x8",
+                                                            "- 0x10")]
 
 
 def long_locations(lines):
@@ -41,13 +44,17 @@ def classes(lines):
 
 
 def freed_first(lines):
-    """All are held, and freed with the first one first: each line but the first half has less than the peak."""
-    return [f"{sign} 0x{16 * k:x}{size}" for sign, size in (("+", " 0x10"), ("-", "")) for k in range(1, lines // 2)]
+    """All are held, and freed with the first one first: each line but the first half has less than
+    the peak."""
+    return [f"{sign} 0x{16 * k:x}{size}" for sign, size in (("+", " 0x10"), ("-", ""))
+            for k in range(1, lines // 2)]
 
 
 def moved(lines):
     """One block, moved from address to address."""
-    return ["+ 0x10 0x1"] + [line for k in range(1, lines // 2) for line in (f"< 0x{16 * k:x}", f"> 0x{16 * k + 16:x} 0x{k % 5000 + 1:x}")]
+    return ["+ 0x10 0x1"] + [line for k in range(1, lines // 2)
+                             for line in (f"< 0x{16 * k:x}",
+                                          f"> 0x{16 * k + 16:x} 0x{k % 5000 + 1:x}")]
 
 
 def findings(lines):
@@ -59,18 +66,21 @@ def stacks(lines):
     """Stacks that are told by number, each with one frame more than the one before, up to 256."""
     text = ["@ m1=/nowhere/prog ! (nil) 0", "@ s1=1:1 ! (nil) 0"]
     for k in range(2, lines // 2):
-        text += [f"@ s{k}=1:{k:x}<s{k - 1}.{min(k - 1, 255)} ! (nil) 0", f"@ s{k} + 0x{16 * k:x} 0x8"]
+        text += [f"@ s{k}=1:{k:x}<s{k - 1}.{min(k - 1, 255)} ! (nil) 0",
+                 f"@ s{k} + 0x{16 * k:x} 0x8"]
     return text
 
 
 def modules(lines):
     """A module for each stack."""
-    return [line for k in range(1, lines // 3)
-            for line in (f"@ m{k}=/nowhere/lib{k}.so ! (nil) 0", f"@ s{k}={k}:{k:x} ! (nil) 0", f"@ s{k} + 0x{16 * k:x} 0x8")]
+    return [line for k in range(1, lines // 3) for line in (f"@ m{k}=/nowhere/lib{k}.so ! (nil) 0",
+                                                            f"@ s{k}={k}:{k:x} ! (nil) 0",
+                                                            f"@ s{k} + 0x{16 * k:x} 0x8")]
 
 
 def time_of(words):
-    return least_time(words, rounds=ROUNDS, stderr=subprocess.DEVNULL, env={**os.environ, "TLSF": sys.argv[1]})
+    return least_time(words, rounds=ROUNDS, stderr=subprocess.DEVNULL,
+                      env={**os.environ, "TLSF": sys.argv[1]})
 
 
 def verdict(words):
@@ -89,12 +99,14 @@ def write_logs(kind, lines):
 
 def main():
     program, commands = sys.argv[1:]
-    for kind in (locations, locations_freed, long_locations, classes, freed_first, moved, findings, stacks, modules):
+    for kind in (locations, locations_freed, long_locations, classes, freed_first, moved, findings,
+                 stacks, modules):
         write_logs(kind, LINES)
         for report in REPORTS:
             print(f"{kind.__name__} {report}: {verdict([program, *report.split()])}", flush=True)
         if kind in (locations, stacks, modules):
-            print(f"{kind.__name__} source-lines: {verdict([f'{commands}/source-lines'])}", flush=True)
+            print(f"{kind.__name__} source-lines: {verdict([f'{commands}/source-lines'])}",
+                  flush=True)
             write_logs(kind, LINES_OF_PAGE)
             print(f"{kind.__name__} page: {verdict([f'{commands}/page'])}", flush=True)
 

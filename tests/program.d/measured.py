@@ -12,7 +12,8 @@ def least_time(words, runs=1, rounds=3, **options):
     for _ in range(rounds):
         before = resource.getrusage(resource.RUSAGE_CHILDREN)
         for _ in range(runs):
-            subprocess.run(words, stdout=subprocess.DEVNULL, timeout=MOST_SECONDS, check=False, **options)
+            subprocess.run(words, stdout=subprocess.DEVNULL, timeout=MOST_SECONDS, check=False,
+                           **options)
         after = resource.getrusage(resource.RUSAGE_CHILDREN)
         times.append(after.ru_utime + after.ru_stime - before.ru_utime - before.ru_stime)
     return min(times)

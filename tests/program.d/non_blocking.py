@@ -1,4 +1,5 @@
-"""non_blocking.py STREAM PROGRAM WORD..: runs the program with a pipe as this stream, 0 or 1, that doesn't wait. Ends with its status."""
+"""non_blocking.py STREAM PROGRAM WORD..: runs the program with a pipe as this stream, 0 or 1, that
+doesn't wait. Ends with its status."""
 import os
 import subprocess
 import sys

@@ -1,11 +1,15 @@
-/* numbers PROGRAM WHAT FROM STEP TO: runs the program once for each number from FROM on, in steps of STEP, up to TO. WHAT is
- * - records: `timeline` of an empty log, with so many records. With them go over the pools, 1 to 8, and the points, 1 to 10,000
+/* numbers PROGRAM WHAT FROM STEP TO: runs the program once for each number from FROM on, in steps
+ * of STEP, up to TO. WHAT is
+ * - records: `timeline` of an empty log, with so many records. With them go over the pools, 1 to 8,
+ *   and the points, 1 to 10,000
  * - pairs: `sites` of an empty log, with so many records and each number of pools
  * - sites: the same with one pool
  * - points: `timeline` of `lines`, with so many points, without a heap
- * - lines: each report without a heap, of a log of so many lines, each of which holds a block of its own, at a location of its own
+ * - lines: each report without a heap, of a log of so many lines, each of which holds a block of
+ *   its own, at a location of its own
  * - loads: `save` of an empty log with so many records, and `check` of the image.
- * Each run has memory, so none ends with 4. What does, or ends otherwise than it has to, is told. */
+ *   Each run has memory, so none ends with 4. What does, or ends otherwise than it has to, is
+ *   told. */
 #include <fcntl.h>
 #include <spawn.h>
 #include <stdio.h>
@@ -22,7 +26,8 @@ static char *program;
 static posix_spawn_file_actions_t quiet;
 static int failures;
 
-/* Runs the program with these words, which end with a null pointer. Whether it ends with this status. */
+/* Runs the program with these words, which end with a null pointer. Whether it ends with this
+ * status. */
 static void expect(int number, int wanted, char *const *words)
 {
     char *all[WORDS + 2] = {program};
@@ -30,7 +35,8 @@ static void expect(int number, int wanted, char *const *words)
     int status = -1;
     for (int k = 0; k < WORDS && words[k] != NULL; k++)
         all[k + 1] = words[k];
-    if (posix_spawn(&child, program, &quiet, NULL, all, environ) == 0 && waitpid(child, &status, 0) == child)
+    if (posix_spawn(&child, program, &quiet, NULL, all, environ) == 0
+        && waitpid(child, &status, 0) == child)
         status = WIFEXITED(status) ? WEXITSTATUS(status) : -1;
     if (status != wanted && ++failures <= 5)
         printf("%s of %d: status %d\n", words[0], number, status);
@@ -40,9 +46,11 @@ static void records(int number)
 {
     char words[3][WORD];
     snprintf(words[0], WORD, "--records=%d", number);
-    snprintf(words[1], WORD, "--pools=%d", 1 + number % (number < MOST_POOLS ? number : MOST_POOLS));
+    snprintf(words[1], WORD, "--pools=%d",
+             1 + number % (number < MOST_POOLS ? number : MOST_POOLS));
     snprintf(words[2], WORD, "--points=%d", 1 + number % MOST_POINTS);
-    expect(number, 0, (char *[]){"timeline", words[0], words[1], words[2], "--pool=16", "empty", NULL});
+    expect(number, 0,
+           (char *[]){"timeline", words[0], words[1], words[2], "--pool=16", "empty", NULL});
 }
 
 static void sites(int number)
@@ -86,7 +94,8 @@ static void lines(int number)
     snprintf(log, WORD, "lines.%d", (int)getpid());
     FILE *to = fopen(log, "a");
     for (; to != NULL && written < number; written++)
-        fprintf(to, "@ ./prog:[0x%x] + 0x%x 0x%x\n", 1 + written, 4096 + 64 * written, 1 + written % 40);
+        fprintf(to, "@ ./prog:[0x%x] + 0x%x 0x%x\n", 1 + written, 4096 + 64 * written,
+                1 + written % 40);
     if (to == NULL || fclose(to) != 0) {
         failures++;
         return;

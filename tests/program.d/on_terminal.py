@@ -1,8 +1,10 @@
-"""Runs of the program with standard error on a terminal, for tests/program.d/progress: on_terminal.py PROGRAM PRELOADED.
+"""Runs of the program with standard error on a terminal, for tests/program.d/progress:
+on_terminal.py PROGRAM PRELOADED.
 
-Reads of the log wait where a case says so: the second one ends in the second second of the run, the fourth one in the third. What
-the terminal was told is taken apart: each notice with its number has to be cleared by what comes next, and what is left
-is the text that the case wants there. The last line is `N passed, M failed`."""
+Reads of the log wait where a case says so: the second one ends in the second second of the run, the
+fourth one in the third. What the terminal was told is taken apart: each notice with its number has
+to be cleared by what comes next, and what is left is the text that the case wants there. The last
+line is `N passed, M failed`."""
 import os
 import pty
 import re
@@ -81,7 +83,8 @@ def words_of(case):
     log = "-" if case["log"] in ("-", "pipe", "typed") else case["log"]
     if case["word"] == "check":
         return ["check", case["log"]]
-    return [case["word"], *case.get("options", []), log] + ([case.get("image", "image")] if case["word"] == "save" else [])
+    return [case["word"], *case.get("options", []), log] + ([case.get("image", "image")]
+                                                            if case["word"] == "save" else [])
 
 
 def started(case, folder, end):
@@ -93,7 +96,8 @@ def started(case, folder, end):
     to = case.get("stdout", "stdout")
     stdout = end if to == "terminal" else open(folder / to if to == "stdout" else to, "wb")
     stderr = end if case.get("stderr", "terminal") == "terminal" else open(folder / "stderr", "wb")
-    return subprocess.Popen([PROGRAM, *words_of(case)], cwd=folder, env=environment, stdin=stdin, stdout=stdout, stderr=stderr)
+    return subprocess.Popen([PROGRAM, *words_of(case)], cwd=folder, env=environment, stdin=stdin,
+                            stdout=stdout, stderr=stderr)
 
 
 def fed(case, folder, run, terminal):
@@ -125,17 +129,18 @@ def wrong(case):
     cleared = len(re.findall(NOTICE + rb"(?=\r\x1b\[K)", said))
     clears = len(re.findall(rb"\r\x1b\[K(?!tlsf: \d+ lines, \d+ kB read)", said))
     rest = re.sub(rb"\r\x1b\[K", b"", re.sub(NOTICE, b"", said))
-    for what, is_so, wanted in (
-        ("status", status, case["status"]),
-        ("notices", told, case.get("told", [])),
-        ("kilobytes", [int(number) for number in re.findall(KILOBYTES, said)], case.get("kilobytes", [])),
-        ("sizes", [(int(tried), int(all)) for tried, all in re.findall(SIZES, said)], case.get("sizes", [])),
-        ("notices cleared", cleared, len(told)),
-        ("clears without a notice", max(clears - len(told), 0), 0),
-        ("on the terminal", rest, case.get("on_terminal", b"")),
-        ("standard output", written, case.get("written", b"")),
-        ("standard error in a file", errors, b""),
-    ):
+    for what, is_so, wanted in (("status", status, case["status"]),
+                                ("notices", told, case.get("told", [])),
+                                ("kilobytes", [int(number)
+                                               for number in re.findall(KILOBYTES, said)],
+                                 case.get("kilobytes", [])),
+                                ("sizes", [(int(tried), int(all))
+                                           for tried, all in re.findall(SIZES, said)],
+                                 case.get("sizes", [])), ("notices cleared", cleared, len(told)),
+                                ("clears without a notice", max(clears - len(told), 0), 0),
+                                ("on the terminal", rest, case.get("on_terminal", b"")),
+                                ("standard output", written, case.get("written", b"")),
+                                ("standard error in a file", errors, b""),):
         if is_so != wanted:
             return f"{what}: {is_so!r:.200}, wanted {wanted!r:.200}"
     return None
@@ -144,7 +149,8 @@ def wrong(case):
 def slow(text, **more):
     """A run in which the second and the fourth read wait."""
     told = [lines_in(text, 2), lines_in(text, 4)]
-    return {"text": text, "how": {"IO_WAIT": "2,4"}, "told": told, "kilobytes": [2 * PIECE // 1000, 4 * PIECE // 1000], **more}
+    return {"text": text, "how": {"IO_WAIT": "2,4"}, "told": told,
+            "kilobytes": [2 * PIECE // 1000, 4 * PIECE // 1000], **more}
 
 
 def served(word, text, noted, **more):
@@ -161,61 +167,84 @@ def slow_cases():
             yield f"{word} of a slow {log}", served(word, QUIET, b"", log=log)
     yield "sites of a slow file", served("sites", QUIET, b"", log="file")
     yield "a timeline of a slow file", served("timeline", QUIET, b"", log="file")
-    # The log is read three times: with six reads, and then twice with five, which don't come to its end. The first of the two
-    # sizes is tried then.
-    yield "sizes of a slow file", {
-        "word": "fit", "log": "file", "text": QUIET, "status": 0, "how": {"IO_WAIT": "2,13"}, "sizes": [(1, 2)],
-        "told": [lines_in(QUIET, 2), 2 * QUIET.count(b"\n") + lines_in(QUIET, 2)],
-        "kilobytes": [2 * PIECE // 1000, (2 * len(QUIET) + 2 * PIECE) // 1000],
-        "written": b"peak: 0 bytes at line 0\nheld at most: 0 blocks\nrecords: 3\ntable: 1744 bytes\n"
-        b"least pool: 16 bytes\nsafe pool: 16 bytes\nsizes tried: 2, 0 refused\nsure pool: 16 bytes\n"}
-    # 201 sizes, with one read each behind two of the first reading: 150 are tried at the read of the next one.
-    yield "150 sizes of a slow file", {
-        "word": "fit", "options": ["--step", "16"], "log": "file", "text": b"+ 0x10 0xc80\n", "status": 1, "how": {"IO_WAIT": "153"},
-        "sizes": [(150, 201)], "told": [152], "kilobytes": [152 * len(b"+ 0x10 0xc80\n") // 1000],
-        "written": b"peak: 3200 bytes at line 1\nheld at most: 1 blocks\nrecords: 5\ntable: 1776 bytes\n"
-        b"least pool: 3200 bytes\nsafe pool: 3200 bytes\nsizes tried: 201, 0 refused\nsure pool: 9584 bytes\n"}
-    # Two sizes are tried first, and one in each range behind: 6 of the 7 in the first six ranges, when the next one is read. The log is
-    # read twice at first, and once for each size, up to the line refused.
-    yield "sizes in range after range", {
-        "word": "fit", "options": ["--step", "16"], "log": "file", "text": b"* 0x10 0x1000 0x10\n", "status": 1, "how": {"IO_WAIT": "9"},
-        "sizes": [(6, 7)], "told": [8], "kilobytes": [0],
-        "written": b"peak: 16 bytes at line 1\nheld at most: 1 blocks\nrecords: 5\ntable: 1776 bytes\n"
-        b"least pool: 4096 bytes\nsafe pool: 4096 bytes\nsizes tried: 9, 8 refused\nsure pool: 8192 bytes\n"}
+    # The log is read three times: with six reads, and then twice with five, which don't come to its
+    # end. The first of the two sizes is tried then.
+    yield "sizes of a slow file", {"word": "fit", "log": "file", "text": QUIET, "status": 0,
+                                   "how": {"IO_WAIT": "2,13"}, "sizes": [(1, 2)],
+                                   "told": [lines_in(QUIET, 2),
+                                            2 * QUIET.count(b"\n") + lines_in(QUIET, 2)],
+                                   "kilobytes": [2 * PIECE // 1000,
+                                                 (2 * len(QUIET) + 2 * PIECE) // 1000],
+                                   "written": b"peak: 0 bytes at line 0\nheld at most: 0 blocks\n"
+                                   b"records: 3\ntable: 1744 bytes\n"
+                                   b"least pool: 16 bytes\nsafe pool: 16 bytes\nsizes tried: 2, 0 "
+                                   b"refused\nsure pool: 16 bytes\n"}
+    # 201 sizes, with one read each behind two of the first reading: 150 are tried at the read of
+    # the next one.
+    yield "150 sizes of a slow file", {"word": "fit", "options": ["--step", "16"], "log": "file",
+                                       "text": b"+ 0x10 0xc80\n", "status": 1,
+                                       "how": {"IO_WAIT": "153"}, "sizes": [(150, 201)],
+                                       "told": [152], "kilobytes": [152
+                                                                    * len(b"+ 0x10 0xc80\n") // 1000],
+                                       "written": b"peak: 3200 bytes at line 1\nheld at most: 1 "
+                                       b"blocks\nrecords: 5\ntable: 1776 bytes\n"
+                                       b"least pool: 3200 bytes\nsafe pool: 3200 bytes\nsizes "
+                                       b"tried: 201, 0 refused\nsure pool: 9584 bytes\n"}
+    # Two sizes are tried first, and one in each range behind: 6 of the 7 in the first six ranges,
+    # when the next one is read. The log is read twice at first, and once for each size, up to the
+    # line refused.
+    yield "sizes in range after range", {"word": "fit", "options": ["--step", "16"], "log": "file",
+                                         "text": b"* 0x10 0x1000 0x10\n", "status": 1,
+                                         "how": {"IO_WAIT": "9"}, "sizes": [(6, 7)], "told": [8],
+                                         "kilobytes": [0],
+                                         "written": b"peak: 16 bytes at line 1\nheld at most: 1 "
+                                         b"blocks\nrecords: 5\ntable: 1776 bytes\n"
+                                         b"least pool: 4096 bytes\nsafe pool: 4096 bytes\nsizes "
+                                         b"tried: 9, 8 refused\nsure pool: 8192 bytes\n"}
     # A line without an end is told by its bytes.
-    yield "a line without an end", slow(
-        b"= Start\n" + bytes(5 * PIECE - 100), word="leaks", log="file", status=1, written=b"line 2: too long\nNo memory leaks.\n")
+    yield "a line without an end", slow(b"= Start\n" + bytes(5 * PIECE - 100), word="leaks",
+                                        log="file", status=1,
+                                        written=b"line 2: too long\nNo memory leaks.\n")
     yield "a slow log with diagnostics", served("leaks", LOUD, diagnostics(LOUD), log="file")
     yield "a slow log with diagnostics, saved", served("save", LOUD, diagnostics(LOUD), log="fifo")
     for word in ONCE:
-        yield f"{word}, all on the terminal", served(word, LOUD, diagnostics(LOUD), log="pipe", stdout="terminal")
+        yield f"{word}, all on the terminal", served(word, LOUD, diagnostics(LOUD), log="pipe",
+                                                     stdout="terminal")
 
 
 def quiet_cases():
-    """Nothing is told: of what is typed, of a quick run, where standard error is a file, and of an image."""
+    """Nothing is told: of what is typed, of a quick run, where standard error is a file, and of an
+    image."""
     typed = b"= Start\nx\n= End\n"
     noted = b"line 2: not a line\n"
     for word in ("leaks", "save"):
-        yield f"{word} of a typed log", {
-            "word": word, "log": "typed", "text": typed, "status": 1, "written": noted + REPORTS[word], "how": {"IO_WAIT": "2,3"}}
+        yield f"{word} of a typed log", {"word": word, "log": "typed", "text": typed, "status": 1,
+                                         "written": noted + REPORTS[word],
+                                         "how": {"IO_WAIT": "2,3"}}
     for log in ("file", "fifo", "pipe", "-"):
-        yield f"a quick {log}", {"word": "leaks", "log": log, "text": LOUD, "status": 1, "written": diagnostics(LOUD) + REPORTS["leaks"]}
-    yield "standard error in a file", {
-        **served("leaks", QUIET, b"", log="file", stdout="terminal", stderr="file"), "told": [], "kilobytes": []}
-    yield "a slow image", {
-        "word": "check", "log": "file", "text": QUIET, "status": 1, "written": b"broken: V1\n", "how": {"IO_WAIT": "2,4"}}
+        yield f"a quick {log}", {"word": "leaks", "log": log, "text": LOUD, "status": 1,
+                                 "written": diagnostics(LOUD) + REPORTS["leaks"]}
+    yield "standard error in a file", {**served("leaks", QUIET, b"", log="file", stdout="terminal",
+                                                stderr="file"), "told": [], "kilobytes": []}
+    yield "a slow image", {"word": "check", "log": "file", "text": QUIET, "status": 1,
+                           "written": b"broken: V1\n", "how": {"IO_WAIT": "2,4"}}
 
 
 def failing_cases():
     """A notice is cleared before the line of a fault."""
     for word in ("leaks", "save"):
-        yield f"{word} of a log that breaks off", {
-            **slow(QUIET, word=word, log="file", status=3, on_terminal=b"tlsf: read failed\ntlsf: file: Input/output error (os error 5)\n"),
-            "how": {"IO_WAIT": "2,4", "IO_FAIL_READ": "5"}}
-        yield f"{word} of a log and a full disk", {
-            **slow(b"= Start\n" * 1024 + LOUD, word=word, log="file", status=3, stdout="/dev/full",
-                   on_terminal=b"tlsf: write failed\ntlsf: standard output: No space left on device (os error 28)\n"),
-            "told": [1024], "kilobytes": [2 * PIECE // 1000], "how": {"IO_WAIT": "2"}}
+        yield f"{word} of a log that breaks off", {**slow(QUIET, word=word, log="file", status=3,
+                                                          on_terminal=b"tlsf: read failed\ntlsf: "
+                                                          b"file: Input/output error (os error 5)\n"
+                                                          b""),
+                                                   "how": {"IO_WAIT": "2,4", "IO_FAIL_READ": "5"}}
+        yield f"{word} of a log and a full disk", {**slow(b"= Start\n" * 1024 + LOUD, word=word,
+                                                          log="file", status=3, stdout="/dev/full",
+                                                          on_terminal=b"tlsf: write failed\ntlsf: "
+                                                          b"standard output: No space left on "
+                                                          b"device (os error 28)\n"),
+                                                   "told": [1024], "kilobytes": [2 * PIECE // 1000],
+                                                   "how": {"IO_WAIT": "2"}}
     yield "an image on a full disk", slow(
         QUIET, word="save", log="file", image="/dev/full", status=3,
         on_terminal=b"tlsf: write failed\ntlsf: /dev/full: No space left on device (os error 28)\n")

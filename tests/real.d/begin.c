@@ -1,6 +1,7 @@
-/* Loaded in front of a program by tests/real. It begins glibc's tracer, where that is asked for, and then takes out of the
- * environment what only one of the two runs has, so that the program asks for the same blocks in both: traced, and under
- * valgrind. It calls no getenv and no unsetenv, since bash has its own. */
+/* Loaded in front of a program by tests/real. It begins glibc's tracer, where that is asked for,
+ * and then takes out of the environment what only one of the two runs has, so that the program asks
+ * for the same blocks in both: traced, and under valgrind. It calls no getenv and no unsetenv,
+ * since bash has its own. */
 #include <mcheck.h>
 #include <stdbool.h>
 #include <string.h>
@@ -9,7 +10,8 @@ extern char **environ;
 
 /* The variables of the tracer, and those that Debian's valgrind sets, which is a shell script. */
 static const char *const taken_out[] = {
-    "LD_PRELOAD", "MALLOC_TRACE", "GLIBCPP_FORCE_NEW", "GLIBCXX_FORCE_NEW", "LD_LIBRARY_PATH", "PWD",
+    "LD_PRELOAD",        "MALLOC_TRACE",    "GLIBCPP_FORCE_NEW",
+    "GLIBCXX_FORCE_NEW", "LD_LIBRARY_PATH", "PWD",
 };
 
 static bool is_named(const char *variable, const char *name)
@@ -22,7 +24,8 @@ static bool is_named(const char *variable, const char *name)
 static bool is_program(void)
 {
     for (char **at = environ; *at; at++)
-        if (is_named(*at, "MALLOC_TRACE") || (is_named(*at, "LD_PRELOAD") && strstr(*at, "vgpreload")))
+        if (is_named(*at, "MALLOC_TRACE")
+            || (is_named(*at, "LD_PRELOAD") && strstr(*at, "vgpreload")))
             return true;
     return false;
 }

@@ -175,6 +175,11 @@ start:
   ret i1 false
 }
 
+define noundef i64 @tlsf_placed_sure_bytes(i32 noundef %a0, i32 noundef %a1, i64 noundef %a2, i64 noundef %a3) #0 {
+start:
+  ret i64 0
+}
+
 define noundef zeroext i1 @tlsf_placed_lost_front(i64 noundef %a0, i64 noundef %a1) #0 {
 start:
   ret i1 false

@@ -1,11 +1,13 @@
 #!/usr/bin/env python3
-"""A second reader of what c/retarget made for a processor of 32 bits, by another way: it undoes, word by word, what such a processor
-needs, and compares the rest with the module of x86-64; and it runs the calls that C makes, and the one that asks for memory, on
-random numbers, with C's types taken from the headers.
+"""A second reader of what c/retarget made for a processor of 32 bits, by another way: it undoes,
+word by word, what such a processor needs, and compares the rest with the module of x86-64; and it
+runs the calls that C makes, and the one that asks for memory, on random numbers, with C's types
+taken from the headers.
 
     second_reader.py MODULE REWRITTEN HEADER..
 
-It prints how many instructions of each kind were rewritten, or what is otherwise than it has to be. Then the status is 1."""
+It prints how many instructions of each kind were rewritten, or what is otherwise than it has to be.
+Then the status is 1."""
 import random
 import re
 import sys
@@ -42,10 +44,12 @@ def defined(line):
 
 
 class Undone:
-    """A function's body as it was: what stands for one instruction of x86-64 is put together again."""
+    """A function's body as it was: what stands for one instruction of x86-64 is put together
+    again."""
 
     def __init__(self, known):
-        # The names that the module of x86-64 has, and what other names stand for, until they are used.
+        # The names that the module of x86-64 has, and what other names stand for, until they are
+        # used.
         self.known, self.helpers, self.lines, self.kinds = known, {}, [], {}
 
     def count(self, kind):
@@ -77,7 +81,8 @@ class Undone:
         first, place = self.take(half[11]), self.take(second[6])
         at, align = first[6], first[-1]
         offset = -(-BYTES[first_type] // BYTES[second_type]) * BYTES[second_type]
-        wanted = [(half[2:], ["insertvalue", "{", first_type, ",", second_type, "}", "poison", ",", first_type, first[0], ",", "0"]),
+        wanted = [(half[2:], ["insertvalue", "{", first_type, ",", second_type, "}", "poison", ",",
+                              first_type, first[0], ",", "0"]),
                   (line[9:], [",", second_type, second[0], ",", "1"]),
                   (first[2:], ["load", first_type, ",", "ptr", at, ",", "align", align]),
                   (second[2:], ["load", second_type, ",", "ptr", place[0], ",", "align", align]),
@@ -86,14 +91,16 @@ class Undone:
             if found != told:
                 raise Other(f"a pair: {' '.join(found)}, and not {' '.join(told)}")
         self.count("a load of a pair")
-        return [*line[:2], "load", "{", first_type, ",", second_type, "}", ",", "ptr", at, ",", "align", align]
+        return [*line[:2], "load", "{", first_type, ",", second_type, "}", ",", "ptr", at, ",",
+                "align", align]
 
     def address(self, line):
         """`%n = zext i32 %word to i64`, of an address as a word."""
         if line[2:4] != ["zext", "i32"] or line[4] not in self.helpers:
             return line
         word = self.take(line[4])
-        if word[2:4] != ["ptrtoaddr", "ptr"] or word[5:] != ["to", "i32"] or line[5:] != ["to", "i64"]:
+        if word[2:4] != ["ptrtoaddr", "ptr"] or word[5:] != ["to", "i32"] or line[5:] != ["to",
+                                                                                          "i64"]:
             raise Other(f"an address: {' '.join(word)}, {' '.join(line)}")
         self.count("an address as a number")
         return [*line[:2], "ptrtoaddr", "ptr", word[4], "to", "i64"]
@@ -101,7 +108,8 @@ class Undone:
     def copy(self, line):
         """A copy whose length has 32 bits."""
         text = " ".join(line)
-        found = re.fullmatch(r"(call void @llvm\.mem\w+(?:\.p0)+)\.i32 (.* , )i32 (\S+) (, i1 false \))", text)
+        found = re.fullmatch(r"(call void @llvm\.mem\w+(?:\.p0)+)\.i32 (.* , )i32 (\S+) (, i1 "
+                             r"false \))", text)
         if not found:
             return line
         length = found[3]
@@ -125,12 +133,17 @@ class Undone:
 
 def same_line(was, now, undone):
     """Whether a line is as it was; room for a pointer may be eight bytes."""
-    if was[2:] == ["alloca", "ptr", ",", "align", "8"] and now == [*was[:2], "alloca", "[", "8", "x", "i8", "]", ",", "align", "8"]:
+    if was[2:] == ["alloca", "ptr", ",", "align", "8"] and now == [*was[:2], "alloca", "[", "8",
+                                                                   "x", "i8", "]", ",", "align",
+                                                                   "8"]:
         undone.count("room for a pointer")
         return True
-    if now[2:4] == ["call", "i32"] and now[4] == "@leading_zeros" and was[4] == "@llvm.ctlz.i32" and was[:4] == now[:4]:
+    if now[2:4] == ["call",
+                    "i32"] and now[4] == "@leading_zeros" and was[4] == "@llvm.ctlz.i32" and was[:4] == now[
+                        :4]:
         undone.count("a count of leading zeros")
-        return was[5:8] == now[5:8] and now[8:] == [")"] and was[8:] in ([",", "i1", "true", ")"], [",", "i1", "false", ")"])
+        return was[5:8] == now[5:8] and now[8:] == [")"] and was[8:] in ([",", "i1", "true", ")"],
+                                                                         [",", "i1", "false", ")"])
     return was == now
 
 
@@ -151,8 +164,10 @@ def same_body(name, was, now, kinds):
 
 
 def same_head(name, was, now):
-    """A function's head is as it was. One that C makes by another is internal, and has another name."""
-    now = [word.replace("wide.", "").replace('"', "") if word.startswith('@"wide.') else word for word in now if word != "internal"]
+    """A function's head is as it was. One that C makes by another is internal, and has another
+    name."""
+    now = [word.replace("wide.", "").replace('"', "") if word.startswith('@"wide.') else word
+           for word in now if word != "internal"]
     if now != [word for word in was if word != "internal"]:
         raise Other(f"{name}: {' '.join(now)}, and not {' '.join(was)}")
 
@@ -180,14 +195,17 @@ def parameters(head):
     inside = " ".join(head[head.index("(") + 1:])
     inside = re.sub(r"sret \( [^)]*\) align \d+ ", "sret ", inside)
     inside = inside[:inside.rindex(")")] if ")" in inside else inside
-    return [(part.replace("noundef", "").rsplit(" ", 1)[0].strip(), part.split()[-1]) for part in inside.strip().split(" , ") if part.strip()]
+    return [(part.replace("noundef", "").rsplit(" ", 1)[0].strip(), part.split()[-1])
+            for part in inside.strip().split(" , ") if part.strip()]
 
 
 class Run:
-    """A function without branches, run on numbers: what it calls, what it stores, what it answers."""
+    """A function without branches, run on numbers: what it calls, what it stores, what it
+    answers."""
 
     def __init__(self, lines, values, answers=None, table=()):
-        self.values, self.answers, self.called, self.stored, self.table = dict(values), answers, None, {}, table
+        self.values, self.answers, self.called, self.stored, self.table = (dict(values), answers,
+                                                                           None, {}, table)
         self.answer = None
         for line in lines:
             self.step(line)
@@ -197,22 +215,31 @@ class Run:
 
     def step(self, line):
         name, text = defined(line), " ".join(line[2:] if defined(line) else line)
-        for pattern, does in ((r"extractvalue .* (\S+) , ([01])", lambda of, k: self.value(of)[int(k)]),
+        for pattern, does in ((r"extractvalue .* (\S+) , ([01])",
+                               lambda of, k: self.value(of)[int(k)]),
                               (r"zext (?:i1|i8|i32) (\S+) to (?:i32|i64)", self.value),
-                              (r"icmp ugt i32 (\S+) , (\d+)", lambda of, than: int(self.value(of) > int(than))),
-                              (r"lshr i32 (\S+) , (\S+)", lambda of, by: self.value(of) >> self.value(by)),
-                              (r"shl i32 (\S+) , (\d+)", lambda of, by: self.value(of) << int(by) & MOST),
-                              (r"sub i32 (\S+) , (\S+)", lambda a, b: self.value(a) - self.value(b) & MOST),
+                              (r"icmp ugt i32 (\S+) , (\d+)",
+                               lambda of, than: int(self.value(of) > int(than))),
+                              (r"lshr i32 (\S+) , (\S+)",
+                               lambda of, by: self.value(of) >> self.value(by)),
+                              (r"shl i32 (\S+) , (\d+)",
+                               lambda of, by: self.value(of) << int(by) & MOST),
+                              (r"sub i32 (\S+) , (\S+)",
+                               lambda a, b: self.value(a) - self.value(b) & MOST),
                               (r"getelementptr i8 , ptr @\S+ , i32 (\S+)", self.value),
-                              (r"load i8 , ptr (\S+) , align 1", lambda at: self.table[self.value(at)]),
+                              (r"load i8 , ptr (\S+) , align 1",
+                               lambda at: self.table[self.value(at)]),
                               (r"trunc i64 (\S+) to i32", lambda of: self.value(of) & MOST),
-                              (r"shl i64 (\S+) , (\d+)", lambda of, by: self.value(of) << int(by) & 2 ** 64 - 1),
+                              (r"shl i64 (\S+) , (\d+)",
+                               lambda of, by: self.value(of) << int(by) & 2 ** 64 - 1),
                               (r"or i64 (\S+) , (\S+)", lambda a, b: self.value(a) | self.value(b)),
-                              (r"getelementptr i8 , ptr (\S+) , i32 (\d+)", lambda of, by: self.value(of) + int(by)),
+                              (r"getelementptr i8 , ptr (\S+) , i32 (\d+)",
+                               lambda of, by: self.value(of) + int(by)),
                               (r"alloca \[ 2 x i32 \] , align 4", lambda: 1000),
-                              (r"load i32 , ptr (\S+) , align 4", lambda at: self.stored[self.value(at)]),
-                              (r"insertvalue \{ i64 , i64 \} (\S+) , i64 (\S+) , ([01])", self.insert),
-                              (r"call .*?(@\S+) \( (.*) \)", self.call),
+                              (r"load i32 , ptr (\S+) , align 4",
+                               lambda at: self.stored[self.value(at)]),
+                              (r"insertvalue \{ i64 , i64 \} (\S+) , i64 (\S+) , ([01])",
+                               self.insert), (r"call .*?(@\S+) \( (.*) \)", self.call),
                               (r"store i64 (\S+) , ptr (\S+) , align 8", self.store),
                               (r"ret (?:void|.*? (\S+))", self.end)):
             found = re.fullmatch(pattern, text)
@@ -229,7 +256,8 @@ class Run:
         return pair
 
     def call(self, name, inside):
-        given = [part.split()[-1] for part in re.sub(r"sret \( [^)]*\) align \d+ ", "", inside).split(" , ")]
+        given = [part.split()[-1] for part in re.sub(r"sret \( [^)]*\) align \d+ ", "",
+                                                     inside).split(" , ")]
         if name == "@llvm.umin.i64":
             return min(self.value(given[0]), self.value(given[1]))
         self.called = (name.strip('@"'), [self.value(word) for word in given])
@@ -258,38 +286,47 @@ def run_call(name, function, headers, chance):
     if [kind for kind, _ in taken] != wanted:
         raise Other(f"{name} takes {[kind for kind, _ in taken]}, and C passes {wanted}")
     for _ in range(ROUNDS):
-        given = {word: [chance.randrange(2 ** 32), chance.randrange(2 ** 32)] if kind == "[ 2 x i32 ]"
-                 else chance.randrange(2 ** (64 if kind == "i64" else 32)) for kind, word in taken}
-        answers = [chance.randrange(2 ** 64), chance.randrange(2 ** 64)] if out else chance.randrange(2 ** 32)
+        given = {word: [chance.randrange(2 ** 32), chance.randrange(2 ** 32)] if kind
+                 == "[ 2 x i32 ]" else chance.randrange(2 ** (64 if kind == "i64" else 32))
+                 for kind, word in taken}
+        answers = [chance.randrange(2 ** 64),
+                   chance.randrange(2 ** 64)] if out else chance.randrange(2 ** 32)
         ran = Run(lines, {**given, **({out: 64} if out else {})}, answers)
         if ran.called != (f"wide.{name}", [widened(kind, given[word]) for kind, word in taken]):
             raise Other(f"{name} calls {ran.called} for {given}")
-        if (ran.stored, ran.answer) != (({64: answers[0], 72: answers[1]}, None) if out else ({}, answers)):
+        if (ran.stored, ran.answer) != (({64: answers[0], 72: answers[1]}, None) if out
+                                        else ({}, answers)):
             raise Other(f"{name} answers {ran.stored or ran.answer}, and not {answers}")
 
 
 def run_memory(function, chance):
-    """More than 32 bits tell is asked for as the most that they tell; what the program answers is widened."""
+    """More than 32 bits tell is asked for as the most that they tell; what the program answers is
+    widened."""
     head, lines = function
     (_, size), (_, align) = parameters(head)
     for _ in range(ROUNDS):
-        bytes_, unit = chance.randrange(2 ** chance.choice((20, 32, 33, 64))), 2 ** chance.randrange(13)
+        bytes_, unit = chance.randrange(2 ** chance.choice((20, 32, 33,
+                                                            64))), 2 ** chance.randrange(13)
         answers = [chance.randrange(2), chance.randrange(2 ** 32)]
         ran = Run(lines, {size: bytes_, align: unit}, answers)
         name, given = ran.called
-        if name != "rattle_alloc" or given[-2:] != [min(bytes_, MOST), unit] or ran.answer != answers:
-            raise Other(f"memory: {ran.called} for {bytes_} bytes, answered {ran.answer}, and not {answers}")
+        if name != "rattle_alloc" or given[-2:] != [min(bytes_, MOST),
+                                                    unit] or ran.answer != answers:
+            raise Other(f"memory: {ran.called} for {bytes_} bytes, answered {ran.answer}, and not "
+                        f"{answers}")
 
 
 def run_zeros(function, text, chance):
     """The function that counts leading zeros does so, for words of each length, and for 0."""
-    told = re.search(r'^@leading_zeros_of_byte = private unnamed_addr constant \[256 x i8\] c"((?:\\[0-9A-F]{2}){256})", align 1$', text, re.M)
+    told = re.search(r'^@leading_zeros_of_byte = private unnamed_addr constant \[256 x i8\] '
+                     r'c"((?:\\[0-9A-F]{2}){256})", align 1$', text, re.M)
     if not told:
         raise Other("leading zeros: no table of 256 bytes")
     table = bytes.fromhex(told[1].replace("\\", ""))
     head, lines = function
     (_, word), = parameters(head)
-    for number in [0, *(chance.randrange(2 ** bits, 2 ** (bits + 1)) for bits in range(32) for _ in range(ROUNDS))]:
+    for number in [0, *(chance.randrange(2 ** bits, 2 ** (bits + 1)) for bits in range(32)
+                        for _ in range(ROUNDS))]:
         answer = Run(lines, {word: number}, table=table).answer
         if answer != 32 - number.bit_length():
             raise Other(f"leading zeros of {number:#x}: {answer}")

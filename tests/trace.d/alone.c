@@ -1,5 +1,6 @@
-/* One thread that never waits: it takes and frees memory until SIGUSR2 ends it. SIGUSR1 plants seven blocks of
- * 6,000 to 6,006 bytes. Behind SIGHUP it computes alone, and asks for no memory until SIGHUP comes again. */
+/* One thread that never waits: it takes and frees memory until SIGUSR2 ends it. SIGUSR1 plants
+ * seven blocks of 6,000 to 6,006 bytes. Behind SIGHUP it computes alone, and asks for no memory
+ * until SIGHUP comes again. */
 #include <signal.h>
 #include <stdio.h>
 #include <stdlib.h>

@@ -1,5 +1,5 @@
-// Threads that take and free memory all the time, until a line on standard input ends them. Another line plants
-// sixteen blocks of 4,004 bytes.
+// Threads that take and free memory all the time, until a line on standard input ends them. Another
+// line plants sixteen blocks of 4,004 bytes.
 #include <atomic>
 #include <cstdio>
 #include <cstring>

@@ -29,5 +29,6 @@ int main(void)
     free(fresh);
     free(NULL);
     char *text = strdup("hello");
-    return malloc_usable_size(text) < 6 || malloc_usable_size(odd) < 10 || aligned == zeros || block == NULL;
+    return malloc_usable_size(text) < 6 || malloc_usable_size(odd) < 10 || aligned == zeros
+           || block == NULL;
 }

@@ -1,4 +1,5 @@
-/* What is reachable at the edges, by the word given; and stacks of a child that its parent has told, too. The sizes tell the blocks. */
+/* What is reachable at the edges, by the word given; and stacks of a child that its parent has
+ * told, too. The sizes tell the blocks. */
 #define _GNU_SOURCE
 #include <fcntl.h>
 #include <pthread.h>
@@ -46,7 +47,9 @@ static void shared(void)
     snprintf(name, sizeof name, "/dev/shm/tlsf-%d", (int)getpid());
     int file = open(name, O_RDWR | O_CREAT | O_EXCL, 0600);
     unlink(name);
-    void **room = ftruncate(file, PAGE) == 0 ? mmap(NULL, PAGE, PROT_READ | PROT_WRITE, MAP_SHARED, file, 0) : MAP_FAILED;
+    void **room = ftruncate(file, PAGE) == 0
+                      ? mmap(NULL, PAGE, PROT_READ | PROT_WRITE, MAP_SHARED, file, 0)
+                      : MAP_FAILED;
     if (room == MAP_FAILED)
         exit(9);
     room[5] = malloc(72);
@@ -70,7 +73,11 @@ static void *wait_below(void *unused)
     void *block = passed;
     passed = NULL;
 #ifdef __x86_64__
-    __asm__ volatile("movq %0, -96(%%rsp)\n\txorl %%edi, %%edi\n\tmovq %%rdi, %0\n\tmovl $34, %%eax\n\tsyscall" : "+r"(block) : : "rax", "rdi", "rcx", "r11", "memory");
+    __asm__ volatile(
+        "movq %0, -96(%%rsp)\n\txorl %%edi, %%edi\n\tmovq %%rdi, %0\n\tmovl $34, %%eax\n\tsyscall"
+        : "+r"(block)
+        :
+        : "rax", "rdi", "rcx", "r11", "memory");
 #endif
     return NULL;
 }
@@ -132,8 +139,10 @@ static void many_stacks(int rounds)
 static void with_variables(void)
 {
     char preload[4096], log[4096];
-    snprintf(preload, sizeof preload, "LD_PRELOAD=%s", getenv("LD_PRELOAD") ? getenv("LD_PRELOAD") : "");
-    snprintf(log, sizeof log, "TLSF_TRACE_LOG=%s", getenv("TLSF_TRACE_LOG") ? getenv("TLSF_TRACE_LOG") : "");
+    snprintf(preload, sizeof preload, "LD_PRELOAD=%s",
+             getenv("LD_PRELOAD") ? getenv("LD_PRELOAD") : "");
+    snprintf(log, sizeof log, "TLSF_TRACE_LOG=%s",
+             getenv("TLSF_TRACE_LOG") ? getenv("TLSF_TRACE_LOG") : "");
     char *variables[] = {preload, log, "ONE=1", NULL};
     execle("/usr/bin/env", "env", NULL, variables);
 }
@@ -141,16 +150,16 @@ static void with_variables(void)
 int main(int count, char **words)
 {
     const char *word = count > 1 ? words[1] : "";
-    strcmp(word, "strings") == 0 ? strings()
-        : strcmp(word, "word") == 0 ? one_word()
-        : strcmp(word, "shared") == 0 ? shared()
-        : strcmp(word, "guarded") == 0 ? guarded()
-        : strcmp(word, "below") == 0 ? below_stack()
-        : strcmp(word, "odd") == 0 ? odd_free()
-        : strcmp(word, "child") == 0 ? told_by_parent()
-        : strcmp(word, "once") == 0 ? many_stacks(1)
-        : strcmp(word, "twice") == 0 ? many_stacks(2)
-        : strcmp(word, "variables") == 0 ? with_variables()
-                                         : (void)0;
+    strcmp(word, "strings") == 0     ? strings()
+    : strcmp(word, "word") == 0      ? one_word()
+    : strcmp(word, "shared") == 0    ? shared()
+    : strcmp(word, "guarded") == 0   ? guarded()
+    : strcmp(word, "below") == 0     ? below_stack()
+    : strcmp(word, "odd") == 0       ? odd_free()
+    : strcmp(word, "child") == 0     ? told_by_parent()
+    : strcmp(word, "once") == 0      ? many_stacks(1)
+    : strcmp(word, "twice") == 0     ? many_stacks(2)
+    : strcmp(word, "variables") == 0 ? with_variables()
+                                     : (void)0;
     return 0;
 }

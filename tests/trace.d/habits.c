@@ -1,4 +1,5 @@
-/* What a program relies on while it is traced, by the word given. The status is 0 where it is kept. */
+/* What a program relies on while it is traced, by the word given. The status is 0 where it is
+ * kept. */
 #define _GNU_SOURCE
 #include <errno.h>
 #include <fcntl.h>
@@ -108,7 +109,8 @@ static int asks_for_user(int with_thread)
     return getpwuid(0) == NULL;
 }
 
-/* Writes the first line of a realloc behind the log's last line, as a kill amid two lines leaves it. */
+/* Writes the first line of a realloc behind the log's last line, as a kill amid two lines leaves
+ * it. */
 static int tears_realloc(void)
 {
     static const char torn[] = "@ s1 < 0x10\n";
@@ -128,15 +130,15 @@ int main(int count, char **words)
 {
     const char *word = count > 1 ? words[1] : "";
     void *block = malloc(123);
-    int result = strcmp(word, "errno") == 0 ? keeps_errno()
-        : strcmp(word, "signals") == 0      ? has_signals()
-        : strcmp(word, "preloaded") == 0    ? preloaded == NULL || preloaded() != 5
-        : strcmp(word, "overflows") == 0    ? overflows()
-        : strcmp(word, "forks") == 0        ? forks_in_handler(0)
-        : strcmp(word, "returns") == 0      ? forks_in_handler(1)
-        : strcmp(word, "user") == 0         ? asks_for_user(0)
-        : strcmp(word, "user, thread") == 0 ? asks_for_user(1)
-        : strcmp(word, "torn") == 0         ? tears_realloc()
-                                            : 1;
+    int result = strcmp(word, "errno") == 0          ? keeps_errno()
+                 : strcmp(word, "signals") == 0      ? has_signals()
+                 : strcmp(word, "preloaded") == 0    ? preloaded == NULL || preloaded() != 5
+                 : strcmp(word, "overflows") == 0    ? overflows()
+                 : strcmp(word, "forks") == 0        ? forks_in_handler(0)
+                 : strcmp(word, "returns") == 0      ? forks_in_handler(1)
+                 : strcmp(word, "user") == 0         ? asks_for_user(0)
+                 : strcmp(word, "user, thread") == 0 ? asks_for_user(1)
+                 : strcmp(word, "torn") == 0         ? tears_realloc()
+                                                     : 1;
     return block == NULL ? 1 : result;
 }

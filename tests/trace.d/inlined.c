@@ -3,7 +3,7 @@
 
 static inline __attribute__((always_inline)) void *inner(void)
 {
-    return malloc(10);
+    return malloc(10); // its caller inlines it
 }
 
 __attribute__((noinline)) void *outer(void)
@@ -13,7 +13,4 @@ __attribute__((noinline)) void *outer(void)
     return block;
 }
 
-int main(void)
-{
-    return outer() == NULL;
-}
+int main(void) { return outer() == NULL; }

@@ -1,4 +1,5 @@
-// A server of about twenty sites: its pages hold the peak, its sessions grow without an end, and its names are never freed.
+// A server of about twenty sites: its pages hold the peak, its sessions grow without an end, and
+// its names are never freed.
 #include <cstdlib>
 #include <cstring>
 #include <map>
@@ -92,7 +93,8 @@ void Orders::close()
 static Request parse_request(int number)
 {
     Request request;
-    request.verb = number % 3 ? "GET, with a remark that is long" : "PUT, with a remark that is long";
+    request.verb =
+        number % 3 ? "GET, with a remark that is long" : "PUT, with a remark that is long";
     request.path = "/goods/and/their/numbers/" + std::to_string(number);
     request.agent = "a browser of some age, and of some length";
     request.headers["Host, with a remark that is long"] = "shop.example, and a remark that is long";
@@ -108,10 +110,7 @@ static char *remember_name(int number)
     return name;
 }
 
-static std::vector<int> load_prices()
-{
-    return std::vector<int>(3000, 7);
-}
+static std::vector<int> load_prices() { return std::vector<int>(3000, 7); }
 
 static int serve(int count)
 {
@@ -122,7 +121,8 @@ static int serve(int count)
     int sum = 0;
     for (int number = 0; number < count; number++) {
         Request request = parse_request(number);
-        sum += static_cast<int>(request.path.size() + pages.render(number).body.size()) + prices[number % 3000];
+        sum += static_cast<int>(request.path.size() + pages.render(number).body.size())
+               + prices[number % 3000];
         orders.place(number);
         if (number % 4 == 0) {
             sum += static_cast<int>(sessions->open(number).user.size());
@@ -137,7 +137,4 @@ static int serve(int count)
 
 } // namespace shop
 
-int main()
-{
-    return shop::serve(800) == 0;
-}
+int main() { return shop::serve(800) == 0; }

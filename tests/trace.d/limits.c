@@ -1,4 +1,5 @@
-/* Processes that limit themselves, and then ask for memory 200,000 times and give all of it back. The word says how they do. */
+/* Processes that limit themselves, and then ask for memory 200,000 times and give all of it back.
+ * The word says how they do. */
 #define _GNU_SOURCE
 #include <errno.h>
 #include <linux/filter.h>
@@ -109,7 +110,8 @@ int main(int count, char **words)
     work(100000);
     if (strcmp(word, "filter") == 0 && in_child())
         return 8;
-    if (strcmp(word, "memory") == 0 && mmap(NULL, 100 << 20, PROT_READ, MAP_PRIVATE | MAP_ANONYMOUS, -1, 0) == MAP_FAILED)
+    if (strcmp(word, "memory") == 0
+        && mmap(NULL, 100 << 20, PROT_READ, MAP_PRIVATE | MAP_ANONYMOUS, -1, 0) == MAP_FAILED)
         return 7;
     if (strcmp(word, "locked") == 0 && resident() > 200000)
         return 6;

@@ -11,7 +11,7 @@ int *hidden(std::size_t count) { return new int[count]; }
 namespace shop {
 template <typename T> struct Shelf {
     T *add(const T &item) const { return new T(item); }
-    Shelf operator+(int count) const { new int[static_cast<std::size_t>(count)]; return *this; }
+    Shelf operator+(int count) const { return new int[size_t(count)], *this; }
     bool operator<(const Shelf &) const { return new char != nullptr; }
     operator bool() const { return new short != nullptr; }
     int *operator()(int n) const { return new int(n); }
@@ -34,7 +34,7 @@ int main()
     hidden(3);
     grow(new std::vector<int *>);
     std::vector<int> order = {3, 1, 2};
-    std::sort(order.begin(), order.end(), [](int a, int b) { new long(a); return a < b; });
+    std::sort(order.begin(), order.end(), [](int a, int b) { return new long(a), a < b; });
     visit([](int n) { new double(n); });
     std::thread worker([] { new std::string("another text that is too long for it"); });
     worker.join();

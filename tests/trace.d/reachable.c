@@ -1,8 +1,8 @@
-/* Blocks that are held at the end, each of another size. Behind each call stands what it is then: lost,
- * which nothing leads to; possibly lost, where a pointer on the way points amid its block; or reachable.
- * With the word `threads` there are blocks of threads, and with the word `fork` those of a child. The word
- * `quick` ends by quick_exit, `handler` in a handler of exit, and `failed exec` is killed behind an
- * exec that failed. */
+/* Blocks that are held at the end, each of another size. Behind each call stands what it is then:
+ * lost, which nothing leads to; possibly lost, where a pointer on the way points amid its block; or
+ * reachable. With the word `threads` there are blocks of threads, and with the word `fork` those of
+ * a child. The word `quick` ends by quick_exit, `handler` in a handler of exit, and `failed exec`
+ * is killed behind an exec that failed. */
 #include <pthread.h>
 #include <signal.h>
 #include <stdlib.h>
@@ -27,35 +27,35 @@ static __attribute__((noinline)) void *get(size_t bytes) { return calloc(1, byte
 
 static __attribute__((noinline)) void lose(void)
 {
-    struct node *one = get(1001); /* lost */
-    one->next = get(1002); /* lost */
+    struct node *one = get(1001);   /* lost */
+    one->next = get(1002);          /* lost */
     struct node *cycle = get(1003); /* lost */
-    cycle->next = get(1004); /* lost */
+    cycle->next = get(1004);        /* lost */
     cycle->next->next = cycle;
     struct node *mapped = get(400000); /* lost */
-    mapped->next = get(1005); /* lost */
+    mapped->next = get(1005);          /* lost */
 }
 
-/* A block that was given back leads nowhere. The last block stands before the heap's unused rest, to which glibc has a
- * pointer: it is one into the last word of this block. */
+/* A block that was given back leads nowhere. The last block stands before the heap's unused rest,
+ * to which glibc has a pointer: it is one into the last word of this block. */
 static __attribute__((noinline)) void leave_stale(void)
 {
     struct node *given_back = get(100000);
     given_back[1200].next = get(1006); /* lost */
-    get(1016); /* lost */
+    get(1016);                         /* lost */
     free(given_back);
 }
 
 static __attribute__((noinline)) void keep(void)
 {
-    global = get(2001); /* reachable */
-    global->next = get(2002); /* reachable */
-    global->next->next = get(2003); /* reachable */
-    large = get(400001); /* reachable */
-    large[1000].next = get(2004); /* reachable */
-    large[1001].next = aligned_alloc(64, 2240); /* reachable */
+    global = get(2001);                           /* reachable */
+    global->next = get(2002);                     /* reachable */
+    global->next->next = get(2003);               /* reachable */
+    large = get(400001);                          /* reachable */
+    large[1000].next = get(2004);                 /* reachable */
+    large[1001].next = aligned_alloc(64, 2240);   /* reachable */
     large[1002].next = realloc(malloc(40), 2005); /* reachable */
-    large[1003].next = malloc(0); /* reachable */
+    large[1003].next = malloc(0);                 /* reachable */
     in_mapping = mmap(NULL, 1 << 16, PROT_READ | PROT_WRITE, MAP_PRIVATE | MAP_ANONYMOUS, -1, 0);
     in_mapping[777] = get(2006); /* reachable */
     in_mapping = NULL;
@@ -67,8 +67,8 @@ static __attribute__((noinline)) void keep(void)
 static __attribute__((noinline)) void point_amid(void)
 {
     struct node *one = get(3001); /* possibly */
-    one->next = get(3002); /* possibly */
-    one->next->next = get(3003); /* possibly */
+    one->next = get(3002);        /* possibly */
+    one->next->next = get(3003);  /* possibly */
     amid = one->text;
     get(3004); /* lost */
     /* Behind its last byte. */
@@ -87,7 +87,7 @@ static __attribute__((noinline)) void wipe(void)
 static void *stay(void *unused)
 {
     struct node *volatile here = get(6001); /* reachable threads */
-    of_thread = get(6002); /* reachable threads */
+    of_thread = get(6002);                  /* reachable threads */
     (void)unused;
     pthread_barrier_wait(&barrier);
     while (here != NULL) {

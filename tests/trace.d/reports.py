@@ -1,10 +1,11 @@
-"""Reads a report of bin/leaks by the rules of its form, and writes its sites: bytes, blocks, and each call as function, file and line. Part
-of tests/trace.d/reports.
+"""Reads a report of bin/leaks by the rules of its form, and writes its sites: bytes, blocks, and
+each call as function, file and line. Part of tests/trace.d/reports.
 
     reports.py json FILE         reports.py sarif FILE
     reports.py xml FILE [OTHER]  reports.py pprof FILE
 
-XML is compared with another file, which valgrind wrote: no element is there that it doesn't have."""
+XML is compared with another file, which valgrind wrote: no element is there that it doesn't
+have."""
 import gzip
 import json
 import os
@@ -20,7 +21,8 @@ def expect(what, is_so):
 
 
 def line_of(number, blocks, calls):
-    return f"{number} {blocks} " + " < ".join(f"{function} {os.path.basename(file)}:{line}" for function, file, line in calls)
+    return f"{number} {blocks} " + " < ".join(f"{function} {os.path.basename(file)}:{line}"
+                                              for function, file, line in calls)
 
 
 def of_json(name):
@@ -28,20 +30,26 @@ def of_json(name):
     with open(name, encoding="utf-8") as file:
         told = json.load(file)
     expect("format", (told["format"], told["formatVersion"]) == ("tlsf-leaks", 1))
-    expect("settings", {"frames", "reachable", "allFrames", "allSites", "join", "suppress", "pid", "command"} == set(told["settings"]))
+    expect("settings", {"frames", "reachable", "allFrames", "allSites", "join", "suppress", "pid",
+                        "command"} == set(told["settings"]))
     for process in told["processes"]:
-        expect("members of a process", {"process", "program", "end", "traced", "reachableKnown", "held", "sums", "leftOut", "diagnostics",
-                                        "sites"} == set(process))
+        expect("members of a process", {"process", "program", "end", "traced", "reachableKnown",
+                                        "held", "sums", "leftOut", "diagnostics", "sites"}
+               == set(process))
         sums = [sum(one[of] for one in process["sums"].values()) for of in ("bytes", "blocks")]
-        expect("sums", sums == [sum(site[of] for site in process["sites"]) for of in ("bytes", "blocks")])
+        expect("sums", sums == [sum(site[of] for site in process["sites"])
+                                for of in ("bytes", "blocks")])
         expect("bytes held", process["held"]["bytes"] == sums[0] + process["leftOut"]["bytes"])
         for site in process["sites"]:
-            yield line_of(site["bytes"], site["blocks"], [(call["function"], call["file"] or "", call["line"]) for call in site["frames"]])
+            yield line_of(site["bytes"], site["blocks"],
+                          [(call["function"], call["file"] or "", call["line"])
+                           for call in site["frames"]])
 
 
 def of_sarif(name):
-    """Members that SARIF 2.1.0 requires: version and runs; tool, driver and name; of a rule its id; of a result its message. Those that a
-    code host reads: locations with a URI and a line, fingerprints, and a rule that the driver has."""
+    """Members that SARIF 2.1.0 requires: version and runs; tool, driver and name; of a rule its id;
+    of a result its message. Those that a code host reads: locations with a URI and a line,
+    fingerprints, and a rule that the driver has."""
     with open(name, encoding="utf-8") as file:
         told = json.load(file)
     expect("version", told["version"] == "2.1.0" and told["$schema"].endswith("sarif-2.1.0.json"))
@@ -50,17 +58,22 @@ def of_sarif(name):
         expect("driver", driver["name"] == "tlsf-leaks")
         rules = [rule["id"] for rule in driver["rules"]]
         expect("rules", len(set(rules)) == len(rules))
-        expect("invocations", all(isinstance(one["executionSuccessful"], bool) for one in run["invocations"]))
+        expect("invocations", all(isinstance(one["executionSuccessful"], bool)
+                                  for one in run["invocations"]))
         for result in run["results"]:
             expect("rule", rules[result["ruleIndex"]] == result["ruleId"])
             expect("level", result["level"] in ("none", "note", "warning", "error"))
-            expect("message", isinstance(result["message"]["text"], str) and result["message"]["text"])
-            expect("fingerprint", re.fullmatch("[0-9a-f]{64}", result["partialFingerprints"]["tlsfFunctions/v1"]))
+            expect("message", isinstance(result["message"]["text"], str)
+                   and result["message"]["text"])
+            expect("fingerprint", re.fullmatch("[0-9a-f]{64}",
+                                               result["partialFingerprints"]["tlsfFunctions/v1"]))
             place = result["locations"][0]["physicalLocation"]
             expect("line", place["region"]["startLine"] >= 1)
             artifact = place["artifactLocation"]
-            expect("place", artifact["uri"].startswith("file:///") or artifact["uriBaseId"] in run["originalUriBaseIds"])
-            frames = [frame["location"]["message"]["text"].rpartition(" ") for frame in result["stacks"][0]["frames"]]
+            expect("place", artifact["uri"].startswith("file:///")
+                   or artifact["uriBaseId"] in run["originalUriBaseIds"])
+            frames = [frame["location"]["message"]["text"].rpartition(" ")
+                      for frame in result["stacks"][0]["frames"]]
             expect("frames", frames)
             calls = [(function, *place.rpartition(":")[::2]) for function, _, place in frames]
             yield (f"{os.path.basename(artifact['uri'])}:{place['region']['startLine']} "
@@ -78,19 +91,26 @@ def shape(element, above=""):
 def of_xml(name, other=None):
     """As memcheck's protocol 4 has it."""
     root = ElementTree.parse(name).getroot()
-    expect("protocol", (root.tag, root.findtext("protocolversion"), root.findtext("protocoltool")) == ("valgrindoutput", "4", "memcheck"))
+    expect("protocol", (root.tag, root.findtext("protocolversion"), root.findtext("protocoltool"))
+           == ("valgrindoutput", "4", "memcheck"))
     if other:
         theirs = set(shape(ElementTree.parse(other).getroot()))
         expect(f"elements {sorted(set(shape(root)) - theirs)}", set(shape(root)) <= theirs)
-        required = {"/valgrindoutput/error/" + path for path in ("unique", "tid", "kind", "xwhat/text", "xwhat/leakedbytes",
-                                                                 "xwhat/leakedblocks", "stack/frame/ip", "stack/frame/fn")}
+        required = {"/valgrindoutput/error/" + path for path in ("unique", "tid", "kind",
+                                                                 "xwhat/text", "xwhat/leakedbytes",
+                                                                 "xwhat/leakedblocks",
+                                                                 "stack/frame/ip",
+                                                                 "stack/frame/fn")}
         expect("elements that are missing", required <= set(shape(root)) and required <= theirs)
     uniques = [error.findtext("unique") for error in root.iter("error")]
     expect("unique", len(set(uniques)) == len(uniques))
     for error in root.iter("error"):
-        frames = [frame for frame in error.find("stack") if frame.findtext("fn") not in ("malloc", "calloc", "realloc", "operator new(unsigned long)")]
-        calls = [(frame.findtext("fn"), frame.findtext("file") or "", frame.findtext("line")) for frame in frames]
-        yield f"{error.findtext('kind')} " + line_of(error.findtext("xwhat/leakedbytes"), error.findtext("xwhat/leakedblocks"), calls)
+        frames = [frame for frame in error.find("stack") if frame.findtext("fn")
+                  not in ("malloc", "calloc", "realloc", "operator new(unsigned long)")]
+        calls = [(frame.findtext("fn"), frame.findtext("file") or "", frame.findtext("line"))
+                 for frame in frames]
+        yield f"{error.findtext('kind')} " + line_of(error.findtext("xwhat/leakedbytes"),
+                                                     error.findtext("xwhat/leakedblocks"), calls)
 
 
 def number_at(data, at):
@@ -104,7 +124,8 @@ def number_at(data, at):
 
 
 def fields_of(data):
-    """The fields of a message, by number: numbers, and the bytes of texts, messages and numbers in a row."""
+    """The fields of a message, by number: numbers, and the bytes of texts, messages and numbers in
+    a row."""
     found, at = defaultdict(list), 0
     while at < len(data):
         key, at = number_at(data, at)
@@ -135,8 +156,10 @@ def of_pprof(name):
     texts = [text.decode() for text in told[6]]
     expect("first text", texts[0] == "")
     kinds = [tuple(texts[fields_of(kind)[at][0]] for at in (1, 2)) for kind in told[1]]
-    expect("kinds", kinds == [("alloc_objects", "count"), ("alloc_space", "bytes"), ("inuse_objects", "count"), ("inuse_space", "bytes")])
-    functions = {one[1][0]: (texts[one[2][0]], texts[(one[4] or [0])[0]]) for one in map(fields_of, told[5])}
+    expect("kinds", kinds == [("alloc_objects", "count"), ("alloc_space", "bytes"),
+                              ("inuse_objects", "count"), ("inuse_space", "bytes")])
+    functions = {one[1][0]: (texts[one[2][0]], texts[(one[4] or [0])[0]])
+                 for one in map(fields_of, told[5])}
     modules = {fields_of(one)[1][0] for one in told[3]}
     places = {}
     for one in map(fields_of, told[4]):
@@ -147,8 +170,11 @@ def of_pprof(name):
     for sample in map(fields_of, told[2]):
         values = list(numbers_in(sample[2]))
         expect("values", len(values) == 4)
-        yield " ".join(map(str, values)) + " " + line_of(0, 0, [places[at] for at in numbers_in(sample[1])])[4:]
+        yield " ".join(map(str, values)) + " " + line_of(0, 0,
+                                                         [places[at]
+                                                          for at in numbers_in(sample[1])])[4:]
 
 
-for row in sorted({"json": of_json, "sarif": of_sarif, "xml": of_xml, "pprof": of_pprof}[sys.argv[1]](*sys.argv[2:])):
+for row in sorted({"json": of_json, "sarif": of_sarif, "xml": of_xml,
+                   "pprof": of_pprof}[sys.argv[1]](*sys.argv[2:])):
     print(row)

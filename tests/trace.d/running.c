@@ -1,8 +1,8 @@
-/* A program that runs until it is told to end, by lines on standard input. It answers each with a line. What it
- * takes before the first `plant` is from before, where it is traced from then on.
+/* A program that runs until it is told to end, by lines on standard input. It answers each with a
+ * line. What it takes before the first `plant` is from before, where it is traced from then on.
  *
  *     running           waits for lines
- *     running pthreads  the same, while the main thread waits for another thread, which reads the lines
+ *     running pthreads  the same, while the main thread waits for another, which reads the lines
  */
 #define _GNU_SOURCE
 #include <dlfcn.h>

@@ -42,7 +42,8 @@ static void fail(int number)
     std::unique_ptr<Item> kept(new Item);
     Item *lost = new Item; // leak
     if (number > 0)
-        throw std::runtime_error("a text that is far too long for a short string" + std::to_string(number));
+        throw std::runtime_error("a text that is far too long for a short string"
+                                 + std::to_string(number));
     delete lost;
 }
 

@@ -27,9 +27,15 @@ static void *work(void *seed)
         random = random * 1103515245u + 12345u;
         void **block = &held[(random >> 16) % HELD];
         switch ((random >> 8) % 4) {
-        case 0: hand_over(random >> 22, *block); *block = malloc((random >> 10) % 500); break;
+        case 0:
+            hand_over(random >> 22, *block);
+            *block = malloc((random >> 10) % 500);
+            break;
         case 1: *block = realloc(*block, (random >> 10) % 900 + 1); break;
-        case 2: free(*block); *block = NULL; break;
+        case 2:
+            free(*block);
+            *block = NULL;
+            break;
         default: free(*block); *block = aligned_alloc(64, 64 * ((random >> 10) % 9 + 1));
         }
     }

@@ -1,4 +1,5 @@
-/* consumer.c: the program that takes the lines of a ring, by a pipe, and writes its report into a file. */
+/* consumer.c: the program that takes the lines of a ring, by a pipe, and writes its report into a
+ * file. */
 #define _GNU_SOURCE
 #include "follow.h"
 
@@ -11,7 +12,8 @@
 #include <time.h>
 #include <unistd.h>
 
-/* A pipe's bytes; and how long is waited until it is said that no lines are taken, and in between, in milliseconds. */
+/* A pipe's bytes; and how long is waited until it is said that no lines are taken, and in between,
+ * in milliseconds. */
 enum { PIPE_BYTES = 1 << 20, HUNG_AFTER = 10000, LOOK_EACH = 500 };
 
 /* In the child. Exit status 127 is what a shell gives. */
@@ -55,8 +57,9 @@ static long milliseconds(void)
 
 static void say_hung(const struct consumer *consumer)
 {
-    say(consumer->report, asked.gives_up ? "tlsf took no line for 10 s, so its process isn't traced any more"
-                                         : "tlsf took no line for 10 s, so its process may have to wait");
+    say(consumer->report, asked.gives_up
+                              ? "tlsf took no line for 10 s, so its process isn't traced any more"
+                              : "tlsf took no line for 10 s, so its process may have to wait");
 }
 
 /* Whether no more is waited for, behind HUNG_AFTER. */
@@ -65,7 +68,8 @@ static bool is_given_up(const struct consumer *consumer)
     return asked.gives_up || __atomic_load_n(consumer->is_stopped, __ATOMIC_ACQUIRE) != 0;
 }
 
-/* Waits until the pipe has room, or nobody has its other end. Returns false where no more is to be given. */
+/* Waits until the pipe has room, or nobody has its other end. Returns false where no more is to be
+ * given. */
 static bool wait_for_room(const struct consumer *consumer)
 {
     struct pollfd pipe = {consumer->pipe, POLLOUT, 0};
@@ -111,7 +115,8 @@ bool consumer_end(struct consumer *consumer, bool took_all)
         kill(consumer->process, SIGKILL);
     }
     long begun = milliseconds();
-    for (bool is_told = false; waitpid(consumer->process, &status, WNOHANG) == 0; poll(NULL, 0, 2)) {
+    for (bool is_told = false; waitpid(consumer->process, &status, WNOHANG) == 0;
+         poll(NULL, 0, 2)) {
         if (!is_told && milliseconds() - begun >= HUNG_AFTER) {
             is_told = true;
             say(consumer->report, "tlsf writes its report for 10 s already");
@@ -121,7 +126,8 @@ bool consumer_end(struct consumer *consumer, bool took_all)
         return true;
     }
     if (WIFEXITED(status)) {
-        snprintf(why, sizeof why, "tlsf ended with status %d, so its report isn't whole", WEXITSTATUS(status));
+        snprintf(why, sizeof why, "tlsf ended with status %d, so its report isn't whole",
+                 WEXITSTATUS(status));
     }
     say(consumer->report, why);
     return false;

@@ -1,4 +1,5 @@
-/* follow.h: the parts of tlsf-follow, which gives the lines of traced processes to tlsf while they run. Not proved.
+/* follow.h: the parts of tlsf-follow, which gives the lines of traced processes to tlsf while they
+ * run. Not proved.
  *
  *     main.c      the folder of rings: each that comes gets a follower, a process of its own
  *     ring.c      the follower of one ring: reads its lines
@@ -13,8 +14,9 @@
 #include <stddef.h>
 #include <sys/types.h>
 
-/* What was asked for: the folder of rings and that of reports; the consumer's words; milliseconds from report to report, or 0; the most bytes
- * of lines that are kept; whether lines are kept, too; and whether a process goes on untraced where the consumer takes no lines. */
+/* What was asked for: the folder of rings and that of reports; the consumer's words; milliseconds
+ * from report to report, or 0; the most bytes of lines that are kept; whether lines are kept, too;
+ * and whether a process goes on untraced where the consumer takes no lines. */
 struct asked {
     const char *rings, *folder;
     char **words;
@@ -26,7 +28,8 @@ extern struct asked asked;
 /* How a follower ended, by its status: no line of its ring was lost, or some were. */
 enum { KEPT_ALL = 0, LOST_SOME = 3 };
 
-/* The name of a file of a process in the folder of reports, by its ring's name, which ends with `.ring`, and another end. */
+/* The name of a file of a process in the folder of reports, by its ring's name, which ends with
+ * `.ring`, and another end. */
 const char *file_of(const char *ring, const char *end);
 
 /* A line on standard error. */
@@ -39,7 +42,8 @@ int follow_ring(int file, const char *name);
 
 /* consumer.c */
 
-/* A running consumer, its end of the pipe, the name of its report, and a word that isn't 0 once it is to be left alone. */
+/* A running consumer, its end of the pipe, the name of its report, and a word that isn't 0 once it
+ * is to be left alone. */
 struct consumer {
     pid_t process;
     int pipe;

@@ -2,13 +2,16 @@
  *
  *     tlsf-follow [-k] [-m BYTES] [-g] [-e MS] [-r BYTES] RINGS FOLDER TLSF WORD..
  *
- * In the folder RINGS each traced process makes a ring (ring.h). Of each FOLDER gets NAME.report, what `TLSF WORD..` tells of its lines, and
- * NAME.told, the lines of modules and stacks; with -k NAME.log, all lines, or with -m as many bytes of them at most. A process that tells what is
- * reachable, into a file beside its ring, has NAME.reachable. With -e a report is due each MS milliseconds, as TLSF knows by its
- * own words, and at SIGUSR1. With -g a process goes on untraced where TLSF hangs. FOLDER/states gets how each ended.
+ * In the folder RINGS each traced process makes a ring (ring.h). Of each FOLDER gets NAME.report,
+ * what `TLSF WORD..` tells of its lines, and NAME.told, the lines of modules and stacks; with -k
+ * NAME.log, all lines, or with -m as many bytes of them at most. A process that tells what is
+ * reachable, into a file beside its ring, has NAME.reachable. With -e a report is due each MS
+ * milliseconds, as TLSF knows by its own words, and at SIGUSR1. With -g a process goes on untraced
+ * where TLSF hangs. FOLDER/states gets how each ended.
  *
- * `ready` on standard output tells that processes may begin. At SIGTERM it ends once no process is left, at SIGINT it lets all go at
- * once. Its status is 3 where lines were lost, or a process couldn't make a ring. bin/trace starts it.
+ * `ready` on standard output tells that processes may begin. At SIGTERM it ends once no process is
+ * left, at SIGINT it lets all go at once. Its status is 3 where lines were lost, or a process
+ * couldn't make a ring. bin/trace starts it.
  */
 #define _GNU_SOURCE
 #include "follow.h"
@@ -73,7 +76,10 @@ static const char *path_in(const char *folder, const char *name, int length, con
     return path;
 }
 
-const char *file_of(const char *ring, const char *end) { return path_in(asked.folder, ring, (int)(strlen(ring) - strlen("ring")), end); }
+const char *file_of(const char *ring, const char *end)
+{
+    return path_in(asked.folder, ring, (int)(strlen(ring) - strlen("ring")), end);
+}
 
 /* ---- rings */
 
@@ -100,13 +106,15 @@ static void add(struct followed fresh)
     all[count++] = fresh;
 }
 
-/* Follows a ring, whose file has no name from then on: so nothing is left of it, whatever ends all. */
+/* Follows a ring, whose file has no name from then on: so nothing is left of it, whatever ends
+ * all. */
 static void follow(const char *name)
 {
     char path[PATH_MAX];
     snprintf(path, sizeof path, "%s/%s", asked.rings, name);
     int file = open(path, O_RDWR | O_CLOEXEC);
-    struct ring *ring = file < 0 ? MAP_FAILED : mmap(NULL, page(), PROT_READ | PROT_WRITE, MAP_SHARED, file, 0);
+    struct ring *ring =
+        file < 0 ? MAP_FAILED : mmap(NULL, page(), PROT_READ | PROT_WRITE, MAP_SHARED, file, 0);
     if (ring == MAP_FAILED) {
         say(path, strerror(errno));
         has_lost = true;
@@ -200,7 +208,8 @@ static void take_program(const char *name, bool began)
     }
 }
 
-/* Events that are alike and follow each other are one for the kernel. Here each has a name of its own. */
+/* Events that are alike and follow each other are one for the kernel. Here each has a name of its
+ * own. */
 static void take_event(const struct inotify_event *event)
 {
     if ((event->mask & IN_Q_OVERFLOW) != 0) {
@@ -231,7 +240,8 @@ static void tell_stopped(pid_t follower)
 {
     for (size_t k = 0; k < count; k++) {
         if (all[k].follower == follower) {
-            say(file_of(all[k].name, "report"), "its follower is stopped by a signal, so its process may have to wait");
+            say(file_of(all[k].name, "report"),
+                "its follower is stopped by a signal, so its process may have to wait");
         }
     }
 }
@@ -280,14 +290,17 @@ static bool has_variables(const char *process)
     return length > 0 && memmem(variables, (size_t)length, wanted, strlen(wanted)) != NULL;
 }
 
-/* Whether a process has just become another program, which hasn't begun yet. One that isn't traced is waited for for a while, too. */
+/* Whether a process has just become another program, which hasn't begun yet. One that isn't traced
+ * is waited for for a while, too. */
 static bool is_beginning(void)
 {
     static int looks;
     DIR *processes = looks++ < LOOKS_MOST ? opendir("/proc") : NULL;
     bool is_found = false;
-    for (struct dirent *entry; !is_found && processes != NULL && (entry = readdir(processes)) != NULL;) {
-        is_found = entry->d_name[0] >= '1' && entry->d_name[0] <= '9' && has_variables(entry->d_name);
+    for (struct dirent *entry;
+         !is_found && processes != NULL && (entry = readdir(processes)) != NULL;) {
+        is_found =
+            entry->d_name[0] >= '1' && entry->d_name[0] <= '9' && has_variables(entry->d_name);
     }
     if (processes != NULL) {
         closedir(processes);
@@ -295,7 +308,10 @@ static bool is_beginning(void)
     return is_found;
 }
 
-static bool is_any_left(void) { return count > 0 || (!is_stopped && (programs > 0 || is_beginning())); }
+static bool is_any_left(void)
+{
+    return count > 0 || (!is_stopped && (programs > 0 || is_beginning()));
+}
 
 /* Until it is over, and no process is left that has a ring, or may begin one. */
 static void follow_all(int events, int signals)
@@ -324,7 +340,9 @@ static void open_session(unsigned long bytes)
     static struct robust_list_head head;
     const char *name = path_in(asked.rings, "session", 7, "");
     int file = open(name, O_RDWR | O_CREAT | O_CLOEXEC, 0600);
-    void *memory = file < 0 || ftruncate(file, (off_t)page()) != 0 ? MAP_FAILED : mmap(NULL, page(), PROT_READ | PROT_WRITE, MAP_SHARED, file, 0);
+    void *memory = file < 0 || ftruncate(file, (off_t)page()) != 0
+                       ? MAP_FAILED
+                       : mmap(NULL, page(), PROT_READ | PROT_WRITE, MAP_SHARED, file, 0);
     if (memory == MAP_FAILED) {
         die(name);
     }
@@ -366,7 +384,8 @@ static unsigned long take_options(int argc, char **argv)
         bytes = option == 'r' ? strtoul(optarg, NULL, 10) : bytes;
     }
     if (argc - optind < 3) {
-        fputs("tlsf-follow [-k] [-m BYTES] [-g] [-e MS] [-r BYTES] RINGS FOLDER TLSF WORD..\n", stderr);
+        fputs("tlsf-follow [-k] [-m BYTES] [-g] [-e MS] [-r BYTES] RINGS FOLDER TLSF WORD..\n",
+              stderr);
         exit(SET_UP_FAILED);
     }
     asked.rings = argv[optind];
@@ -380,7 +399,8 @@ int main(int argc, char **argv)
     unsigned long bytes = take_options(argc, argv);
     prctl(PR_SET_PDEATHSIG, SIGTERM);
     int signals = open_signals(), events = inotify_init1(IN_NONBLOCK | IN_CLOEXEC);
-    if (signals < 0 || events < 0 || inotify_add_watch(events, asked.rings, IN_CREATE | IN_MOVED_TO | IN_CLOSE_WRITE) < 0) {
+    if (signals < 0 || events < 0
+        || inotify_add_watch(events, asked.rings, IN_CREATE | IN_MOVED_TO | IN_CLOSE_WRITE) < 0) {
         die(asked.rings);
     }
     open_session(bytes);

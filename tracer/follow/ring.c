@@ -1,5 +1,6 @@
-/* ring.c: the follower of one ring. It gives its lines to the consumer, and writes those that tell modules and stacks into a file, which
- * bin/source-lines reads as a log. In a silence it tells the time by itself.
+/* ring.c: the follower of one ring. It gives its lines to the consumer, and writes those that tell
+ * modules and stacks into a file, which bin/source-lines reads as a log. In a silence it tells the
+ * time by itself.
  */
 #define _GNU_SOURCE
 #include "follow.h"
@@ -19,17 +20,19 @@
 #include <time.h>
 #include <unistd.h>
 
-/* The most bytes that are given at once; and how long is slept at first, and at most, in milliseconds. */
+/* The most bytes that are given at once; and how long is slept at first, and at most, in
+ * milliseconds. */
 enum { GIVE_MOST = 1 << 18, SLEEP_FIRST = 10, SLEEP_MOST = 200 };
 
-static const char no_effect[] = " ! (nil) 0\n", start_line[] = "= Start\n", end_line[] = "= End\n", cut_line[] = "@ cut ! (nil) 0\n";
+static const char no_effect[] = " ! (nil) 0\n", start_line[] = "= Start\n", end_line[] = "= End\n",
+                  cut_line[] = "@ cut ! (nil) 0\n";
 enum { NO_EFFECT_BYTES = sizeof no_effect - 1 };
 
 static volatile sig_atomic_t is_asked;
 
-/* A ring as it is followed: its head and lines, up to where they are read; the bytes of lines that are no calls; and the time of the last
- * mark. What was read has been taken, or the consumer is gone. Lines are kept where that was asked for,
- * until their file is full. */
+/* A ring as it is followed: its head and lines, up to where they are read; the bytes of lines that
+ * are no calls; and the time of the last mark. What was read has been taken, or the consumer is
+ * gone. Lines are kept where that was asked for, until their file is full. */
 struct feed {
     struct ring *ring;
     const char *lines;
@@ -58,7 +61,8 @@ static uint64_t age(const struct feed *feed)
 
 /* ---- lines */
 
-/* Takes a line that has no effect: of a module or a stack, or of blocks from before, it is kept. The time of a mark is looked at. */
+/* Takes a line that has no effect: of a module or a stack, or of blocks from before, it is kept.
+ * The time of a mark is looked at. */
 static void take_told(struct feed *feed, const char *line, const char *end)
 {
     size_t length = (size_t)(end - line);
@@ -68,7 +72,8 @@ static void take_told(struct feed *feed, const char *line, const char *end)
     }
     if (line[2] == 't') {
         feed->marked = strtoull(line + 3, NULL, 10);
-    } else if (line[2] == 'b' || memchr(line, '=', length) != NULL || memchr(line, '+', length) != NULL) {
+    } else if (line[2] == 'b' || memchr(line, '=', length) != NULL
+               || memchr(line, '+', length) != NULL) {
         fwrite(line, 1, length + NO_EFFECT_BYTES, feed->told);
         feed->is_told = true;
     }
@@ -77,7 +82,9 @@ static void take_told(struct feed *feed, const char *line, const char *end)
 static void look_for_told(struct feed *feed, const char *from, const char *end)
 {
     feed->is_told = false;
-    for (const char *at = from; (at = memmem(at, (size_t)(end - at), no_effect, NO_EFFECT_BYTES)) != NULL; at += NO_EFFECT_BYTES) {
+    for (const char *at = from;
+         (at = memmem(at, (size_t)(end - at), no_effect, NO_EFFECT_BYTES)) != NULL;
+         at += NO_EFFECT_BYTES) {
         const char *newline = memrchr(from, '\n', (size_t)(at - from));
         take_told(feed, newline == NULL ? from : newline + 1, at);
     }
@@ -119,7 +126,8 @@ static bool give(struct feed *feed, const char *from, size_t length)
 static bool give_mark(struct feed *feed, char letter)
 {
     char line[64];
-    int length = snprintf(line, sizeof line, "@ %c%llu%s", letter, (unsigned long long)age(feed), no_effect);
+    int length =
+        snprintf(line, sizeof line, "@ %c%llu%s", letter, (unsigned long long)age(feed), no_effect);
     bool is_taken = give(feed, line, (size_t)length);
     feed->no_calls -= (size_t)length;
     return is_taken;
@@ -129,7 +137,8 @@ static bool give_mark(struct feed *feed, char letter)
 static size_t next_bytes(const struct feed *feed, const char *from, uint64_t to)
 {
     size_t length = to - feed->read;
-    return length <= GIVE_MOST ? length : (size_t)((const char *)memrchr(from, '\n', GIVE_MOST) + 1 - from);
+    return length <= GIVE_MOST ? length
+                               : (size_t)((const char *)memrchr(from, '\n', GIVE_MOST) + 1 - from);
 }
 
 /* Gives what is written up to a byte, and makes room. Returns whether it was taken. */
@@ -144,7 +153,8 @@ static bool give_up_to(struct feed *feed, uint64_t to)
         feed->read += length;
         __atomic_store_n(&ring->read, feed->read, __ATOMIC_SEQ_CST);
         uint64_t left = __atomic_load_n(&ring->written, __ATOMIC_RELAXED) - feed->read;
-        if (__atomic_load_n(&ring->process_waits, __ATOMIC_SEQ_CST) != 0 && left <= ring->bytes / 2) {
+        if (__atomic_load_n(&ring->process_waits, __ATOMIC_SEQ_CST) != 0
+            && left <= ring->bytes / 2) {
             wake(&ring->room);
         }
     }
@@ -154,7 +164,10 @@ static bool give_up_to(struct feed *feed, uint64_t to)
 /* ---- the time */
 
 /* Whether a report is due, in a silence of the process. */
-static bool is_due(const struct feed *feed) { return asked.every > 0 && age(feed) / asked.every > feed->marked / asked.every; }
+static bool is_due(const struct feed *feed)
+{
+    return asked.every > 0 && age(feed) / asked.every > feed->marked / asked.every;
+}
 
 /* Behind lines that belong together. Returns whether the marks that are due were taken. */
 static bool give_marks(struct feed *feed, bool was_asked, bool is_silent)
@@ -162,7 +175,8 @@ static bool give_marks(struct feed *feed, bool was_asked, bool is_silent)
     if (was_asked) {
         is_asked = 0;
     }
-    return !(was_asked && !give_mark(feed, 'n')) && !(is_silent && is_due(feed) && !give_mark(feed, 't'));
+    return !(was_asked && !give_mark(feed, 'n'))
+           && !(is_silent && is_due(feed) && !give_mark(feed, 't'));
 }
 
 /* Sleeps until there is news, but not for long: a process that writes little wakes nobody. */
@@ -182,7 +196,8 @@ static bool give_all(struct feed *feed)
     struct ring *ring = feed->ring;
     for (long pause = SLEEP_FIRST;; pause = pause < SLEEP_MOST ? pause * 2 : SLEEP_MOST) {
         uint32_t seen = __atomic_load_n(&ring->news, __ATOMIC_ACQUIRE);
-        bool is_closed = __atomic_load_n(&ring->is_closed, __ATOMIC_ACQUIRE) != 0, was_asked = is_asked != 0;
+        bool is_closed = __atomic_load_n(&ring->is_closed, __ATOMIC_ACQUIRE) != 0,
+             was_asked = is_asked != 0;
         uint64_t written = __atomic_load_n(&ring->written, __ATOMIC_ACQUIRE);
         bool is_silent = written == feed->read;
         if (!give_up_to(feed, written) || !give_marks(feed, was_asked, is_silent)) {
@@ -210,8 +225,9 @@ static bool map(struct feed *feed, int file)
     }
     size_t bytes = (size_t)is.st_size - page;
     char *memory = mmap(NULL, page + 2 * bytes, PROT_READ | PROT_WRITE, MAP_SHARED, file, 0);
-    if (memory == MAP_FAILED ||
-        mmap(memory + page + bytes, bytes, PROT_READ, MAP_SHARED | MAP_FIXED, file, (off_t)page) == MAP_FAILED) {
+    if (memory == MAP_FAILED
+        || mmap(memory + page + bytes, bytes, PROT_READ, MAP_SHARED | MAP_FIXED, file, (off_t)page)
+               == MAP_FAILED) {
         return false;
     }
     feed->ring = (struct ring *)(void *)memory;
@@ -247,7 +263,10 @@ static bool close_file(FILE *file, const char *name)
 static const char *how(const struct feed *feed)
 {
     const struct ring *ring = feed->ring;
-    return !feed->took_all || ring->is_dropped != 0 ? "lost" : ring->is_cut != 0 ? "cut" : ring->is_ended != 0 ? "whole" : "ended";
+    return !feed->took_all || ring->is_dropped != 0 ? "lost"
+           : ring->is_cut != 0                      ? "cut"
+           : ring->is_ended != 0                    ? "whole"
+                                                    : "ended";
 }
 
 /* The last line, which no ring has. */
@@ -281,7 +300,8 @@ static bool copy(int from, const char *name)
     return to >= 0 && close(to) == 0 && gave == 0;
 }
 
-/* The process tells at its end beside its ring what is reachable. That gets to the folder of reports. */
+/* The process tells at its end beside its ring what is reachable. That gets to the folder of
+ * reports. */
 static void bring_list(const char *name)
 {
     char list[PATH_MAX];

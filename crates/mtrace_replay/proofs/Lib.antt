@@ -4,6 +4,6 @@ pub mod Told
 pub mod Index
 pub mod OnHeap
 pub mod Running
-pub mod Served
+pub mod OnLedger
 pub mod BySize
 pub mod Enough

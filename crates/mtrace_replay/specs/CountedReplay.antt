@@ -7,7 +7,7 @@ use Rattle.mtrace_replay.specs.Moment.{ReadLine}
 use Rattle.mtrace_replay.specs.History.{held, pending}
 use Rattle.mtrace_replay.specs.Totals.{is_served}
 use Rattle.mtrace_replay.specs.Asked.{class_asked}
-use Rattle.mtrace_replay.specs.Served.{served_moment, served_moments, StandsWithoutHeap, served_noted}
+use Rattle.mtrace_replay.specs.LedgerReplay.{ledger_moment, ledger_moments, LedgerStandsFor, ledger_noted}
 use Rattle.mtrace_replay.specs.Spans.{released_by, address_asked, AreCountedOf, AreFew}
 use Rattle.mtrace_replay.specs.LineReplay.{LineRules, Notes}
 
@@ -17,13 +17,13 @@ pub record IsChangeOf (change : Change) (served : Bool) (line : ReadLine) (past 
   pub freed : change.freed ≡ released_by line (pending past) false
   pub address : change.address ≡ address_asked line
   pub size : change.size ≡ class_asked line
-  pub served_is : served ≡ is_served (served_moment (length past) line (pending past) (held (served_moments past)))
+  pub served_is : served ≡ is_served (ledger_moment (length past) line (pending past) (held (ledger_moments past)))
 
 -- The line of this number was fed, and its blocks were counted.
 pub record FeedsCounted {E : Type 0} (number : ℕ) (line : ReadLine) (diagnostics : List Diagnostic) (result : Result (Unit {0}) E) (old new : CountedReplay) : Type 0 where
-  pub stands : OnOk result ((past : List ReadLine) → StandsWithoutHeap old.ledger past → StandsWithoutHeap new.ledger (line ∷ past))
-  pub spans : OnOk result ((past : List ReadLine) → StandsWithoutHeap old.ledger past → AreCountedOf past old.spans → AreCountedOf (line ∷ past) new.spans)
-  pub told : OnOk result ((past : List ReadLine) → StandsWithoutHeap old.ledger past → served_noted (line ∷ past) ≡ served_noted past ++ diagnostics)
+  pub stands : OnOk result ((past : List ReadLine) → LedgerStandsFor old.ledger past → LedgerStandsFor new.ledger (line ∷ past))
+  pub spans : OnOk result ((past : List ReadLine) → LedgerStandsFor old.ledger past → AreCountedOf past old.spans → AreCountedOf (line ∷ past) new.spans)
+  pub told : OnOk result ((past : List ReadLine) → LedgerStandsFor old.ledger past → ledger_noted (line ∷ past) ≡ ledger_noted past ++ diagnostics)
   pub counted : OnOk result (new.ledger.lines ≡ number)
   pub few : OnOk result (AreFew number new.spans)
 
@@ -31,9 +31,9 @@ pub record FeedsCounted {E : Type 0} (number : ℕ) (line : ReadLine) (diagnosti
 abbrev pub counted_rules : LineRules CountedReplay
 counted_rules = record {
   Start = Unit {0};
-  Stands = λ start replay past. StandsWithoutHeap replay.ledger past × AreCountedOf past replay.spans;
-  noted = λ start past. served_noted past;
-  Tells = λ start. Notes served_noted;
+  Stands = λ start replay past. LedgerStandsFor replay.ledger past × AreCountedOf past replay.spans;
+  noted = λ start past. ledger_noted past;
+  Tells = λ start. Notes ledger_noted;
   lines = λ replay. replay.ledger.lines;
   IsReady = λ replay. AreFew replay.ledger.lines replay.spans;
   fixed = λ replay. 0;

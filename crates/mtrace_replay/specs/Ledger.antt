@@ -5,11 +5,11 @@ use Rattle.std.specs.Map.{keys_of, values_of}
 use Rattle.mtrace_replay.specs.Entry.{Entry}
 use Rattle.mtrace_replay.specs.Locations.{location_of, HasLocation}
 use Rattle.mtrace_replay.specs.Sites.{Site, AreTallied}
-use Rattle.mtrace_replay.specs.declared.no_heap.shares.When.{When}
-use Rattle.mtrace_replay.specs.declared.no_heap.shares.When.TheVariants.{Peak, End}
+use Rattle.mtrace_replay.specs.declared.ledger.shares.When.{When}
+use Rattle.mtrace_replay.specs.declared.ledger.shares.When.TheVariants.{Peak, End}
 use Rattle.mtrace_replay.specs.Calls.{Called}
 use Rattle.mtrace_replay.specs.Shares.{ByLocation, nothing, amount_less, now_at, marked_at, count_at, Changes, KeepsCounts, IsOfWords}
-use Rattle.mtrace_replay.specs.declared.no_heap.ledger.Kept.{Kept}
+use Rattle.mtrace_replay.specs.declared.ledger.ledger.Kept.{Kept}
 
 -- the entry of an address, by what is kept for it
 abbrev pub entry_of : List (List ℕ) → ℕ × Kept → Entry

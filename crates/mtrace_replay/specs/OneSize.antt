@@ -6,16 +6,16 @@ use Rattle.tlsf_heap.specs.Memalign.{is_alignment}
 use Rattle.mtrace_log.specs.declared.event.Event.TheVariants.{Alloc, New, Aligned}
 use Rattle.mtrace_replay.specs.Moment.{ReadLine, asked_size, Act, give, move, plan}
 use Rattle.mtrace_replay.specs.History.{held, pending}
-use Rattle.mtrace_replay.specs.Served.{served_moments}
+use Rattle.mtrace_replay.specs.LedgerReplay.{ledger_moments}
 
 -- what the line behind these does where no heap is asked
-abbrev pub served_act : ReadLine → List ReadLine → Act
-served_act line past = (plan (suc (length past)) line (pending past) (held (served_moments past))).act
+abbrev pub ledger_act : ReadLine → List ReadLine → Act
+ledger_act line past = (plan (suc (length past)) line (pending past) (held (ledger_moments past))).act
 
 -- what each line does, the latest first
-abbrev pub served_acts : List ReadLine → List Act
-served_acts [] = []
-served_acts (line ∷ past) = served_act line past ∷ served_acts past
+abbrev pub ledger_acts : List ReadLine → List Act
+ledger_acts [] = []
+ledger_acts (line ∷ past) = ledger_act line past ∷ ledger_acts past
 
 -- What is asked for is a block of this size. An alignment is at most the unit, which each block has anyway.
 abbrev pub AsksForSize : ℕ → Act → Type 0

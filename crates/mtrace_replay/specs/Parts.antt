@@ -7,13 +7,13 @@ use Rattle.std.specs.Cmp.Lexicographic.{slice_cmp}
 use Rattle.tlsf_class.specs.Classes.{unit, greatest_size, least}
 use Rattle.tlsf_store.specs.Records.{most_records}
 use Rattle.tlsf_heap.specs.Sizing.{table_bytes}
-use Rattle.mtrace_replay.specs.declared.no_heap.replay.LedgerTotals.{LedgerTotals}
+use Rattle.mtrace_replay.specs.declared.ledger.replay.LedgerTotals.{LedgerTotals}
 use Rattle.mtrace_replay.specs.Moment.{ReadLine, Given}
 use Rattle.mtrace_replay.specs.History.{held, pending}
 use Rattle.mtrace_replay.specs.Totals.{is_served, IsMost}
 use Rattle.mtrace_replay.specs.Asked.{class_asked}
-use Rattle.mtrace_replay.specs.Served.{served_moment, served_moments, served_history}
-use Rattle.mtrace_replay.specs.RunServed.{AreServedTotals}
+use Rattle.mtrace_replay.specs.LedgerReplay.{ledger_moment, ledger_moments, ledger_history}
+use Rattle.mtrace_replay.specs.RunLedger.{AreLedgerTotals}
 use Rattle.mtrace_log.specs.Bytes.{newline}
 use Rattle.mtrace_replay.specs.Texts.{number_line, pair_line, size_line, bytes_text}
 
@@ -47,7 +47,7 @@ blocks_of asked first last all = count_by (λ given. is_in first last (asked giv
 unfoldable pub served_classes : List ReadLine → List (Option ℕ)
 served_classes [] = []
 served_classes (line ∷ past) =
-    if is_served (served_moment (length past) line (pending past) (held (served_moments past))) then class_asked line ∷ served_classes past else served_classes past
+    if is_served (ledger_moment (length past) line (pending past) (held (ledger_moments past))) then class_asked line ∷ served_classes past else served_classes past
 
 -- the largest of the sizes that fall under these ranges, 0 where none does
 abbrev pub largest : (first last : ℕ) → List (Option ℕ) → ℕ
@@ -61,7 +61,7 @@ pub record Part : Type 0 where
 
 -- The part that serves these ranges. Its blocks are the most that are held behind any line, and it has the largest size.
 pub record IsPart (past : List ReadLine) (first last : ℕ) (part : Part) : Type 0 where
-  pub blocks : IsMost (blocks_of (class_at past) first last) (served_moments past) part.blocks
+  pub blocks : IsMost (blocks_of (class_at past) first last) (ledger_moments past) part.blocks
   pub size : part.size ≡ largest first last (served_classes past)
 
 -- each of the parts that serve neighbouring ranges
@@ -158,7 +158,7 @@ peak_line_text bytes line = pair_line (codes "peak: ") bytes (codes " bytes at l
 -- the text of the heaps by size that serve a log, this many at most
 pub record TellsParts (heaps : ℕ) (lines : List ReadLine) (text : List ℕ) : Type 0 where
   pub totals : LedgerTotals
-  pub summed : AreServedTotals (served_history lines) totals
+  pub summed : AreLedgerTotals (ledger_history lines) totals
   pub rest : List ℕ
   pub tells : TellsHeaps (list_all is_some (served_classes (reverse lines))) heaps (reverse lines) rest
   pub text_is : text ≡ peak_line_text totals.peak_bytes totals.peak_line ++ rest

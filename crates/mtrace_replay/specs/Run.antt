@@ -1,5 +1,5 @@
 -- What a run read and wrote, by its answer.
-use Rattle.std.specs.Prelude.{◌≡◌, ◌↔◌, ℕ, List, ◌++◌, reverse, Result, Ok, Err, IsTrue, IsErrOf}
+use Rattle.std.specs.Prelude.{◌≡◌, ◌↔◌, ℕ, List, ◌++◌, reverse, count_by, Result, Ok, Err, IsTrue, IsErrOf}
 use Rattle.mtrace_log.specs.Shown.{ReaderState, WriterState}
 use Rattle.mtrace_replay.specs.declared.runs.report.Report.{Report}
 use Rattle.mtrace_replay.specs.declared.runs.report.Report.TheVariants.{Nothing}
@@ -12,7 +12,8 @@ use Rattle.mtrace_replay.specs.declared.runs.status.RunFault.TheVariants.{Read, 
 use Rattle.mtrace_replay.specs.Course.{Course, shown_before, shown_after}
 use Rattle.mtrace_replay.specs.Settings.{are_bad}
 use Rattle.mtrace_replay.specs.Started.{Bare, started}
-use Rattle.mtrace_replay.specs.Totals.{AreTotals}
+use Rattle.mtrace_log.specs.HasRead.{HasReadAll}
+use Rattle.mtrace_replay.specs.Totals.{AreTotals, is_refused}
 use Rattle.mtrace_replay.specs.Moment.{ReadLine, Given}
 use Rattle.mtrace_replay.specs.History.{moments, history, diagnostics, AreHeld, entries_of, content_after}
 use Rattle.mtrace_replay.specs.Replay.{Replayed, StandsFor, heap_notes}
@@ -69,6 +70,12 @@ pub record Runs {R W : Type 0} (report : Report) (settings : Settings) (result :
   pub ends : RunEnds report settings result reader writer
   pub bad_settings : IsErrOf result BadSettings ↔ IsTrue (are_bad settings)
   pub whole : (shown_after reader).whole ≡ (shown_before reader).whole
+
+-- all of the log was read, and this many of its lines the heap refused
+pub record CountsRefused (settings : Settings) (refused : ℕ) (reader_old reader_new : ReaderState) : Type 0 where
+  pub lines : List ReadLine
+  pub read : HasReadAll reader_old.left reader_new.left lines
+  pub refused_are : refused ≡ count_by is_refused (history settings lines)
 
 -- what a call leaves that puts this text with the report in it
 pub record PutsReport {T E : Type 0} (result : Result T E) (report : Report) (text : List ℕ)

@@ -6,13 +6,13 @@ use Rattle.mtrace_log.specs.Trace.{HasTakenAndFlushed, HasFailedToWrite}
 use Rattle.mtrace_replay.specs.declared.runs.status.Status.{Status}
 use Rattle.mtrace_replay.specs.declared.runs.status.RunFault.{RunFault}
 use Rattle.mtrace_replay.specs.declared.runs.status.RunFault.TheVariants.{Write, BadSettings, OutOfMemory}
-use Rattle.mtrace_replay.specs.declared.no_heap.report.LedgerReport.TheVariants.{Nothing}
+use Rattle.mtrace_replay.specs.declared.ledger.report.LedgerReport.TheVariants.{Nothing}
 use Rattle.mtrace_replay.specs.declared.parts.replay.CountedReplay.{CountedReplay}
 use Rattle.mtrace_replay.specs.Course.{Course, shown_before, shown_after}
 use Rattle.mtrace_replay.specs.Moment.{ReadLine}
 use Rattle.mtrace_replay.specs.Run.{NothingDone}
-use Rattle.mtrace_replay.specs.Served.{StandsWithoutHeap}
-use Rattle.mtrace_replay.specs.RunServed.{ReportsServed, RunsServedFirst}
+use Rattle.mtrace_replay.specs.LedgerReplay.{LedgerStandsFor}
+use Rattle.mtrace_replay.specs.RunLedger.{ReportsLedger, RunsLedgerFirst}
 use Rattle.mtrace_replay.specs.Spans.{AreCountedOf}
 use Rattle.mtrace_replay.specs.Parts.{TellsParts}
 
@@ -39,19 +39,19 @@ PartsFollowAlone heaps lines result reader writer = (reader.new ≡ reader.old) 
 pub record RunsParts {R W : Type 0} (heaps : ℕ) (result : Result Status RunFault) (reader : Course R ReaderState) (writer : Course W WriterState) : Type 0 where
   pub bad_heaps : is_bad_heaps heaps ≡ true → (result ≡ Err BadSettings) × NothingDone reader writer
   pub runs : is_bad_heaps heaps ≡ false → (IsErrOf result OutOfMemory × NothingDone reader writer)
-      ⊎ RunsServedFirst (PartsFollowAlone heaps) result reader writer
+      ⊎ RunsLedgerFirst (PartsFollowAlone heaps) result reader writer
 
 -- nothing was followed yet
 pub record IsStart (replay : CountedReplay) : Type 0 where
-  pub stands : StandsWithoutHeap replay.ledger []
+  pub stands : LedgerStandsFor replay.ledger []
   pub counted : AreCountedOf [] replay.spans
 
 -- some lines were followed, and their blocks were counted
 abbrev pub HasLines : CountedReplay → Type 0
-HasLines replay = (lines : List ReadLine) × StandsWithoutHeap replay.ledger (reverse lines) × AreCountedOf (reverse lines) replay.spans
+HasLines replay = (lines : List ReadLine) × LedgerStandsFor replay.ledger (reverse lines) × AreCountedOf (reverse lines) replay.spans
 
 -- a run without a report, and the replay in the end
 pub record EndsCounted (status : Status) (replay : CountedReplay) (reader_old reader_new : ReaderState) (writer_old writer_new : WriterState) : Type 0 where
-  pub reports : ReportsServed Nothing status reader_old reader_new writer_old writer_new
-  pub stands : StandsWithoutHeap replay.ledger (reverse reports.lines)
+  pub reports : ReportsLedger Nothing status reader_old reader_new writer_old writer_new
+  pub stands : LedgerStandsFor replay.ledger (reverse reports.lines)
   pub counted : AreCountedOf (reverse reports.lines) replay.spans

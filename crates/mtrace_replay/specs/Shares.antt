@@ -1,12 +1,12 @@
 -- What each location holds and asked for, by its slot.
-use Rattle.std.specs.Prelude.{◌≡◌, ℕ, suc, ◌+◌, ◌-◌, ◌*◌, ◌≤◌, ◌^◌, ◌==◌, Bool, List, [], ◌∷◌, length, map, None, Some, slice_index_or, if◌then◌else◌}
+use Rattle.std.specs.Prelude.{◌≡◌, ℕ, suc, ◌+◌, ◌-◌, ◌*◌, ◌≤◌, ◌^◌, ◌==◌, ◌&&◌, ◌||◌, Bool, List, [], ◌∷◌, length, map, None, Some, slice_index_or, if◌then◌else◌}
 use Rattle.std.specs.List.{All, sum_by}
 use Rattle.mtrace_replay.specs.declared.held.count.Count.{Count}
 use Rattle.mtrace_replay.specs.Calls.{Caller, no_calls, count_temporary, has_no_call, caller_of}
 use Rattle.mtrace_replay.specs.declared.held.amount.Amount.{Amount}
-use Rattle.mtrace_replay.specs.declared.no_heap.shares.Share.{Share}
-use Rattle.mtrace_replay.specs.declared.no_heap.shares.When.{When}
-use Rattle.mtrace_replay.specs.declared.no_heap.shares.When.TheVariants.{Peak, End}
+use Rattle.mtrace_replay.specs.declared.ledger.shares.Share.{Share}
+use Rattle.mtrace_replay.specs.declared.ledger.shares.When.{When}
+use Rattle.mtrace_replay.specs.declared.ledger.shares.When.TheVariants.{Peak, End}
 use Rattle.mtrace_replay.specs.Sites.{Origin, Site}
 
 abbrev pub nothing : Amount
@@ -64,6 +64,18 @@ pub record AreKept (all : List Share) (mark : ℕ) (total : Count) : Type 0 wher
 abbrev pub amount_at : When → ByLocation → ℕ → Amount
 amount_at Peak shares slot = marked_at shares slot
 amount_at End shares slot = now_at shares slot
+
+-- what a slot had at the mark, and has now
+pub record Between : Type 0 where
+  pub before : Amount
+  pub now : Amount
+
+abbrev pub between : ByLocation → ℕ → Between
+between shares slot = record { before = marked_at shares slot; now = now_at shares slot }
+
+-- neither the blocks nor their bytes have changed
+abbrev pub is_unchanged : Between → Bool
+is_unchanged one = one.before.blocks == one.now.blocks && (one.now.blocks == 0 || one.before.bytes == one.now.bytes)
 
 -- one slot has this amount now, the others have what they had; and at the mark each had what it had
 pub record Changes (slot : ℕ) (amount : Amount) (old new : ByLocation) : Type 0 where
@@ -138,6 +150,14 @@ sites_by amounts all slot = rows_by has_no_block site_at amounts all slot
 -- the sites of the locations, in order of slot
 abbrev pub sites_of : (ℕ → Amount) → List (List ℕ) → List Site
 sites_of amounts locations = sites_by amounts (origins locations) 0
+
+-- the site of an origin by what it has now
+abbrev pub site_now : Origin → Between → Site
+site_now at one = site_at at one.now
+
+-- the sites that have changed since the mark, in order of slot
+abbrev pub changes_of : (ℕ → Between) → List (List ℕ) → List Site
+changes_of betweens locations = rows_by is_unchanged site_now betweens (origins locations) 0
 
 -- the callers of the locations, in order of slot
 abbrev pub callers_of : (ℕ → Count) → List (List ℕ) → List Caller

@@ -7,9 +7,9 @@ use Rattle.mtrace_replay.specs.declared.held.diagnostic.Diagnostic.{Diagnostic}
 use Rattle.mtrace_replay.specs.declared.runs.status.Status.{Status}
 use Rattle.mtrace_replay.specs.declared.runs.status.RunFault.{RunFault}
 use Rattle.mtrace_replay.specs.declared.runs.status.RunFault.TheVariants.{Read, Write, OutOfMemory, BadSettings}
-use Rattle.mtrace_replay.specs.declared.no_heap.clock.Clock.{Clock}
-use Rattle.mtrace_replay.specs.declared.no_heap.report.LedgerReport.{LedgerReport}
-use Rattle.mtrace_replay.specs.declared.no_heap.snapshots.Snapshots.{Snapshots}
+use Rattle.mtrace_replay.specs.declared.ledger.clock.Clock.{Clock}
+use Rattle.mtrace_replay.specs.declared.ledger.report.LedgerReport.{LedgerReport}
+use Rattle.mtrace_replay.specs.declared.ledger.snapshots.Snapshots.{Snapshots}
 use Rattle.mtrace_replay.specs.Moment.{ReadLine, Given, half}
 use Rattle.mtrace_replay.specs.History.{AreHeld, entries_of, pending}
 use Rattle.mtrace_replay.specs.Texts.{diagnostics_text, clean_or_found}
@@ -17,8 +17,8 @@ use Rattle.mtrace_replay.specs.Marks.{snapshot_time, spans_over}
 use Rattle.mtrace_replay.specs.LineReplay.{LineRules}
 use Rattle.mtrace_replay.specs.Following.{with_unused, HasReadThese, RunsToEnd, RunsToRead, RunsToWrite, RunsToMemory}
 use Rattle.mtrace_replay.specs.Reporting.{all_diagnostics}
-use Rattle.mtrace_replay.specs.Served.{StandsWithoutHeap, served_moments, served_noted}
-use Rattle.mtrace_replay.specs.RunServed.{TellsServed}
+use Rattle.mtrace_replay.specs.LedgerReplay.{LedgerStandsFor, ledger_moments, ledger_noted}
+use Rattle.mtrace_replay.specs.RunLedger.{TellsLedger}
 
 -- the line above a snapshot: the number of the last line that it has, and the time
 abbrev pub snapshot_line : (lines time : ℕ) → List ℕ
@@ -27,7 +27,7 @@ snapshot_line lines time = codes "At line " ++ decimal lines ++ codes ", " ++ de
 -- a snapshot of lines, of which the latest comes first: its line, and the report of these lines
 pub record IsSnapshot (report : LedgerReport) (past : List ReadLine) (time : ℕ) (text : List ℕ) : Type 0 where
   pub its : List ℕ
-  pub tells : TellsServed report (reverse past) its
+  pub tells : TellsLedger report (reverse past) its
   pub text_is : text ≡ snapshot_line (length past) time ++ its
 
 -- what is put behind lines, where there is a time for it
@@ -40,7 +40,7 @@ pub record TellsOneMore (every : ℕ) (report : LedgerReport) (Before : List ℕ
   pub before : List ℕ
   pub told : Before before
   pub its : List Diagnostic
-  pub its_are : served_noted (line ∷ past) ≡ served_noted past ++ its
+  pub its_are : ledger_noted (line ∷ past) ≡ ledger_noted past ++ its
   pub behind : List ℕ
   pub snapshot : IsBehind report (line ∷ past) (snapshot_time every (line ∷ past)) behind
   pub text_is : text ≡ before ++ (diagnostics_text its ++ behind)
@@ -57,17 +57,17 @@ pub record ReportsSnapshots (every : ℕ) (report : LedgerReport) (status : Stat
   pub along : List ℕ
   pub told : TellsSnapshots every report (reverse lines) along
   pub text : List ℕ
-  pub tells : TellsServed report lines text
+  pub tells : TellsLedger report lines text
   pub wrote : Wrote writer_old writer_new (along ++ (diagnostics_text (half (length lines) (pending (reverse lines))) ++ text))
   pub all : List Given
-  pub held : AreHeld all (served_moments (reverse lines))
-  pub status_is : status ≡ clean_or_found (all_diagnostics served_moments lines) (entries_of all)
+  pub held : AreHeld all (ledger_moments (reverse lines))
+  pub status_is : status ≡ clean_or_found (all_diagnostics ledger_moments lines) (entries_of all)
 
 -- all of the log was read, and a beginning of that was written
 pub record BeginsSnapshots (every : ℕ) (report : LedgerReport) (reader_old reader_new : ReaderState) (writer_old writer_new : WriterState) (lines : List ReadLine) (along : List ℕ) : Type 0 where
   pub read : HasReadAll reader_old.left reader_new.left lines
   pub text : List ℕ
-  pub tells : TellsServed report lines text
+  pub tells : TellsLedger report lines text
   pub begun : Begins writer_old writer_new (along ++ (diagnostics_text (half (length lines) (pending (reverse lines))) ++ text))
 
 -- The writer failed, after a beginning of what is told of the lines read, or of all that is written. Unused are the bytes that were
@@ -113,7 +113,7 @@ pub record SnapshotsOf : Type 0 where
   pub report : LedgerReport
 
 pub record StandsWithSnapshots (start : SnapshotsOf) (snapshots : Snapshots) (past : List ReadLine) : Type 0 where
-  pub replay : StandsWithoutHeap snapshots.replay past
+  pub replay : LedgerStandsFor snapshots.replay past
   pub clock : IsClock snapshots.clock past
   pub every : snapshots.clock.every ≡ start.every
   pub report : snapshots.report ≡ start.report
@@ -123,7 +123,7 @@ abbrev pub snapshot_rules : LineRules Snapshots
 snapshot_rules = record {
   Start = SnapshotsOf;
   Stands = StandsWithSnapshots;
-  noted = λ start. served_noted;
+  noted = λ start. ledger_noted;
   Tells = λ start. TellsSnapshots start.every start.report;
   lines = λ snapshots. snapshots.replay.lines;
   IsReady = λ snapshots. 0 < snapshots.clock.every;

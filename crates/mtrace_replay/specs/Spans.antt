@@ -10,7 +10,7 @@ use Rattle.mtrace_replay.specs.Moment.{ReadLine, Given}
 use Rattle.mtrace_replay.specs.History.{held}
 use Rattle.mtrace_replay.specs.Totals.{Measures, IsMost}
 use Rattle.mtrace_replay.specs.Asked.{class_asked}
-use Rattle.mtrace_replay.specs.Served.{served_moments}
+use Rattle.mtrace_replay.specs.LedgerReplay.{ledger_moments}
 use Rattle.mtrace_replay.specs.Parts.{size_ranges, range_of, blocks_of, served_classes, largest}
 
 -- whether a range is one of a span
@@ -53,8 +53,8 @@ range_held asked held address = option_and_then (λ given. option_map range_of (
 
 -- a span has what the lines did to its ranges
 pub record IsSpan (past : List ReadLine) (span : Span) : Type 0 where
-  pub live : (asked : ℕ → Option ℕ) → Agrees asked past → Measures (blocks_of asked span.first span.last) (served_moments past) span.live
-  pub most : (asked : ℕ → Option ℕ) → Agrees asked past → IsMost (blocks_of asked span.first span.last) (served_moments past) span.most
+  pub live : (asked : ℕ → Option ℕ) → Agrees asked past → Measures (blocks_of asked span.first span.last) (ledger_moments past) span.live
+  pub most : (asked : ℕ → Option ℕ) → Agrees asked past → IsMost (blocks_of asked span.first span.last) (ledger_moments past) span.most
   pub size : span.size ≡ largest span.first span.last (served_classes past)
   pub few : span.live ≤ length past
   pub raised : span.live ≤ span.most
@@ -73,7 +73,7 @@ pub record AreCounted (past : List ReadLine) (spans : List Span) (ranges : ℕ �
   pub each : All (IsSpan past) spans
   pub placed : All IsPlaced spans
   pub all : AreAll spans
-  pub ranges_are : (asked : ℕ → Option ℕ) → Agrees asked past → (address : ℕ) → ranges address ≡ range_held asked (held (served_moments past)) address
+  pub ranges_are : (asked : ℕ → Option ℕ) → Agrees asked past → (address : ℕ) → ranges address ≡ range_held asked (held (ledger_moments past)) address
   pub classes : list_all is_some (served_classes past) ≡ true
 
 -- the address that a line releases, by that of the line before where that is `<`, and by whether the line is served

@@ -8,8 +8,8 @@ use Rattle.tlsf_heap.specs.declared.row.Row.{Row}
 use Rattle.tlsf_heap.specs.Content.{Pool, blocks_of, is_free}
 use Rattle.tlsf_heap.specs.Rows.{row_of}
 use Rattle.mtrace_replay.specs.Entry.{Entry}
-use Rattle.mtrace_replay.specs.declared.no_heap.point.LedgerPoint.{LedgerPoint}
-use Rattle.mtrace_replay.specs.declared.no_heap.replay.LedgerTotals.{LedgerTotals}
+use Rattle.mtrace_replay.specs.declared.ledger.point.LedgerPoint.{LedgerPoint}
+use Rattle.mtrace_replay.specs.declared.ledger.replay.LedgerTotals.{LedgerTotals}
 use Rattle.mtrace_replay.specs.declared.runs.report.Report.{Report}
 use Rattle.mtrace_replay.specs.declared.runs.report.Report.TheVariants.{Leaks, Peak, Walk, Nothing}
 use Rattle.mtrace_replay.specs.declared.heap.point.Point.{Point}
@@ -252,6 +252,10 @@ ledger_point_text point = decimal point.line ++ column point.bytes ++ column poi
 -- a line for each point below their words
 abbrev pub ledger_timeline_text : List LedgerPoint → List ℕ
 ledger_timeline_text points = ledger_timeline_words ++ flat_map ledger_point_text points
+
+-- the line of a point, and then a line for each site that has changed
+abbrev pub changes_text : LedgerPoint → List Site → List ℕ
+changes_text point sites = ledger_point_text point ++ flat_map site_text sites
 
 -- the text of a report
 abbrev pub report_text : Report → List Entry → Totals → Bare → List ℕ

@@ -11,22 +11,22 @@ use Rattle.mtrace_replay.specs.Totals.{Measures, asked_bytes_in, blocks_in}
 use Rattle.mtrace_replay.specs.Texts.{free_sizes, greatest}
 use Rattle.mtrace_replay.specs.Survey.{live_ends}
 
--- a log is cut in 1 to 10,000 parts
-abbrev pub is_bad_parts : ℕ → Bool
-is_bad_parts parts = parts == 0 || nat_lt 10000 parts
+-- a log is cut in 1 to 10,000 stretches
+abbrev pub is_bad_stretches : ℕ → Bool
+is_bad_stretches stretches = stretches == 0 || nat_lt 10000 stretches
 
--- the number of the line with which this many of the log's equal parts have ended
-abbrev pub end_of_part : (lines parts part : ℕ) → ℕ
-end_of_part lines parts part = div_ceil (part * lines) parts
+-- the number of the line with which this many of the log's equal stretches have ended
+abbrev pub end_of_stretch : (lines stretches stretch : ℕ) → ℕ
+end_of_stretch lines stretches stretch = div_ceil (stretch * lines) stretches
 
--- a line number is told: 0, the peak's, and where a part ends
-abbrev pub IsTold : (lines peak parts line : ℕ) → Type 0
-IsTold lines peak parts line = (line ≡ 0) ⊎ (line ≡ peak) ⊎ ((part : ℕ) × (part ≤ parts) × (line ≡ end_of_part lines parts part))
+-- a line number is told: 0, the peak's, and where a stretch ends
+abbrev pub IsTold : (lines peak stretches line : ℕ) → Type 0
+IsTold lines peak stretches line = (line ≡ 0) ⊎ (line ≡ peak) ⊎ ((stretch : ℕ) × (stretch ≤ stretches) × (line ≡ end_of_stretch lines stretches stretch))
 
 -- the line numbers that are told, in rising order
-pub record AreTold (lines peak parts : ℕ) (told : List ℕ) : Type 0 where
+pub record AreTold (lines peak stretches : ℕ) (told : List ℕ) : Type 0 where
   pub rising : IsStrictlyIncreasing told
-  pub each : (line : ℕ) → Contains told line ↔ IsTold lines peak parts line
+  pub each : (line : ℕ) → Contains told line ↔ IsTold lines peak stretches line
 
 -- the number behind those that were told, where it is above the last of them
 abbrev pub told_later : (told : List ℕ) (last number : ℕ) → List ℕ

@@ -3,7 +3,7 @@
 ghost use Rattle.std.specs.Prelude.{◌≡◌, ◌==◌, ◌↔◌, ◌+◌, ◌-◌, ◌*◌, ◌<◌, ◌≤◌, ℕ, Bool, false, List, length, map, reverse, take, Some};
 ghost use Rattle.tlsf_heap.specs.Sizing.{class_size, sure_records, sure_pool};
 ghost use Rattle.tlsf_heap.specs.OneSize.{HasRecords};
-ghost use Rattle.mtrace_replay.specs.OneSize.{AsksForSize, rounded_up, served_acts};
+ghost use Rattle.mtrace_replay.specs.OneSize.{AsksForSize, rounded_up, ledger_acts};
 ghost use Rattle.tlsf_class.specs.Classes.{unit};
 ghost use Rattle.tlsf_heap.specs.declared.refusal.Refusal.TheVariants.{NoFit, TableFull};
 ghost use Rattle.mtrace_replay.specs.declared.heap.settings.Settings.{Settings};
@@ -23,16 +23,16 @@ ghost use Rattle.mtrace_replay.specs.Entry.{Entry};
 ghost use Rattle.mtrace_replay.specs.Sites.{Site, AreSites};
 ghost use Rattle.mtrace_replay.specs.declared.heap.totals.Totals.{Totals};
 ghost use Rattle.mtrace_replay.specs.Totals.{first_moments, AreTotals, IsMost};
-ghost use Rattle.mtrace_replay.specs.declared.no_heap.replay.LedgerTotals.{LedgerTotals};
-ghost use Rattle.mtrace_replay.specs.Served.{served_history, served_diagnostics, without_places};
+ghost use Rattle.mtrace_replay.specs.declared.ledger.replay.LedgerTotals.{LedgerTotals};
+ghost use Rattle.mtrace_replay.specs.LedgerReplay.{ledger_history, ledger_diagnostics, without_places};
 ghost use Rattle.mtrace_replay.specs.declared.runs.report.Report.TheVariants as Report;
 ghost use Rattle.mtrace_replay.specs.Run.{whole_text};
 ghost use Rattle.mtrace_replay.specs.RunSites.{TellsSites};
-ghost use Rattle.mtrace_replay.specs.RunServed.{AreServedTotals, TellsHeld, TellsServedSites, TellsServedCallers, whole_served};
-ghost use Rattle.mtrace_replay.specs.RunServedTimeline.{TellsServedTimeline};
+ghost use Rattle.mtrace_replay.specs.RunLedger.{AreLedgerTotals, TellsHeld, TellsLedgerSites, TellsLedgerCallers, whole_ledger};
+ghost use Rattle.mtrace_replay.specs.RunLedgerTimeline.{TellsLedgerTimeline};
 ghost use Rattle.mtrace_replay.specs.Parts.{TellsParts};
-ghost use Rattle.mtrace_replay.specs.declared.no_heap.point.LedgerPoint.{LedgerPoint};
-ghost use Rattle.mtrace_replay.specs.ServedTimeline.{IsLedgerPoint, IsPointOfLines};
+ghost use Rattle.mtrace_replay.specs.declared.ledger.point.LedgerPoint.{LedgerPoint};
+ghost use Rattle.mtrace_replay.specs.LedgerTimeline.{IsLedgerPoint, IsPointOfLines};
 ghost use Rattle.mtrace_replay.specs.declared.heap.point.Point.{Point};
 ghost use Rattle.mtrace_replay.specs.Timeline.{AreTold, IsPoint};
 
@@ -106,7 +106,7 @@ pub fn one_totals()
 
 /// The numbers of lines that a timeline tells are one list, and what it tells of each is one point.
 pub fn one_timeline()
-    ensures told { (lines peak parts : ℕ) (one other : List ℕ) → AreTold lines peak parts one → AreTold lines peak parts other → one ≡ other }
+    ensures told { (lines peak stretches : ℕ) (one other : List ℕ) → AreTold lines peak stretches one → AreTold lines peak stretches other → one ≡ other }
     ensures points { (start : Bare) (past : List Moment) (one other : Point) → IsPoint start past one → IsPoint start past other → one.line ≡ other.line → one ≡ other }
     ensures ledger_points { (past : List Moment) (one other : LedgerPoint) → IsLedgerPoint past one → IsLedgerPoint past other → one.line ≡ other.line → one ≡ other }
 {}
@@ -115,13 +115,13 @@ pub fn one_timeline()
 /// the same is held, at the end and after the first lines, and the sums are the same. So the sites are the same (`one_list_of_sites`),
 /// and so are bytes and blocks after the first lines, as many as a timeline tells of.
 pub fn unrefused_is_served()
-    ensures diagnostics { (settings : Settings) (lines : List ReadLine) → refusals settings lines ≡ 0 → served_diagnostics lines ≡ diagnostics settings lines }
+    ensures diagnostics { (settings : Settings) (lines : List ReadLine) → refusals settings lines ≡ 0 → ledger_diagnostics lines ≡ diagnostics settings lines }
     ensures held { (settings : Settings) (lines : List ReadLine) (all other : List Given) → refusals settings lines ≡ 0
-        → AreHeld all (history settings lines) → AreHeld other (served_history lines) → entries_of other ≡ entries_of all }
+        → AreHeld all (history settings lines) → AreHeld other (ledger_history lines) → entries_of other ≡ entries_of all }
     ensures first { (settings : Settings) (lines : List ReadLine) (many : ℕ) (all other : List Given) → refusals settings lines ≡ 0
-        → AreHeld all (first_moments many (history settings lines)) → AreHeld other (first_moments many (served_history lines)) → entries_of other ≡ entries_of all }
+        → AreHeld all (first_moments many (history settings lines)) → AreHeld other (first_moments many (ledger_history lines)) → entries_of other ≡ entries_of all }
     ensures sums { (settings : Settings) (lines : List ReadLine) (totals : Totals) (sums : LedgerTotals) → refusals settings lines ≡ 0
-        → AreTotals (started settings) (history settings lines) totals → AreServedTotals (served_history lines) sums → sums ≡ without_places totals }
+        → AreTotals (started settings) (history settings lines) totals → AreLedgerTotals (ledger_history lines) sums → sums ≡ without_places totals }
     ensures points { (settings : Settings) (lines : List ReadLine) (many : ℕ) (point : Point) (other : LedgerPoint) → refusals settings lines ≡ 0
         → IsPoint (started settings) (history settings (take many lines)) point → IsPointOfLines (take many lines) other
         → (other.bytes ≡ point.bytes) × (other.blocks ≡ point.blocks) }
@@ -130,18 +130,18 @@ pub fn unrefused_is_served()
 /// So such a log has one text, with the heap and without: the report of leaks behind its diagnostics, and the sites.
 pub fn one_text_where_unrefused()
     ensures leaks { (settings : Settings) (lines : List ReadLine) (all : List Given) (totals : Totals) (text : List ℕ) → refusals settings lines ≡ 0
-        → AreHeld all (history settings lines) → TellsHeld lines text → whole_served lines text ≡ whole_text Report.Leaks settings lines all totals }
+        → AreHeld all (history settings lines) → TellsHeld lines text → whole_ledger lines text ≡ whole_text Report.Leaks settings lines all totals }
     ensures sites { (settings : Settings) (lines : List ReadLine) (whole : List ℕ) (end left : Bytes) (text other : List ℕ) → refusals settings lines ≡ 0
-        → HasReadAll (Some whole) end lines → TellsSites settings lines (Some whole) left text → TellsServedSites lines other → other ≡ text }
+        → HasReadAll (Some whole) end lines → TellsSites settings lines (Some whole) left text → TellsLedgerSites lines other → other ≡ text }
 {}
 
 /// Without a heap a log has one text of its sites, one of its callers, one of what is held over its lines, and one of its heaps by
 /// size.
 pub fn one_text_without_a_heap()
-    ensures sites { (lines : List ReadLine) (text other : List ℕ) → TellsServedSites lines text → TellsServedSites lines other → text ≡ other }
-    ensures callers { (lines : List ReadLine) (text other : List ℕ) → TellsServedCallers lines text → TellsServedCallers lines other → text ≡ other }
-    ensures timeline { (parts : ℕ) (lines : List ReadLine) (whole : List ℕ) (end left rest : Bytes) (text other : List ℕ) → HasReadAll (Some whole) end lines
-        → TellsServedTimeline parts lines (Some whole) left text → TellsServedTimeline parts lines (Some whole) rest other → text ≡ other }
+    ensures sites { (lines : List ReadLine) (text other : List ℕ) → TellsLedgerSites lines text → TellsLedgerSites lines other → text ≡ other }
+    ensures callers { (lines : List ReadLine) (text other : List ℕ) → TellsLedgerCallers lines text → TellsLedgerCallers lines other → text ≡ other }
+    ensures timeline { (stretches : ℕ) (lines : List ReadLine) (whole : List ℕ) (end left rest : Bytes) (text other : List ℕ) → HasReadAll (Some whole) end lines
+        → TellsLedgerTimeline stretches lines (Some whole) left text → TellsLedgerTimeline stretches lines (Some whole) rest other → text ≡ other }
     ensures heaps { (heaps : ℕ) (lines : List ReadLine) (text other : List ℕ) → TellsParts heaps lines text → TellsParts heaps lines other → text ≡ other }
 {}
 
@@ -160,8 +160,8 @@ pub fn sure_pool_serves_the_log()
 /// two for each of the `blocks`. Without a heap, at most `blocks` addresses are held after any number of lines. So it is for any log
 /// whose requests are each rounded up to that size (`rounded_up`), as those at a heap by size are.
 pub fn one_size_serves_the_log()
-    ensures asked { (blocks size pool records : ℕ) (lines : List ReadLine) → class_size 1 size ≡ Some size → AllByRecursion (AsksForSize size) (served_acts (reverse lines))
-        → HoldsAtMost blocks (served_history lines) → are_bad (one_pool pool records) ≡ false → blocks * size ≤ pool → HasRecords blocks size pool records → refusals (one_pool pool records) lines ≡ 0 }
+    ensures asked { (blocks size pool records : ℕ) (lines : List ReadLine) → class_size 1 size ≡ Some size → AllByRecursion (AsksForSize size) (ledger_acts (reverse lines))
+        → HoldsAtMost blocks (ledger_history lines) → are_bad (one_pool pool records) ≡ false → blocks * size ≤ pool → HasRecords blocks size pool records → refusals (one_pool pool records) lines ≡ 0 }
     ensures rounded { (blocks size pool records : ℕ) (lines : List ReadLine) → class_size 1 size ≡ Some size
-        → HoldsAtMost blocks (served_history (map (rounded_up size) lines)) → are_bad (one_pool pool records) ≡ false → blocks * size ≤ pool → HasRecords blocks size pool records → refusals (one_pool pool records) (map (rounded_up size) lines) ≡ 0 }
+        → HoldsAtMost blocks (ledger_history (map (rounded_up size) lines)) → are_bad (one_pool pool records) ≡ false → blocks * size ≤ pool → HasRecords blocks size pool records → refusals (one_pool pool records) (map (rounded_up size) lines) ≡ 0 }
 {}

@@ -33,5 +33,6 @@ mod Refusing
 mod ResizedBlock
 mod SavedLemmas
 mod Stands
+mod SureMemoryLemmas
 mod SurePool
 mod Values

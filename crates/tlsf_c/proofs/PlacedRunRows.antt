@@ -1,5 +1,5 @@
 -- A worked run of calls on a heap with addresses, by the definitions. The word was reckoned outside.
-use Rattle.std.proofs.Common.{◌≡◌, ℕ, ◌+◌, ◌∷◌, [], refl, arith, List, Option, Some, None, Result, Ok, Err, lit≤, lit<}
+use Rattle.std.proofs.Common.{◌≡◌, ℕ, ◌+◌, ◌*◌, ◌∷◌, [], refl, arith, List, Option, Some, None, Result, Ok, Err, lit≤, lit<}
 use Rattle.tlsf_class.specs.Classes.{class, need, low}
 use Rattle.tlsf_class.specs.Rounding.{rounded}
 use Rattle.tlsf_heap.specs.declared.refusal.Refusal.{Refusal}
@@ -13,12 +13,42 @@ use Rattle.tlsf_heap.specs.Pools.{created, with_pool}
 use Rattle.tlsf_heap.specs.Sizing.{class_size, sure_pool}
 use Rattle.tlsf_c.specs.declared.placed_pool.PlacedPool.{PlacedPool}
 use Rattle.tlsf_c.specs.PlacedHeaps.{IsLiveAt, IsGivenAt, malloc_with_front, memalign_with_front, told_block}
-use Rattle.tlsf_c.specs.PlacedRuns.{Call, ask, ask_aligned, ask_again, give_back, Told, CallStep, CallRun, CallsStayWithin}
+use Rattle.tlsf_c.specs.PlacedRuns.{Call, ask, ask_aligned, ask_again, give_back, Told, CallStep, CallRun, CallsStayWithin, realloc_call}
+use Rattle.tlsf_c.specs.HeapPlaces.{ArePlacesOf}
+use Rattle.tlsf_c.specs.PoolPlaces.{bytes_in}
+use Rattle.tlsf_c.specs.SureMemory.{sure_memory, HasSureBytes}
 
 -- one block of 100 bytes is 112 with its front, and a pool of 336 bytes is enough: as tlsf_sure_bytes reckons it
 enough_row : (class_size 1 108 ≡ Some 112) × (sure_pool 1 (112 + 16) (Some 112) ≡ Some 336)
 unfolding class need low rounded
 enough_row = (refl, refl)
+
+-- The numbers of 60 blocks of at most 1,040 bytes, over a control part of 368 bytes. C.md shows them. No memory is enough where the
+-- largest request is none, or more records would be needed than a table has.
+sure_row : sure_memory 368 60 (60 * 1040) 1040 ≡ Some 130872
+unfolding class need low rounded
+sure_row = refl
+
+-- So memory of that many bytes at 4,096 has them. Behind control part and table its pool has 126,832 bytes: more than the sure ones.
+sure_memory_row : HasSureBytes 4096 130872 368 60 (60 * 1040) 1040
+sure_memory_row = record { begins = record { some = omega arith; in_units = refl }; part_in_units = refl; sure = 130872; sure_is = sure_row; has = omega arith }
+
+places_row : ArePlacesOf 4096 130872 368 123 (record { table = 4464; pool = 8128; bytes = 126840 })
+places_row = record { table_in_units = refl; table_behind = omega arith; table_near = omega arith; pool_behind = refl; bytes_are = refl }
+
+pool_row : bytes_in 8128 126840 ≡ 126832
+pool_row = refl
+
+sure_for_none : sure_memory 368 1 16 0 ≡ None
+sure_for_none = refl
+
+sure_of_too_many : sure_memory 368 40000 16 16 ≡ None
+unfolding class need low rounded
+sure_of_too_many = refl
+
+-- C's realloc of no block, to no bytes, and of a block to some
+realloc_rows : (realloc_call 0 7 100 ≡ ask 100) × (realloc_call 4112 7 0 ≡ give_back 4112 7) × (realloc_call 4112 7 100 ≡ ask_again 4112 7 100)
+realloc_rows = (refl, refl, refl)
 
 abbrev empty : Content ℕ
 empty = with_pool 0 336 (created 5)

@@ -23,4 +23,5 @@ pub mod Room
 pub mod Rows
 pub mod Saving
 pub mod Status
+pub mod SureMemory
 pub mod Window

@@ -1,5 +1,5 @@
 -- Calls on a heap with addresses, one after the other, as the contracts of these calls tell each, and bounds told beforehand.
-use Rattle.std.specs.Prelude.{◌≡◌, ◌≢◌, ℕ, ◌+◌, ◌*◌, ◌<◌, ◌≤◌, List, [], ◌∷◌, Some, All, true, ⊤}
+use Rattle.std.specs.Prelude.{◌≡◌, ◌≢◌, ℕ, ◌+◌, ◌-◌, ◌*◌, ◌<◌, ◌≤◌, ◌==◌, min, List, [], ◌∷◌, Some, All, if◌then◌else◌, true, ⊤}
 use Rattle.tlsf_class.specs.Classes.{unit}
 use Rattle.tlsf_class.specs.Rounding.{round}
 use Rattle.tlsf_heap.specs.Content.{Content, blocks_of}
@@ -8,7 +8,7 @@ use Rattle.tlsf_heap.specs.Implied.{live_blocks}
 use Rattle.tlsf_heap.specs.Memalign.{is_alignment}
 use Rattle.tlsf_heap.specs.OneSize.{TakesOne}
 use Rattle.tlsf_heap.specs.Room.{live_bytes}
-use Rattle.tlsf_c.specs.Fronts.{front}
+use Rattle.tlsf_c.specs.Fronts.{front, told_size}
 use Rattle.tlsf_c.specs.PlacedPools.{IsAlike}
 use Rattle.tlsf_c.specs.PlacedHeaps.{IsLiveAt, IsGivenAt, IsRefusedAt, IsFreedAt, IsResizedAt, IsNotResized, malloc_with_front, memalign_with_front}
 use Rattle.tlsf_c.specs.declared.placed_pool.PlacedPool.{PlacedPool}
@@ -45,6 +45,14 @@ CallStep pools (give_back address word) told old new =
     (IsLiveAt address word pools old.content → told.word ≡ 0)
     × (told.word ≡ 0 → IsFreedAt address word pools old.content new.content)
     × (told.word ≢ 0 → IsUnchanged old new)
+
+-- the call that C's realloc is: of no block it asks for one, and a block that is to have no bytes is given back
+abbrev pub realloc_call : (address word bytes : ℕ) → Call
+realloc_call address word bytes = if address == 0 then ask bytes else (if bytes == 0 then give_back address word else ask_again address word bytes)
+
+-- the bytes to copy of a block that moved: as many as both have behind their fronts. Of one that stays there are none
+abbrev pub copied_bytes : (address word address_now word_now : ℕ) → ℕ
+copied_bytes address word address_now word_now = if address_now == address then 0 else min (told_size word address - front) (told_size word_now address_now - front)
 
 -- Each call finds the content that the one before left, however often the table is touched and read in between. The pools stay.
 abbrev pub CallRun : List PlacedPool → List Call → List Told → (old new : Content ℕ) → Type 0

@@ -1,6 +1,7 @@
 //! Where a heap with addresses lies in the memory that is handed in.
 
 ghost use Rattle.std.specs.Prelude.{◌≡◌, ◌+◌, ◌^◌, ◌<◌, ◌≤◌, ◌↔◌, true, false};
+ghost use Rattle.tlsf_heap.specs.Sizing.{table_bytes};
 ghost use Rattle.tlsf_c.specs.HeapPlaces.{taken, HasHeapRoom, ArePlacesOf, IsApartFrom};
 
 /// The bytes of a table, beside those of its records.
@@ -8,6 +9,14 @@ const TABLE: u64 = 1_696;
 
 /// The bytes of a record.
 const RECORD: u64 = 16;
+
+/// The bytes of a table with this many records.
+pub(crate) fn table_bytes(records: u64) -> u64
+    requires { records < 2 ^ 34 }
+    ensures { result ≡ table_bytes records }
+{
+    TABLE + RECORD * records
+}
 
 /// Where the parts of a heap lie.
 #[repr(C)]
@@ -27,7 +36,7 @@ fn taken(own: u64, part: u32, records: u32) -> u64
 {
     let part = u64::from(part);
     let skipped = (16 - (own % 16 + part % 16) % 16) % 16;
-    part + skipped + TABLE + RECORD * u64::from(records)
+    part + skipped + table_bytes(u64::from(records))
 }
 
 /// Where the table and the first pool of a heap lie in `bytes` bytes from the address `memory` on, behind its control part of
@@ -53,7 +62,7 @@ pub extern "C" fn tlsf_placed_places(
     }
     let pool = memory + taken;
     *out = HeapPlaces {
-        table: pool - TABLE - RECORD * u64::from(records),
+        table: pool - table_bytes(u64::from(records)),
         pool,
         bytes: bytes - taken,
     };

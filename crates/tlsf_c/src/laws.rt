@@ -14,10 +14,14 @@ ghost use Rattle.tlsf_heap.specs.Sizing.{class_size, sure_pool, sure_records};
 ghost use Rattle.tlsf_c.specs.Status.{bad_count, number};
 ghost use Rattle.tlsf_c.specs.Saving.{broken_number, no_room};
 ghost use Rattle.tlsf_c.specs.Fronts.{front, told_size};
+ghost use Rattle.tlsf_c.specs.HeapPlaces.{HasHeapRoom, ArePlacesOf};
 ghost use Rattle.tlsf_c.specs.PlacedHeaps.{IsLiveAt};
 ghost use Rattle.tlsf_c.specs.Held.{AreOwn, AreHeld, held_after, AllKeepToNumbers, AllKeepToOneSize, AreNoRefusals};
 ghost use Rattle.tlsf_c.specs.PlacedPools.{IsPlaced, AreApart, AreEntriesOf};
-ghost use Rattle.tlsf_c.specs.PlacedRuns.{Call, ask, ask_aligned, ask_again, give_back, Told, CallStep, CallRun, CallsStayWithin, CallsStayOfSize, AreServedCalls};
+ghost use Rattle.tlsf_c.specs.PlacedRuns.{Call, ask, ask_aligned, give_back, Told, CallStep, CallRun, realloc_call, CallsStayWithin, CallsStayOfSize, AreServedCalls};
+ghost use Rattle.tlsf_c.specs.PoolPlaces.{bytes_in};
+ghost use Rattle.tlsf_c.specs.SureMemory.{HasSureBytes};
+ghost use Rattle.tlsf_c.specs.declared.heap_places.HeapPlaces.{HeapPlaces};
 ghost use Rattle.tlsf_c.specs.declared.placed_pool.PlacedPool.{PlacedPool};
 
 use crate::placed_aligned::tlsf_placed_memalign;
@@ -74,6 +78,17 @@ pub fn numbers_asked_are_enough()
     smaller_asks_less();
 }
 
+/// A heap that is made in memory of the sure bytes has room there for its control part, its table and one pool. Of a program that
+/// keeps to its numbers it refuses no call.
+pub fn sure_memory_is_enough()
+    ensures room { (memory total part blocks bytes largest last : ℕ) → HasSureBytes memory total part blocks bytes largest → memory + total ≤ last → HasHeapRoom memory total part (sure_records blocks) last }
+    ensures refuses_none { (memory total part blocks bytes largest base : ℕ) (places : HeapPlaces) (pools : List PlacedPool) (calls : List Call) (tolds : List Told) (old new : Content ℕ) (run : CallRun pools calls tolds old new)
+        → HasSureBytes memory total part blocks bytes largest → ArePlacesOf memory total part (sure_records blocks) places → add_pool base (bytes_in places.pool places.bytes) (created (sure_records blocks)) ≡ Ok old
+        → All IsPlaced pools → AllPairs AreApart pools → ∥ AreEntriesOf (map range_of old.pools) pools ∥₁ → AreOwn calls tolds [] → AllKeepToNumbers blocks bytes largest calls tolds [] → AreNoRefusals calls tolds }
+{
+    numbers_asked_are_enough();
+}
+
 /// A heap with addresses whose blocks, with their fronts, all have one size, the lowest of a class, and that has one pool of the
 /// bytes of as many blocks, refuses no call for a block while fewer are live: in whatever order they are asked for and given back.
 pub fn blocks_of_one_size_are_enough()
@@ -104,7 +119,7 @@ pub fn memalign_is_a_call(heap: &mut PlacedHeap, align: u64, bytes: u64) -> Plac
     tlsf_placed_memalign(heap, align, bytes)
 }
 
-/// `tlsf_placed_realloc` is a call of the runs that these laws are about.
+/// `tlsf_placed_realloc` is one of the calls of these runs: which one, `realloc_call` says.
 pub fn realloc_is_a_call(
     heap: &mut PlacedHeap,
     address: u64,
@@ -112,7 +127,7 @@ pub fn realloc_is_a_call(
     word: &mut u64,
     copied: &mut u64,
 ) -> u64
-    ensures { CallStep heap.old.pools (ask_again address word.old bytes) (record { address = result; word = word.new }) heap.old.handle.value heap.new.handle.value }
+    ensures { CallStep heap.old.pools (realloc_call address word.old bytes) (record { address = result; word = word.new }) heap.old.handle.value heap.new.handle.value }
 {
     tlsf_placed_realloc(heap, address, bytes, word, copied)
 }

@@ -35,6 +35,7 @@ mod pools;
 mod room;
 mod row;
 mod status;
+mod sure_memory;
 mod unboxed;
 mod walk;
 mod window;

@@ -2,6 +2,7 @@
 
 ghost use Rattle.std.specs.Prelude.{◌≡◌, ◌≢◌, ◌+◌, ◌-◌, ◌*◌, ◌/◌, ◌%◌, ◌^◌, ◌<◌, ◌≤◌, ◌⊎◌, ◌↔◌, map, max, min, true, false, Ok, Err, Some, IfOk, IfErr, OnOk, OnErr};
 ghost use Rattle.tlsf_heap.specs.declared.refusal.Refusal.{Refusal};
+ghost use Rattle.tlsf_heap.specs.declared.refusal.Refusal.TheVariants.{BadPointer};
 ghost use Rattle.tlsf_heap.specs.Counted.{IsUnchanged, Reads, range_of};
 ghost use Rattle.tlsf_heap.specs.Pointer.{realloc_ptr, block_size_ptr};
 ghost use Rattle.tlsf_heap.specs.Room.{HasRoom};
@@ -12,13 +13,14 @@ ghost use Rattle.tlsf_c.specs.Kept.{StandsWhere, Keeps};
 ghost use Rattle.tlsf_c.specs.LiveFigures.{IsLiveChange};
 ghost use Rattle.tlsf_c.specs.Lying.{LiesIn};
 ghost use Rattle.tlsf_c.specs.PlacedHeaps.{IsLiveAt, IsResizedAt, IsNotResized};
+ghost use Rattle.tlsf_c.specs.PlacedRuns.{CallStep, realloc_call, copied_bytes};
 ghost use Rattle.tlsf_c.specs.Status.{number};
 
 use crate::block::Block;
 use crate::blocks::tlsf_heap_realloc;
 use crate::front::{FRONT, MOST, UNIT, mark_of};
 use crate::handle::Handle;
-use crate::placed_blocks::{Sized, find, place_block};
+use crate::placed_blocks::{Sized, find, place_block, tlsf_placed_free, tlsf_placed_malloc};
 use crate::placed_heap::PlacedHeap;
 use crate::status::{SERVED, number};
 use tlsf_heap::{Ptr, Refusal};
@@ -132,8 +134,7 @@ fn to_copy(stays: bool, had: u64, has: u64) -> u64
 ///
 /// Where that is refused the answer is 0, and all is as it was. Then `word` gets the number of `BadPointer` unless the block is
 /// live, and else that of `NoFit` or `TableFull`. A live block isn't refused bytes for which, with the front, the heap has room.
-#[unsafe(no_mangle)]
-pub extern "C" fn tlsf_placed_realloc(
+fn resize_block(
     heap: &mut PlacedHeap,
     address: u64,
     bytes: u64,
@@ -175,4 +176,44 @@ pub extern "C" fn tlsf_placed_realloc(
             0
         }
     }
+}
+
+/// The block at an address gets room for `bytes` bytes, as C's realloc has it, where `word` is the word in front of it. The answer
+/// is its address then, and `word` gets what stands in front of it. Where that is another address `copied` gets how many bytes the
+/// caller has to copy there, and else 0. At most 56 touches.
+///
+/// For the address 0 a new block is given, as `tlsf_placed_malloc` does it, and `copied` stays. A block that is to have no bytes
+/// becomes free, as by `tlsf_placed_free`. Then the answer is 0, and `word` gets the status.
+///
+/// Where that is refused the answer is 0, and all is as it was. Then `word` gets the number of `BadPointer` unless the block is
+/// live, and else that of `ZeroSize`, `NoFit` or `TableFull`. No bytes are refused for which, with the front, the heap has room.
+#[unsafe(no_mangle)]
+pub extern "C" fn tlsf_placed_realloc(
+    heap: &mut PlacedHeap,
+    address: u64,
+    bytes: u64,
+    word: &mut u64,
+    copied: &mut u64,
+) -> u64
+    ensures step { CallStep heap.old.pools (realloc_call address word.old bytes) (record { address = result; word = word.new }) heap.old.handle.value heap.new.handle.value }
+    ensures frees { address ≢ 0 → bytes ≡ 0 → result ≡ 0 }
+    ensures none_live { address ≢ 0 → bytes ≡ 0 → word.new ≢ 0 → word.new ≡ number BadPointer }
+    ensures multiple { result % 16 ≡ 0 }
+    ensures moves { address ≢ 0 → 0 < result → copied.new ≡ copied_bytes address word.old result word.new }
+    ensures copies_none { (address ≡ 0) ⊎ (result ≡ 0) → copied.new ≡ copied.old }
+    ensures room { 0 < bytes → (address ≡ 0) ⊎ IsLiveAt address word.old heap.old.pools heap.old.handle.value.content → HasRoom (bytes + front) heap.old.handle.value.content → 0 < result }
+    ensures kept { Keeps heap.old heap.new }
+    ensures most { heap.new.figures.most_bytes ≡ max heap.old.figures.most_bytes heap.new.figures.bytes }
+    ensures bound { AtMost (realloc_touches + 2) heap.old.handle.value.touches heap.new.handle.value.touches }
+{
+    if address == 0 {
+        let block = tlsf_placed_malloc(heap, bytes);
+        *word = block.word;
+        return block.address;
+    }
+    if bytes == 0 {
+        *word = u64::from(tlsf_placed_free(heap, address, *word));
+        return 0;
+    }
+    resize_block(heap, address, bytes, word, copied)
 }

@@ -18,19 +18,21 @@ use Rattle.clap.specs.declared.error.kind.ErrorKind.TheVariants as kind
 use Rattle.clap.proofs.OnLiterals.{clap_on_literals}
 use Rattle.clap.proofs.WalkLemmas.{one_text-rows}
 use Rattle.mtrace_replay.specs.declared.heap.settings.Settings.{Settings}
-use Rattle.mtrace_replay.specs.declared.no_heap.report.LedgerReport.TheVariants.{Held, Sums, Callers, Nothing}
+use Rattle.mtrace_replay.specs.declared.ledger.report.LedgerReport.TheVariants.{Held, Sums, Callers, Nothing}
 use Rattle.mtrace_replay.specs.declared.runs.size.Bounds.{Bounds}
 use Rattle.mtrace_replay.specs.declared.runs.size_parts.PartBounds.{PartBounds}
 use Rattle.mtrace_replay.specs.declared.runs.status.RunFault.TheVariants.{OutOfMemory}
 use Rattle.tlsf_tool.specs.declared.asked.Command.{Command}
-use Rattle.mtrace_replay.specs.declared.no_heap.report.LedgerReport.TheVariants as ledger
-use Rattle.tlsf_tool.specs.declared.asked.Command.TheVariants.{Report, Ledger, Parts, Reread, Size, SizeParts, Save, Check}
-use Rattle.tlsf_tool.specs.declared.asked.Rereading.TheVariants.{Sites, Timeline, Fit}
+use Rattle.mtrace_replay.specs.declared.ledger.report.LedgerReport.TheVariants as ledger
+use Rattle.tlsf_tool.specs.declared.asked.Command.TheVariants.{Report, Ledger, Parts, Reread, Size, SizeParts, Save, Image}
+use Rattle.tlsf_tool.specs.declared.asked.ImageReport.TheVariants.{Check}
+use Rattle.tlsf_tool.specs.declared.asked.ImageReport.TheVariants as image_report
+use Rattle.tlsf_tool.specs.declared.asked.Rereading.TheVariants.{Sites, Timeline, SiteTimeline, Fit}
 use Rattle.tlsf_tool.specs.declared.asked.HeapReport.{HeapReport}
 use Rattle.tlsf_tool.specs.declared.asked.HeapReport.TheVariants.{Leaks, Peak, Walk}
 use Rattle.tlsf_tool.specs.declared.asked.ToolFault.{ToolFault}
 use Rattle.tlsf_tool.specs.declared.asked.ToolFault.TheVariants.{Help, Usage, CannotOpen, InputIsOutput, ImageIsOutput, NoRandomBytes, ReadsOnce, ReadsFileOnce, Run}
-use Rattle.tlsf_tool.specs.CommandLine.{IsArgOf, IsCommandOf, given_rule, AskFor, HasNumber, HasNone, HasSettings, HasBounds, HasNoBounds, HasParts, HasNoLog, HasNoSetting, HasFlag, HasCalls, MatchesAskFor, bare_line, report_line, ledger_line, HasNoHeap, default_settings, sites_line, timeline_line, fit_line, size_line, save_line, check_line, name_text, texts_of, tlsf_line, wrong_with}
+use Rattle.tlsf_tool.specs.CommandLine.{IsArgOf, IsCommandOf, given_rule, AskFor, HasNumber, HasNone, HasSettings, HasBounds, HasNoBounds, HasParts, HasNoLog, HasNoSetting, HasFlag, HasCalls, HasImage, HasSites, MatchesAskFor, bare_line, walk_line, ledger_line, HasNoHeap, default_settings, sites_line, timeline_line, fit_line, size_line, save_line, check_line, name_text, texts_of, tlsf_line, wrong_with}
 use Rattle.tlsf_tool.specs.Faults.{ExplainsKind, ExplainsWords, IsUsage}
 use Rattle.tlsf_tool.specs.Asks.{Asks, Picks}
 
@@ -60,11 +62,11 @@ put more a b next is next_is = next_is ∙ ap (λ (x : App). with_subcommand x m
 
 -- the lines of the subcommands, put to the bare one one after the other
 pub line_of : (bare leaks peak walk sites timeline fit size save last : App) → bare ≡ bare_line → leaks ≡ with_subcommand bare (ledger_line (codes "leaks")).top
-    → peak ≡ with_subcommand leaks (ledger_line (codes "peak")).top → walk ≡ with_subcommand peak (report_line (codes "walk")).top
+    → peak ≡ with_subcommand leaks (ledger_line (codes "peak")).top → walk ≡ with_subcommand peak walk_line.top
     → sites ≡ with_subcommand walk sites_line.top → timeline ≡ with_subcommand sites timeline_line.top → fit ≡ with_subcommand timeline fit_line.top
     → size ≡ with_subcommand fit size_line.top → save ≡ with_subcommand size save_line.top → last ≡ with_subcommand save check_line.top → last ≡ tlsf_line
 line_of bare leaks peak walk sites timeline fit size save last bare_is leaks_is peak_is walk_is sites_is timeline_is fit_is size_is save_is last_is =
-    put check_line _ _ last (put save_line _ _ save (put size_line _ _ size (put fit_line _ _ fit (put timeline_line _ _ timeline (put sites_line _ _ sites (put (report_line (codes "walk")) _ _ walk (put (ledger_line (codes "peak")) _ _ peak
+    put check_line _ _ last (put save_line _ _ save (put size_line _ _ size (put fit_line _ _ fit (put timeline_line _ _ timeline (put sites_line _ _ sites (put walk_line _ _ walk (put (ledger_line (codes "peak")) _ _ peak
     (put (ledger_line (codes "leaks")) _ _ leaks bare_is leaks_is) peak_is) walk_is) sites_is) timeline_is) fit_is) size_is) save_is) last_is
 
 -- ---- numbers
@@ -118,12 +120,14 @@ subcommand_text (Ledger Callers every log) = codes "sites"
 subcommand_text (Ledger Nothing every log) = []
 subcommand_text (Parts heaps log) = codes "fit"
 subcommand_text (Reread (Sites settings) log) = codes "sites"
-subcommand_text (Reread (Timeline heap parts) log) = codes "timeline"
+subcommand_text (Reread (Timeline heap stretches) log) = codes "timeline"
+subcommand_text (Reread (SiteTimeline stretches) log) = codes "timeline"
 subcommand_text (Reread (Fit step) log) = codes "fit"
 subcommand_text (Size bounds) = codes "size"
 subcommand_text (SizeParts parts) = codes "size"
 subcommand_text (Save settings log image) = codes "save"
-subcommand_text (Check image) = codes "check"
+subcommand_text (Image Check image) = codes "check"
+subcommand_text (Image image_report.Walk image) = codes "walk"
 
 asked_under : (found : Text × List Row) (command : Command) → MatchesAskFor (Some found) command → found.0 ≡ subcommand_text command
 asked_under found (Report name settings log) asks = asks.0
@@ -134,18 +138,28 @@ asked_under found (Ledger Callers every log) asks = asks.0.0
 asked_under found (Ledger Nothing every log) asks = absurd asks.0.0
 asked_under found (Parts heaps log) asks = asks.0
 asked_under found (Reread (Sites settings) log) asks = asks.0
-asked_under found (Reread (Timeline heap parts) log) asks = asks.0
+asked_under found (Reread (Timeline heap stretches) log) asks = asks.0
+asked_under found (Reread (SiteTimeline stretches) log) asks = asks.0
 asked_under found (Reread (Fit step) log) asks = asks.0
 asked_under found (Size bounds) asks = asks.0
 asked_under found (SizeParts parts) asks = asks.0
 asked_under found (Save settings log image) asks = asks.0
-asked_under found (Check image) asks = asks.0
+asked_under found (Image Check image) asks = asks.0
+asked_under found (Image image_report.Walk image) asks = asks.0
 
 -- what matches of these rows ask for, where the log or the settings are missing, or the image
 module _ (rows : List Row) where
-  -- there is no number of parts
-  abbrev HasNoParts : Type 0
-  HasNoParts = (parts : ℕ) → HasNumber rows (codes "points") 32 parts → ⊥
+  -- there is no number of stretches
+  abbrev HasNoStretches : Type 0
+  HasNoStretches = (stretches : ℕ) → HasNumber rows (codes "points") 32 stretches → ⊥
+
+  -- each location is asked for, and there is a setting of a heap beside that
+  abbrev pub HasSitesOnHeap : Type 0
+  HasSitesOnHeap = HasSites rows × (HasNoSetting rows → ⊥)
+
+  -- what the subcommand that tells lines needs is missing, or it has too much
+  abbrev TimelineMisses : Type 0
+  TimelineMisses = HasNoStretches ⊎ ((first_of (codes "LOG") rows ≡ None) ⊎ HasSitesOnHeap)
 
   -- there is a number of heaps, and a step too
   abbrev HasBoth : Type 0
@@ -167,15 +181,19 @@ module _ (rows : List Row) where
   abbrev pub HasNoSize : Type 0
   HasNoSize = ((bounds : Bounds) → HasBounds rows bounds → all_of (codes "part") rows ≡ None → ⊥) × ((parts : List PartBounds) → HasParts rows parts → HasNoBounds rows → ⊥)
 
+  -- a heap is walked, and none is asked for or there are snapshots; or an image is, and there is a setting of a heap beside it
+  abbrev WalksTooMuch : Type 0
+  WalksTooMuch = ((HasImage Walk rows → ⊥) × (HasNoHeap rows ⊎ ((HasNoHeap rows → ⊥) × HasEvery))) ⊎ (HasImage Walk rows × (HasSettings rows default_settings → ⊥))
+
   -- what the subcommand of this text needs is missing: its settings, its log, its bounds or its image; or it has too much
   abbrev IsMissing : Text → Type 0
   IsMissing text = MatchBool (bytes_eq text (codes "check")) (first_of (codes "IMAGE") rows ≡ None)
       (MatchBool (bytes_eq text (codes "size")) HasNoSize
       (MatchBool (bytes_eq text (codes "fit")) ((first_of (codes "LOG") rows ≡ None) ⊎ HasBoth)
-      (MatchBool (bytes_eq text (codes "timeline")) (HasNoParts ⊎ (first_of (codes "LOG") rows ≡ None))
+      (MatchBool (bytes_eq text (codes "timeline")) TimelineMisses
       (MatchBool (bytes_eq text (codes "save")) (HasNoLog rows ⊎ (first_of (codes "IMAGE") rows ≡ None))
       (MatchBool (bytes_eq text (codes "sites")) ((first_of (codes "LOG") rows ≡ None) ⊎ HasCallsOnHeap)
-      (MatchBool (bytes_eq text (codes "walk")) (HasNoLog rows ⊎ (HasNoHeap rows ⊎ ((HasNoHeap rows → ⊥) × HasEvery))) (HasNoLog rows ⊎ HasTooMuch)))))))
+      (MatchBool (bytes_eq text (codes "walk")) (HasNoLog rows ⊎ WalksTooMuch) (HasNoLog rows ⊎ HasTooMuch)))))))
 
   no_log : (settings : Settings) (log : String Global) → HasNoLog rows → HasSettings rows settings → first_of (codes "LOG") rows ≡ Some (string_bytes log) → ⊥
   no_log settings log (inl never) has is = never settings has
@@ -189,8 +207,9 @@ module _ (rows : List Row) where
   has_all text (Report Peak settings log) asks (inr (inl much)) = asks.1 much.0
   has_all text (Report Peak settings log) asks (inr (inr much)) = asks.4 much.1.0 much.1.1
   has_all text (Report Walk settings log) asks (inl missing) = no_log settings log missing asks.2 asks.3
-  has_all text (Report Walk settings log) asks (inr (inl without)) = asks.1 without
-  has_all text (Report Walk settings log) asks (inr (inr much)) = asks.4 much.1.0 much.1.1
+  has_all text (Report Walk settings log) asks (inr (inl (no_image, inl without))) = asks.1 without
+  has_all text (Report Walk settings log) asks (inr (inl (no_image, inr much))) = asks.4 much.1.0 much.1.1
+  has_all text (Report Walk settings log) asks (inr (inr (image, other))) = asks.5 image
   has_all text (Ledger Held every log) asks (inl missing) = no_log default_settings log missing asks.0.2 asks.1
   has_all text (Ledger Held every log) asks (inr (inl much)) = much.1 asks.0.2
   has_all text (Ledger Held every log) asks (inr (inr much)) = much.0 asks.0.1
@@ -207,15 +226,22 @@ module _ (rows : List Row) where
   has_all text (Reread (Sites settings) log) asks (inl none) = no_such (first_of (codes "LOG") rows) (string_bytes log) none asks.3
   has_all text (Reread (Sites settings) log) asks (inr (inl calls, some)) = asks.2 calls
   has_all text (Reread (Sites settings) log) asks (inr (inr every, some)) = asks.4 every.0 every.1
-  has_all text (Reread (Timeline heap parts) log) asks (inl never) = never parts asks.2
-  has_all text (Reread (Timeline heap parts) log) asks (inr none) = no_such (first_of (codes "LOG") rows) (string_bytes log) none asks.3
+  has_all text (Reread (Timeline heap stretches) log) asks (inl never) = never stretches asks.2
+  has_all text (Reread (Timeline heap stretches) log) asks (inr (inl none)) = no_such (first_of (codes "LOG") rows) (string_bytes log) none asks.3
+  has_all text (Reread (Timeline heap stretches) log) asks (inr (inr much)) = asks.4 much.0
+  has_all text (Reread (SiteTimeline stretches) log) asks (inl never) = never stretches asks.2
+  has_all text (Reread (SiteTimeline stretches) log) asks (inr (inl none)) = no_such (first_of (codes "LOG") rows) (string_bytes log) none asks.3
+  has_all text (Reread (SiteTimeline stretches) log) asks (inr (inr much)) = much.1 asks.1
   has_all text (Reread (Fit step) log) asks (inl none) = no_such (first_of (codes "LOG") rows) (string_bytes log) none asks.3
   has_all text (Reread (Fit step) log) asks (inr both) = asks.2 both.0.0 both.0.1
   has_all text (Size bounds) asks never = never.0 bounds asks.1 asks.2
   has_all text (SizeParts parts) asks never = never.1 parts.items asks.1 asks.2
   has_all text (Save settings log image) asks (inl missing) = no_log settings log missing asks.1 asks.2
   has_all text (Save settings log image) asks (inr none) = no_such (first_of (codes "IMAGE") rows) (string_bytes image) none asks.3
-  has_all text (Check image) asks none = no_such (first_of (codes "IMAGE") rows) (string_bytes image) none asks.1
+  has_all text (Image Check image) asks none = no_such (first_of (codes "IMAGE") rows) (string_bytes image) none asks.1
+  has_all text (Image image_report.Walk image) asks (inl missing) = no_log default_settings image missing asks.2 asks.3
+  has_all text (Image image_report.Walk image) asks (inr (inl (no_image, much))) = no_image asks.1
+  has_all text (Image image_report.Walk image) asks (inr (inr (is, other))) = other asks.2
 
   text_asks_nothing : (text : Text) → IsMissing text → AsksNothing (Some (text, rows))
   text_asks_nothing text missing command asks = has_all text command asks (subst IsMissing (asked_under (text, rows) command asks) missing)
@@ -244,16 +270,19 @@ module _ (rows : List Row) where
       let S : ℕ → ℕ → ℕ → Settings = λ pool pools records. record { pool = pool; pools = pools; records = records } in
       ap (λ (n : ℕ). S n settings.pools settings.records) pool ∙ ap (λ (n : ℕ). S other.pool n settings.records) pools ∙ ap (λ (n : ℕ). S other.pool other.pools n) records
 
-  pub follow_asks_nothing : (name : HeapReport) (settings : Settings) → HasNoHeap rows → HasSettings rows settings → (settings ≡ default_settings → ⊥)
+  pub follow_asks_nothing : (name : HeapReport) (settings : Settings) → (HasImage name rows → ⊥) → HasNoHeap rows → HasSettings rows settings → (settings ≡ default_settings → ⊥)
       → AsksNothing (Some (name_text name, rows))
-  follow_asks_nothing Leaks settings without has other = text_asks_nothing (codes "leaks") (inr (inl (without, λ default. other (one_heap settings default_settings has default))))
-  follow_asks_nothing Peak settings without has other = text_asks_nothing (codes "peak") (inr (inl (without, λ default. other (one_heap settings default_settings has default))))
-  follow_asks_nothing Walk settings without has other = text_asks_nothing (codes "walk") (inr (inl without))
+  follow_asks_nothing Leaks settings no_image without has other = text_asks_nothing (codes "leaks") (inr (inl (without, λ default. other (one_heap settings default_settings has default))))
+  follow_asks_nothing Peak settings no_image without has other = text_asks_nothing (codes "peak") (inr (inl (without, λ default. other (one_heap settings default_settings has default))))
+  follow_asks_nothing Walk settings no_image without has other = text_asks_nothing (codes "walk") (inr (inl (no_image, inl without)))
 
-  pub every_asks_nothing : (name : HeapReport) → (HasNoHeap rows → ⊥) → HasEvery → AsksNothing (Some (name_text name, rows))
-  every_asks_nothing Leaks on_heap every = text_asks_nothing (codes "leaks") (inr (inr (on_heap, every)))
-  every_asks_nothing Peak on_heap every = text_asks_nothing (codes "peak") (inr (inr (on_heap, every)))
-  every_asks_nothing Walk on_heap every = text_asks_nothing (codes "walk") (inr (inr (on_heap, every)))
+  pub image_asks_nothing : (settings : Settings) → HasImage Walk rows → HasSettings rows settings → (settings ≡ default_settings → ⊥) → AsksNothing (Some (codes "walk", rows))
+  image_asks_nothing settings image has other = text_asks_nothing (codes "walk") (inr (inr (image, λ default. other (one_heap settings default_settings has default))))
+
+  pub every_asks_nothing : (name : HeapReport) → (HasImage name rows → ⊥) → (HasNoHeap rows → ⊥) → HasEvery → AsksNothing (Some (name_text name, rows))
+  every_asks_nothing Leaks no_image on_heap every = text_asks_nothing (codes "leaks") (inr (inr (on_heap, every)))
+  every_asks_nothing Peak no_image on_heap every = text_asks_nothing (codes "peak") (inr (inr (on_heap, every)))
+  every_asks_nothing Walk no_image on_heap every = text_asks_nothing (codes "walk") (inr (inl (no_image, inr (on_heap, every))))
 
   pub flag_read : (id text : Text) (result : Bool) → first_of id rows ≡ Some text → result ≡ bytes_eq text (codes "true")
       → MatchBool result (HasFlag id rows) (HasFlag id rows → ⊥)
@@ -266,13 +295,13 @@ module _ (rows : List Row) where
   pub flag_missing : (id : Text) → first_of id rows ≡ None → HasFlag id rows → ⊥
   flag_missing id none has = no_such (first_of id rows) (codes "true") none has
 
-  pub walk_asks_nothing : HasNoHeap rows → AsksNothing (Some (codes "walk", rows))
-  walk_asks_nothing without = text_asks_nothing (codes "walk") (inr (inl without))
+  pub walk_asks_nothing : (HasImage Walk rows → ⊥) → HasNoHeap rows → AsksNothing (Some (codes "walk", rows))
+  walk_asks_nothing no_image without = text_asks_nothing (codes "walk") (inr (inl (no_image, inl without)))
 
   pub sites_asks_nothing : (first_of (codes "LOG") rows ≡ None) ⊎ HasCallsOnHeap → AsksNothing (Some (codes "sites", rows))
   sites_asks_nothing missing = text_asks_nothing (codes "sites") missing
 
-  pub timeline_asks_nothing : HasNoParts ⊎ (first_of (codes "LOG") rows ≡ None) → AsksNothing (Some (codes "timeline", rows))
+  pub timeline_asks_nothing : TimelineMisses → AsksNothing (Some (codes "timeline", rows))
   timeline_asks_nothing missing = text_asks_nothing (codes "timeline") missing
 
   pub fit_asks_nothing : (first_of (codes "LOG") rows ≡ None) ⊎ HasBoth → AsksNothing (Some (codes "fit", rows))

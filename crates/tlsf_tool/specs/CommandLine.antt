@@ -13,14 +13,16 @@ use Rattle.clap.specs.declared.builder.value_parser.ValueParser.{ValueParser}
 use Rattle.clap.specs.declared.builder.value_parser.ValueParser.TheVariants as parser
 use Rattle.tlsf_class.specs.Classes.{unit, greatest_size}
 use Rattle.mtrace_replay.specs.declared.heap.settings.Settings.{Settings}
-use Rattle.mtrace_replay.specs.declared.no_heap.report.LedgerReport.{LedgerReport}
-use Rattle.mtrace_replay.specs.declared.no_heap.report.LedgerReport.TheVariants.{Held, Sums}
-use Rattle.mtrace_replay.specs.declared.no_heap.report.LedgerReport.TheVariants as report
+use Rattle.mtrace_replay.specs.declared.ledger.report.LedgerReport.{LedgerReport}
+use Rattle.mtrace_replay.specs.declared.ledger.report.LedgerReport.TheVariants.{Held, Sums}
+use Rattle.mtrace_replay.specs.declared.ledger.report.LedgerReport.TheVariants as report
 use Rattle.mtrace_replay.specs.declared.runs.size.Bounds.{Bounds}
 use Rattle.mtrace_replay.specs.declared.runs.size_parts.PartBounds.{PartBounds}
 use Rattle.tlsf_tool.specs.declared.asked.Command.{Command}
-use Rattle.tlsf_tool.specs.declared.asked.Command.TheVariants.{Report, Ledger, Parts, Reread, Size, SizeParts, Save, Check}
-use Rattle.tlsf_tool.specs.declared.asked.Rereading.TheVariants.{Sites, Timeline, Fit}
+use Rattle.tlsf_tool.specs.declared.asked.Command.TheVariants.{Report, Ledger, Parts, Reread, Size, SizeParts, Save, Image}
+use Rattle.tlsf_tool.specs.declared.asked.ImageReport.TheVariants.{Check}
+use Rattle.tlsf_tool.specs.declared.asked.ImageReport.TheVariants as image_report
+use Rattle.tlsf_tool.specs.declared.asked.Rereading.TheVariants.{Sites, Timeline, SiteTimeline, Fit}
 use Rattle.tlsf_tool.specs.declared.asked.HeapReport.{HeapReport}
 use Rattle.tlsf_tool.specs.declared.asked.HeapReport.TheVariants.{Leaks, Peak, Walk}
 
@@ -88,12 +90,19 @@ choice_line name =
     (given_rule (codes "records") (parser.Signed (pos 1) (pos 65535))))
     (word_rule (codes "LOG"))
 
+-- the heap's blocks at the end of a log, or those of an image where the option says so
+abbrev pub walk_line : App
+walk_line = with_rule (report_line (codes "walk")) (flag_rule (codes "image"))
+
 -- who holds the memory, and who asks for it where the option says so
 abbrev pub sites_line : App
 sites_line = with_rule (with_rule (choice_line (codes "sites")) (flag_rule (codes "calls"))) every_rule
 
 abbrev pub timeline_line : App
-timeline_line = with_rule (choice_line (codes "timeline")) (option_rule (codes "points") (codes "100") (parser.Signed (pos 1) (pos 10000)))
+timeline_line =
+    with_rule (with_rule (choice_line (codes "timeline"))
+    (option_rule (codes "points") (codes "100") (parser.Signed (pos 1) (pos 10000))))
+    (flag_rule (codes "sites"))
 
 abbrev pub fit_line : App
 fit_line =
@@ -123,7 +132,7 @@ bare_line = on_top (λ s. record s { has_version = true; subcommand_required = t
 
 abbrev pub tlsf_line : App
 tlsf_line = with_subcommand (with_subcommand (with_subcommand (with_subcommand (with_subcommand (with_subcommand (with_subcommand (with_subcommand (with_subcommand bare_line (ledger_line (codes "leaks")).top)
-    (ledger_line (codes "peak")).top) (report_line (codes "walk")).top) sites_line.top) timeline_line.top) fit_line.top) size_line.top) save_line.top) check_line.top
+    (ledger_line (codes "peak")).top) walk_line.top) sites_line.top) timeline_line.top) fit_line.top) size_line.top) save_line.top) check_line.top
 
 -- an option or a word by this rule, which the subcommand has for itself
 pub record IsArgOf (rule : Rule) (arg : Arg) : Type 0 where
@@ -177,9 +186,18 @@ HasFlag id rows = first_of id rows ≡ Some (codes "true")
 abbrev pub HasNoHeap : List Row → Type 0
 HasNoHeap rows = HasFlag (codes "no-heap") rows
 
+-- this report's subcommand is given an image in place of a log
+abbrev pub HasImage : HeapReport → List Row → Type 0
+HasImage Walk rows = HasFlag (codes "image") rows
+HasImage name rows = ⊥
+
 -- the option is there that asks who asks
 abbrev pub HasCalls : List Row → Type 0
 HasCalls rows = HasFlag (codes "calls") rows
+
+-- the option is there that asks for each location
+abbrev pub HasSites : List Row → Type 0
+HasSites rows = HasFlag (codes "sites") rows
 
 -- the settings of a report where none is given
 abbrev pub default_settings : Settings
@@ -250,12 +268,17 @@ abbrev pub MatchesAskFor : Option (Text × List Row) → Command → Type 0
 MatchesAskFor None command = ⊥
 MatchesAskFor (Some found) (Report name settings log) = (found.0 ≡ name_text name) × (HasNoHeap found.1 → ⊥)
     × HasSettings found.1 settings × (first_of (codes "LOG") found.1 ≡ Some (string_bytes log)) × HasNone found.1 (codes "every") 64
+    × (HasImage name found.1 → ⊥)
 MatchesAskFor (Some found) (Ledger report every log) = AskForLedger report found × (first_of (codes "LOG") found.1 ≡ Some (string_bytes log))
     × HasGiven found.1 (codes "every") every
 MatchesAskFor (Some found) (Reread (Sites settings) log) = (found.0 ≡ codes "sites")
     × HasHeap found.1 (Some settings) × (HasCalls found.1 → ⊥) × (first_of (codes "LOG") found.1 ≡ Some (string_bytes log)) × HasNone found.1 (codes "every") 64
-MatchesAskFor (Some found) (Reread (Timeline heap parts) log) = (found.0 ≡ codes "timeline")
-    × HasHeap found.1 heap × HasNumber found.1 (codes "points") 32 parts × (first_of (codes "LOG") found.1 ≡ Some (string_bytes log))
+MatchesAskFor (Some found) (Reread (Timeline heap stretches) log) = (found.0 ≡ codes "timeline")
+    × HasHeap found.1 heap × HasNumber found.1 (codes "points") 32 stretches × (first_of (codes "LOG") found.1 ≡ Some (string_bytes log))
+    × (HasSites found.1 → ⊥)
+MatchesAskFor (Some found) (Reread (SiteTimeline stretches) log) = (found.0 ≡ codes "timeline")
+    × HasNoSetting found.1 × HasNumber found.1 (codes "points") 32 stretches × (first_of (codes "LOG") found.1 ≡ Some (string_bytes log))
+    × HasSites found.1
 MatchesAskFor (Some found) (Reread (Fit step) log) = (found.0 ≡ codes "fit") × HasGiven found.1 (codes "step") step × HasNone found.1 (codes "heaps") 32
     × (first_of (codes "LOG") found.1 ≡ Some (string_bytes log))
 MatchesAskFor (Some found) (Parts heaps log) = (found.0 ≡ codes "fit") × HasNumber found.1 (codes "heaps") 32 heaps × HasNone found.1 (codes "step") 64
@@ -264,7 +287,9 @@ MatchesAskFor (Some found) (Size bounds) = (found.0 ≡ codes "size") × HasBoun
 MatchesAskFor (Some found) (SizeParts parts) = (found.0 ≡ codes "size") × HasParts found.1 parts.items × HasNoBounds found.1
 MatchesAskFor (Some found) (Save settings log image) = (found.0 ≡ codes "save")
     × HasSettings found.1 settings × (first_of (codes "LOG") found.1 ≡ Some (string_bytes log)) × (first_of (codes "IMAGE") found.1 ≡ Some (string_bytes image))
-MatchesAskFor (Some found) (Check image) = (found.0 ≡ codes "check") × (first_of (codes "IMAGE") found.1 ≡ Some (string_bytes image))
+MatchesAskFor (Some found) (Image Check image) = (found.0 ≡ codes "check") × (first_of (codes "IMAGE") found.1 ≡ Some (string_bytes image))
+MatchesAskFor (Some found) (Image image_report.Walk image) = (found.0 ≡ codes "walk") × HasImage Walk found.1 × HasSettings found.1 default_settings
+    × (first_of (codes "LOG") found.1 ≡ Some (string_bytes image))
 
 abbrev pub texts_of : List (String Global) → List Text
 texts_of = map string_bytes

@@ -4,11 +4,12 @@ use Rattle.mtrace_log.specs.Shown.{ReaderState, WriterState}
 use Rattle.mtrace_replay.specs.Course.{Course}
 use Rattle.mtrace_replay.specs.RunSites.{RunsSites}
 use Rattle.mtrace_replay.specs.RunTimeline.{RunsTimeline}
-use Rattle.mtrace_replay.specs.RunServedTimeline.{RunsServedTimeline}
+use Rattle.mtrace_replay.specs.RunLedgerTimeline.{RunsLedgerTimeline}
+use Rattle.mtrace_replay.specs.RunSiteTimeline.{RunsSiteTimeline}
 use Rattle.mtrace_replay.specs.RunFit.{RunsFit}
 use Rattle.mtrace_replay.specs.Reporting.{PutsAndFlushes}
 use Rattle.tlsf_tool.specs.declared.asked.Rereading.{Rereading}
-use Rattle.tlsf_tool.specs.declared.asked.Rereading.TheVariants.{Sites, Timeline, Fit}
+use Rattle.tlsf_tool.specs.declared.asked.Rereading.TheVariants.{Sites, Timeline, SiteTimeline, Fit}
 use Rattle.tlsf_tool.specs.declared.asked.HeapReport.{HeapReport}
 use Rattle.tlsf_tool.specs.declared.asked.HeapReport.TheVariants.{Leaks, Peak, Walk}
 use Rattle.mtrace_replay.specs.declared.runs.report.Report.{Report}
@@ -56,8 +57,9 @@ PutsHelp text outcome old new = ((outcome ≡ Ok Clean) ⊎ (outcome ≡ Err Wri
 -- the run of what reads its log more than once
 abbrev pub Rereads : {R W : Type 0} → Rereading → Result Status RunFault → Course R ReaderState → Course W WriterState → Type 0
 Rereads (Sites settings) outcome reader writer = RunsSites settings outcome reader writer
-Rereads (Timeline None parts) outcome reader writer = RunsServedTimeline parts outcome reader writer
-Rereads (Timeline (Some settings) parts) outcome reader writer = RunsTimeline settings parts outcome reader writer
+Rereads (Timeline None stretches) outcome reader writer = RunsLedgerTimeline stretches outcome reader writer
+Rereads (Timeline (Some settings) stretches) outcome reader writer = RunsTimeline settings stretches outcome reader writer
+Rereads (SiteTimeline stretches) outcome reader writer = RunsSiteTimeline stretches outcome reader writer
 Rereads (Fit step) outcome reader writer = RunsFit step outcome reader writer
 
 abbrev pub status_of_fault : ToolFault → ℕ

@@ -19,6 +19,15 @@ pub enum HeapReport {
     Walk,
 }
 
+/// The reports of an image. Each tells the first rule that it breaks, where it breaks one.
+#[derive(Clone, Copy, Debug, PartialEq, Eq)]
+pub enum ImageReport {
+    /// Whether it can be loaded.
+    Check,
+    /// The pools of its heap, each with its blocks.
+    Walk,
+}
+
 /// What reads its log more than once.
 #[derive(Clone, Copy, Debug, PartialEq, Eq)]
 pub enum Rereading {
@@ -28,9 +37,11 @@ pub enum Rereading {
     Timeline {
         /// The heap that the log is replayed on, where one is asked for.
         heap: Option<Settings>,
-        /// In how many equal parts the log is cut.
-        parts: u32,
+        /// In how many equal stretches the log is cut.
+        stretches: u32,
     },
+    /// What each location holds over the lines of the log, which is cut in this many equal stretches. It reads the log twice.
+    SiteTimeline(u32),
     /// How large a pool the log needs, with the bytes between two sizes, where they are given. It reads the log once, and
     /// then once for each size.
     Fit(Option<u64>),
@@ -90,8 +101,10 @@ pub enum Command {
         /// The image's name.
         image: String,
     },
-    /// Whether an image can be loaded.
-    Check {
+    /// What is told of an image.
+    Image {
+        /// Which report.
+        report: ImageReport,
         /// The image's name.
         image: String,
     },

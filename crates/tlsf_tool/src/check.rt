@@ -1,19 +1,27 @@
-//! An image is checked.
+//! An image is checked, and its blocks are told.
 
 ghost use Rattle.std.specs.Prelude.{◌≡◌, ◌<◌, ◌≤◌, IfOk};
-ghost use Rattle.tlsf_heap.specs.Images.Rules.{first_broken};
-ghost use Rattle.tlsf_tool.specs.Checking.{Pulls, ReadsImage, ChecksImage, check_text, check_status};
+ghost use Rattle.tlsf_heap.specs.Bare.{bare};
+ghost use Rattle.mtrace_replay.specs.Reporting.{PutsAndFlushes};
+ghost use Rattle.mtrace_replay.specs.Texts.{walk_report};
+ghost use Rattle.tlsf_tool.specs.Checking.{Pulls, ReadsImage, ChecksImage, IsLoaded, image_in, rule_text, loaded_text, loaded_status};
 ghost use Rattle.tlsf_tool.specs.Statuses.{EndsAs};
 
-use crate::asked::ToolFault;
+use crate::asked::{ImageReport, ToolFault};
 use crate::service::{end_run, put_text};
 use mtrace_log::{Failed, Sink, Source};
-use mtrace_replay::{RunFault, Status};
+use mtrace_replay::{RunFault, Status, put_walk};
 use std::alloc::{AllocError, Global};
 use tlsf_heap::{Heap, ImageFault, Rule};
 
-/// One byte more than the longest image has.
-const MOST_READ: usize = 1_050_081;
+/// One byte more than the longest file of an image has.
+const MOST_READ: usize = 1_050_361;
+
+/// What `tlsf_save` of c/tlsf.h puts first.
+const SAVED: &[u8] = b"TSFSIMG1";
+
+/// How many bytes it puts in front of an image.
+const SAVED_BYTES: usize = 280;
 
 /// How many bytes are asked for at once.
 const PIECE: usize = 4_096;
@@ -59,24 +67,31 @@ fn read_image<R: Source>(alloc: Global, reader: &mut R) -> Result<Vec<u8>, RunFa
     Ok(bytes)
 }
 
-/// The first rule that the bytes break, unless memory is refused.
-fn broken(alloc: Global, bytes: &[u8]) -> Result<Option<Rule>, AllocError>
-    ensures { IfOk result (λ rule. rule ≡ first_broken bytes.now) }
+/// The image among the bytes of a file: all of them, or those behind what `tlsf_save` puts in front.
+fn image_in(bytes: &[u8]) -> &[u8]
+    ensures { result.now ≡ image_in bytes.now }
 {
-    match Heap::load_image(alloc, bytes) {
-        Ok(_) => Ok(None),
-        Err(ImageFault::Broken(rule)) => Ok(Some(rule)),
+    if bytes.len() < SAVED_BYTES || !bytes.starts_with(SAVED) {
+        return bytes;
+    }
+    &bytes[SAVED_BYTES..]
+}
+
+/// The heap of an image, or the first rule that the image breaks, unless memory is refused.
+fn loaded(alloc: Global, image: &[u8]) -> Result<Result<Heap, Rule>, AllocError>
+    ensures { IfOk result (IsLoaded image.now) }
+{
+    match Heap::load_image(alloc, image) {
+        Ok(heap) => Ok(Ok(heap)),
+        Err(ImageFault::Broken(rule)) => Ok(Err(rule)),
         Err(_) => Err(AllocError),
     }
 }
 
-/// The line of an image by the first rule that it breaks.
-fn line_of(broken: Option<Rule>) -> &'static [u8]
-    ensures { result.now ≡ check_text broken }
+/// The line of an image that breaks this rule first.
+fn rule_text(rule: Rule) -> &'static [u8]
+    ensures { result.now ≡ rule_text rule }
 {
-    let Some(rule) = broken else {
-        return b"ok\n";
-    };
     match rule {
         Rule::Magic => b"broken: V1\n",
         Rule::Length => b"broken: V2\n",
@@ -93,45 +108,73 @@ fn line_of(broken: Option<Rule>) -> &'static [u8]
     }
 }
 
-/// Whether an image is clean, by the first rule that it breaks.
-fn status_by_rule(broken: Option<Rule>) -> Status
-    ensures { result ≡ check_status broken }
+/// Puts the pools of a heap, each with its blocks, and flushes.
+fn put_blocks<W: Sink>(writer: &mut W, mut heap: Heap) -> Result<(), Failed>
+    ensures { PutsAndFlushes result (walk_report (bare heap.content)) (W.shown writer.old) (W.shown writer.new) }
 {
-    match broken {
-        Some(_) => Status::Found,
-        None => Status::Clean,
+    put_walk(writer, &mut heap)?;
+    writer.flush()
+}
+
+/// Puts what is told of an image, and flushes.
+fn put_loaded<W: Sink>(
+    writer: &mut W,
+    report: ImageReport,
+    loaded: Result<Heap, Rule>,
+) -> Result<(), Failed>
+    ensures { PutsAndFlushes result (loaded_text report loaded) (W.shown writer.old) (W.shown writer.new) }
+{
+    match (loaded, report) {
+        (Ok(_), ImageReport::Check) => put_text(writer, b"ok\n"),
+        (Ok(heap), ImageReport::Walk) => put_blocks(writer, heap),
+        (Err(rule), _) => put_text(writer, rule_text(rule)),
     }
 }
 
-/// Reads an image, and writes the first rule that it breaks. Answers whether it breaks one.
+/// Whether an image is clean.
+fn status_of(loaded: &Result<Heap, Rule>) -> Status
+    ensures { result ≡ loaded_status loaded.now }
+{
+    match loaded {
+        Ok(_) => Status::Clean,
+        Err(_) => Status::Found,
+    }
+}
+
+/// Reads an image, and writes what is told of it. Answers whether it breaks a rule.
 fn checked<R: Source, W: Sink>(
     alloc: Global,
+    report: ImageReport,
     reader: &mut R,
     writer: &mut W,
 ) -> Result<Status, RunFault>
-    ensures { ChecksImage W.shown result (R.shown reader.old) (R.shown reader.new) writer.old writer.new }
+    ensures { ChecksImage report W.shown result (R.shown reader.old) (R.shown reader.new) writer.old writer.new }
 {
     let bytes = read_image(alloc, reader)?;
-    let Ok(broken) = broken(alloc, bytes.as_slice()) else {
+    let Ok(loaded) = loaded(alloc, image_in(bytes.as_slice())) else {
         return Err(RunFault::OutOfMemory);
     };
-    match put_text(writer, line_of(broken)) {
-        Ok(()) => Ok(status_by_rule(broken)),
+    let status = status_of(&loaded);
+    match put_loaded(writer, report, loaded) {
+        Ok(()) => Ok(status),
         Err(_) => Err(RunFault::Write),
     }
 }
 
-/// Checks the image that the reader has left, by `Heap::load_image`, and puts the line of a fault to `errors`, whose
-/// own fault doesn't matter. Answers the status that the program ends with. It is 0 where the image can be loaded,
-/// and 1 where it breaks a rule. It is 3 where the reader or the writer failed, and 4 where memory was refused.
+/// Checks the image that the reader has left, by `Heap::load_image`, and tells what is asked of it: whether it can be loaded, or
+/// its blocks, by `put_walk`. Where it breaks a rule, the first is told instead. The image is of `save_image`, or of `tlsf_save` of
+/// c/tlsf.h, of which what stands in front isn't looked at. Puts the line of a fault to `errors`, whose own fault doesn't matter.
+/// Answers the status that the program ends with. It is 0 where the image can be loaded, and 1 where it breaks a rule. It is 3 where
+/// the reader or the writer failed, and 4 where memory was refused.
 pub fn check_image<R: Source, W: Sink, E: Sink>(
     alloc: Global,
+    report: ImageReport,
     reader: &mut R,
     writer: &mut W,
     errors: &mut E,
 ) -> u8
-    ensures { EndsAs (λ outcome. ChecksImage W.shown outcome (R.shown reader.old) (R.shown reader.new) writer.old writer.new)
+    ensures { EndsAs (λ outcome. ChecksImage report W.shown outcome (R.shown reader.old) (R.shown reader.new) writer.old writer.new)
         result errors.old errors.new }
 {
-    end_run(errors, checked(alloc, reader, writer))
+    end_run(errors, checked(alloc, report, reader, writer))
 }

@@ -4,7 +4,7 @@ ghost use Rattle.std.specs.Prelude.{◌≡◌, IfOk, codes, pos};
 ghost use Rattle.clap.specs.declared.builder.value_parser.ValueParser.TheVariants.{Signed, Unsigned};
 ghost use Rattle.tlsf_class.specs.Classes.{unit, greatest_size};
 ghost use Rattle.clap.specs.Words.{App, app_of, new_app, with_subcommand};
-ghost use Rattle.tlsf_tool.specs.CommandLine.{IsArgOf, IsCommandOf, given_rule, repeated_rule, flag_rule, word_rule, heap_line, report_line, ledger_line, choice_line, sites_line, timeline_line, fit_line, size_line, save_line, check_line, bare_line, tlsf_line};
+ghost use Rattle.tlsf_tool.specs.CommandLine.{IsArgOf, IsCommandOf, given_rule, repeated_rule, flag_rule, word_rule, heap_line, report_line, ledger_line, choice_line, sites_line, timeline_line, walk_line, fit_line, size_line, save_line, check_line, bare_line, tlsf_line};
 
 use clap::builder::ValueParser;
 use clap::{Arg, ArgAction, Command, value_parser};
@@ -15,7 +15,7 @@ use tlsf_class::{GREATEST_SIZE, UNIT};
 const NAME: &str = "tlsf";
 
 /// The program's version.
-const VERSION: &str = "1.1.0";
+const VERSION: &str = "1.2.0";
 
 /// What `tlsf` is for.
 const ABOUT: &str =
@@ -66,7 +66,8 @@ const WALK: Help = Help {
     about: "Reports the heap's pools at the end of the log, row by row: each used and each free block.",
     examples: "Examples:
   tlsf walk a.log                           the heap's blocks at the end of a.log
-  tlsf walk --records 65535 -               those at the end of the log on standard input",
+  tlsf walk --records 65535 -               those at the end of the log on standard input
+  tlsf walk --image a.image                 those of the heap that a.image describes",
 };
 
 const SITES: Help = Help {
@@ -84,6 +85,7 @@ const TIMELINE: Help = Help {
     examples: "Examples:
   tlsf timeline a.log                           what a.log holds, at some 100 of its lines
   tlsf timeline --points 1000 a.log             the same at some 1000 lines
+  tlsf timeline --sites a.log                   the same, and who held it
   tlsf timeline --pools 1 a.log                 the same on a heap of the greatest size",
 };
 
@@ -133,7 +135,7 @@ const CHOSEN_RECORDS: &str =
     "On a heap: number of records, one for each block, from the number of pools to 65535, else 65535";
 
 const EVERY: &str =
-    "Also put the report so far, about so many milliseconds apart, by the times that the log tells; from 1 to 4294967295, not on a heap";
+    "Also put the report so far each time that MS milliseconds more are over, by the times that the log tells; from 1 to 4294967295, not on a heap";
 
 /// The option of this id, whose value the parser takes.
 fn option<'a>(
@@ -288,6 +290,15 @@ fn ledger_command<'a>(alloc: Global, name: &'a str, help: Help) -> Result<Comman
         .arg(every_option(alloc))
 }
 
+/// The subcommand that tells a heap's blocks.
+fn walk_command<'a>(alloc: Global) -> Result<Command<'a>, AllocError>
+    ensures { IfOk result (IsCommandOf walk_line) }
+{
+    let image =
+        "LOG is an image: of tlsf save, tlsf_save or tlsf_heap_save; with no option of a heap";
+    report_command(alloc, "walk", WALK)?.arg(flag(alloc, "image", image))
+}
+
 /// The subcommand that tells who holds the memory.
 fn sites_command<'a>(alloc: Global) -> Result<Command<'a>, AllocError>
     ensures { IfOk result (IsCommandOf sites_line) }
@@ -303,15 +314,14 @@ fn sites_command<'a>(alloc: Global) -> Result<Command<'a>, AllocError>
 fn timeline_command<'a>(alloc: Global) -> Result<Command<'a>, AllocError>
     ensures { IfOk result (IsCommandOf timeline_line) }
 {
-    let parts =
+    let stretches =
         "Number of equal parts of the log, from 1 to 10000: a line is told at the end of each";
-    choice_command(alloc, "timeline", TIMELINE)?.arg(option(
-        alloc,
-        "points",
-        "N",
-        count(10_000),
-        parts,
-    ).default_value("100"))
+    let sites =
+        "Also tell what each location holds, where that has changed since the line before; with no option of a heap";
+    let points = option(alloc, "points", "N", count(10_000), stretches).default_value("100");
+    choice_command(alloc, "timeline", TIMELINE)?
+        .arg(points)?
+        .arg(flag(alloc, "sites", sites))
 }
 
 /// The subcommand that tries sizes.
@@ -395,7 +405,7 @@ pub fn tlsf_command<'a>(alloc: Global) -> Result<Command<'a>, AllocError>
     let bare = bare_command(alloc)?;
     let leaks = with(bare, ledger_command(alloc, "leaks", LEAKS))?;
     let peak = with(leaks, ledger_command(alloc, "peak", PEAK))?;
-    let walk = with(peak, report_command(alloc, "walk", WALK))?;
+    let walk = with(peak, walk_command(alloc))?;
     let sites = with(walk, sites_command(alloc))?;
     let timeline = with(sites, timeline_command(alloc))?;
     let fit = with(timeline, fit_command(alloc))?;

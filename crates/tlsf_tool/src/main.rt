@@ -24,7 +24,7 @@ mod tests;
 mod word_faults;
 mod words;
 
-use crate::asked::{Command, HeapReport, Rereading, ToolFault};
+use crate::asked::{Command, HeapReport, ImageReport, Rereading, ToolFault};
 use crate::causes::Causes;
 use crate::check::check_image;
 use crate::files::{FileNumber, are_one, make_file};
@@ -111,6 +111,20 @@ fn standard_input(run: &Run<'_>, name: String) -> Result<Input<Stdin>, ToolFault
     apart(run, Input { file, number, name })
 }
 
+/// Tells that a report on a heap lacks what the heap refused, and which report doesn't.
+fn tell_refused(run: &Run<'_>, name: HeapReport, refused: u64) {
+    let report = match name {
+        HeapReport::Leaks => "leaks",
+        HeapReport::Peak => "peak",
+        HeapReport::Walk => return,
+    };
+    if refused > 0 && run.tells_causes() {
+        let _ = eprintln!(run.rt;
+            "tlsf: {refused} requests were refused by the heap: {report} --no-heap follows each"
+        );
+    }
+}
+
 /// Makes a report of a log that is open.
 fn report<R: Read + Drop>(
     run: &Run<'_>,
@@ -121,6 +135,7 @@ fn report<R: Read + Drop>(
     let mut reader = run.reader(log.file);
     let mut errors = run.errors();
     let mut writer = run.output()?;
+    let mut refused = 0;
     let status = serve(
         run.rt.alloc(),
         name,
@@ -128,9 +143,12 @@ fn report<R: Read + Drop>(
         &mut reader,
         &mut writer,
         &mut errors,
+        &mut refused,
     );
     tell_bad_heap(run, status, settings);
-    Ok(run.end(status, log.name.as_str(), ""))
+    let told = run.end(status, log.name.as_str(), "");
+    tell_refused(run, name, refused);
+    Ok(told)
 }
 
 /// Makes a report of a log that is open, without a heap.
@@ -276,13 +294,30 @@ fn save<R: Read + Drop>(
     Ok(run.end(status, log.name.as_str(), image.as_str()))
 }
 
-/// Opens the file of an image, and checks it.
-fn check_file(run: &Run<'_>, image: String) -> Result<u8, ToolFault> {
-    let image = open_path(run, image, false)?;
+/// Tells what is asked of an image that is open. One line isn't buffered.
+fn tell_image<R: Read + Drop>(
+    run: &Run<'_>,
+    report: ImageReport,
+    image: Input<R>,
+) -> Result<u8, ToolFault> {
+    let alloc = run.rt.alloc();
     let mut reader = run.reader(image.file);
-    let mut writer = run.unbuffered();
     let mut errors = run.errors();
-    let status = check_image(run.rt.alloc(), &mut reader, &mut writer, &mut errors);
+    let status = match report {
+        ImageReport::Check => {
+            check_image(
+                alloc,
+                report,
+                &mut reader,
+                &mut run.unbuffered(),
+                &mut errors,
+            )
+        }
+        ImageReport::Walk => {
+            let mut writer = run.output()?;
+            check_image(alloc, report, &mut reader, &mut writer, &mut errors)
+        }
+    };
     Ok(run.end(status, image.name.as_str(), ""))
 }
 
@@ -337,6 +372,14 @@ fn parts_log(run: &Run<'_>, heaps: u32, log: String) -> Result<u8, ToolFault> {
     parts(run, heaps, open_path(run, log, false)?)
 }
 
+/// Tells what is asked of an image, which is opened first where it is a file.
+fn tell_image_file(run: &Run<'_>, report: ImageReport, image: String) -> Result<u8, ToolFault> {
+    if report == ImageReport::Walk && is_standard(&image) {
+        return tell_image(run, report, standard_input(run, image)?);
+    }
+    tell_image(run, report, open_path(run, image, false)?)
+}
+
 /// Saves the heap at the end of a log, which is opened first where it is a file.
 fn save_log(
     run: &Run<'_>,
@@ -368,7 +411,7 @@ fn act(run: &Run<'_>, command: Command) -> Result<u8, ToolFault> {
         } => save_log(run, settings, log, image),
         Command::Size { bounds } => Ok(size(run, bounds)),
         Command::SizeParts { parts } => Ok(size_parts(run, parts.as_slice())),
-        Command::Check { image } => check_file(run, image),
+        Command::Image { report, image } => tell_image_file(run, report, image),
     }
 }
 

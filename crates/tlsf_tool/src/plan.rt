@@ -52,7 +52,7 @@ fn is_told(streams: Streams, command: &Command) -> bool
         Command::Ledger { every: Some(_), .. }
         | Command::Size { .. }
         | Command::SizeParts { .. }
-        | Command::Check { .. } => false,
+        | Command::Image { .. } => false,
     }
 }
 

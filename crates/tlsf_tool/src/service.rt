@@ -1,9 +1,9 @@
 //! One run, with its status.
 
-ghost use Rattle.std.specs.Prelude.{◌≡◌};
+ghost use Rattle.std.specs.Prelude.{◌≡◌, ◌≤◌};
 ghost use Rattle.mtrace_replay.specs.Course.{course};
-ghost use Rattle.mtrace_replay.specs.Run.{Runs};
-ghost use Rattle.mtrace_replay.specs.RunServed.{RunsServed};
+ghost use Rattle.mtrace_replay.specs.Run.{Runs, CountsRefused};
+ghost use Rattle.mtrace_replay.specs.RunLedger.{RunsLedger};
 ghost use Rattle.mtrace_replay.specs.Snapshots.{RunsSnapshots};
 ghost use Rattle.mtrace_replay.specs.RunParts.{RunsParts};
 ghost use Rattle.mtrace_replay.specs.Size.{RunsSize};
@@ -17,9 +17,9 @@ use crate::statuses::{end_status, fault_status};
 use arrayvec::ArrayString;
 use mtrace_log::{Again, Failed, Sink, Source, put_all};
 use mtrace_replay::{
-    Bounds, LedgerReport, PartBounds, RunFault, Settings, Status, Watch, run_fit, run_fit_heaps,
-    run_leaks, run_ledger, run_ledger_snapshots, run_ledger_timeline, run_peak, run_save,
-    run_sites, run_size, run_size_parts, run_timeline, run_walk,
+    Bounds, LedgerReport, PartBounds, Report, RunFault, Settings, Status, Watch, run_counting,
+    run_fit, run_fit_heaps, run_ledger, run_ledger_snapshots, run_ledger_timeline, run_save,
+    run_site_timeline, run_sites, run_size, run_size_parts, run_timeline,
 };
 use std::alloc::Global;
 use std::fmt::Write;
@@ -70,26 +70,20 @@ pub fn serve_help<W: Sink, E: Sink>(text: &str, writer: &mut W, errors: &mut E) 
     end_run(errors, run)
 }
 
-/// Makes the report of this name from what the reader has left.
-fn run_named<R: Source, W: Sink>(
-    alloc: Global,
-    name: HeapReport,
-    settings: Settings,
-    reader: &mut R,
-    writer: &mut W,
-) -> Result<Status, RunFault>
-    ensures { Runs (report_of name) settings result (course R.shown reader.old reader.new) (course W.shown writer.old writer.new) }
+/// The report of this name.
+fn report_of(name: HeapReport) -> Report
+    ensures { result ≡ report_of name }
 {
     match name {
-        HeapReport::Leaks => run_leaks(alloc, reader, writer, settings),
-        HeapReport::Peak => run_peak(alloc, reader, writer, settings),
-        HeapReport::Walk => run_walk(alloc, reader, writer, settings),
+        HeapReport::Leaks => Report::Leaks,
+        HeapReport::Peak => Report::Peak,
+        HeapReport::Walk => Report::Walk,
     }
 }
 
-/// Makes the report of this name from what the reader has left. Puts the line of a fault to `errors`, whose own fault
-/// doesn't matter. Answers the status that the program ends with. It is 0 where nothing was found, 1 where something
-/// was, and 2 for bad settings. It is 3 where the reader or the writer failed, and 4 where memory was refused.
+/// Makes the report of this name from what the reader has left, and counts the lines that the heap refused. Puts the line of a fault
+/// to `errors`, whose own fault doesn't matter. Answers the status that the program ends with. It is 0 where nothing was found, 1
+/// where something was, and 2 for bad settings. It is 3 where the reader or the writer failed, and 4 where memory was refused.
 pub fn serve<R: Source, W: Sink, E: Sink>(
     alloc: Global,
     name: HeapReport,
@@ -97,11 +91,14 @@ pub fn serve<R: Source, W: Sink, E: Sink>(
     reader: &mut R,
     writer: &mut W,
     errors: &mut E,
+    refused: &mut u64,
 ) -> u8
-    ensures { EndsAs (λ outcome. Runs (report_of name) settings outcome (course R.shown reader.old reader.new) (course W.shown writer.old writer.new))
+    ensures ran { EndsAs (λ outcome. Runs (report_of name) settings outcome (course R.shown reader.old reader.new) (course W.shown writer.old writer.new))
         result errors.old errors.new }
+    ensures counted { result ≤ 1 → CountsRefused settings refused.new (R.shown reader.old) (R.shown reader.new) }
 {
-    end_run(errors, run_named(alloc, name, settings, reader, writer))
+    let run = run_counting(alloc, reader, writer, settings, report_of(name), refused);
+    end_run(errors, run)
 }
 
 /// Makes a report of what the reader has left, without a heap. Puts the line of a fault to `errors`, whose own fault
@@ -115,7 +112,7 @@ pub fn serve_ledger<R: Source, W: Sink, E: Sink>(
     writer: &mut W,
     errors: &mut E,
 ) -> u8
-    ensures { EndsAs (λ outcome. RunsServed report outcome (R.shown reader.old) (R.shown reader.new) (W.shown writer.old) (W.shown writer.new))
+    ensures { EndsAs (λ outcome. RunsLedger report outcome (R.shown reader.old) (R.shown reader.new) (W.shown writer.old) (W.shown writer.new))
         result errors.old errors.new }
 {
     end_run(errors, run_ledger(alloc, seed, reader, writer, report))
@@ -155,13 +152,17 @@ pub(crate) fn run_again<R: Again, W: Sink, T: Watch>(
 {
     match what {
         Rereading::Sites(settings) => run_sites(alloc, reader, writer, settings),
-        Rereading::Timeline { heap: None, parts } => {
-            run_ledger_timeline(alloc, seed, reader, writer, parts)
-        }
+        Rereading::Timeline {
+            heap: None,
+            stretches,
+        } => { run_ledger_timeline(alloc, seed, reader, writer, stretches) }
         Rereading::Timeline {
             heap: Some(settings),
-            parts,
-        } => run_timeline(alloc, reader, writer, settings, parts),
+            stretches,
+        } => run_timeline(alloc, reader, writer, settings, stretches),
+        Rereading::SiteTimeline(stretches) => {
+            run_site_timeline(alloc, seed, reader, writer, stretches)
+        }
         Rereading::Fit(step) => run_fit(alloc, reader, writer, step, watch),
     }
 }
@@ -186,7 +187,7 @@ pub fn serve_parts<R: Source, W: Sink, E: Sink>(
 
 /// Makes what reads its log more than once, of the log that the reader has left. Puts the line of a fault to `errors`,
 /// whose own fault doesn't matter. Answers the status that the program ends with. It is 0 where nothing was found, 1
-/// where something was, and 2 for bad settings, a bad number of parts or a bad step. It is 3 where the reader or the
+/// where something was, and 2 for bad settings, a bad number of stretches or a bad step. It is 3 where the reader or the
 /// writer failed, or the reader didn't begin again, and 4 where memory was refused.
 pub fn serve_again<R: Again, W: Sink, E: Sink, T: Watch>(
     alloc: Global,

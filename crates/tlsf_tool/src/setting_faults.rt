@@ -38,7 +38,8 @@ pub(crate) fn tell_bad_reading(run: &Run<'_>, status: u8, what: Rereading) {
         Rereading::Fit(Some(step)) if status == BAD_SETTINGS && run.tells_causes() => {
             let _ = eprintln!(run.rt; "tlsf: --step {step} is no multiple of 16");
         }
-        Rereading::Timeline { heap: None, .. } | Rereading::Fit(_) => {}
+        Rereading::Timeline { heap: None, .. } | Rereading::SiteTimeline(_) | Rereading::Fit(_) =>
+            {}
     }
 }
 

@@ -2,14 +2,14 @@
 
 ghost use Rattle.std.specs.Prelude.{◌≡◌, ◌⊎◌, MatchBool, codes, Some, None};
 ghost use Rattle.clap.specs.Words.{found_of, kind_of, rows_of, subcommand_rows_of};
-ghost use Rattle.tlsf_tool.specs.CommandLine.{HasNumber, HasFlag, HasNoHeap, IsOfReport, name_text};
+ghost use Rattle.tlsf_tool.specs.CommandLine.{HasNumber, HasFlag, HasImage, HasNoHeap, IsOfReport, name_text};
 ghost use Rattle.tlsf_tool.specs.Faults.{ExplainsKind, IsUsage};
 ghost use Rattle.tlsf_tool.specs.Asks.{MatchesGive, WordsGive};
 
-use crate::asked::{Command, HeapReport, Rereading, ToolFault};
+use crate::asked::{Command, HeapReport, ImageReport, Rereading, ToolFault};
 use crate::command_line::tlsf_command;
 use crate::option_values::{
-    NO_COMMAND, NO_MEMORY, heap_of, log_of, option_number, size_of, word_of,
+    NO_COMMAND, NO_MEMORY, has_setting, heap_of, log_of, option_number, size_of, word_of,
 };
 use crate::size_words::asked_size;
 use crate::word_faults::told_text;
@@ -22,9 +22,17 @@ use std::alloc::Global;
 const NO_SETTINGS: &str =
     "error: --no-heap takes no option beside it: --pool, --pools and --records are of a heap\n\nFor more information, try '--help'.\n";
 
+/// The text where a setting of a heap stands beside the option of an image.
+const NO_SETTINGS_OF_IMAGE: &str =
+    "error: --image takes no option beside it: --pool, --pools and --records are of a heap\n\nFor more information, try '--help'.\n";
+
 /// The text where a setting of a heap stands beside the option that tells calls.
 const NO_CALLS: &str =
     "error: --calls takes no option beside it: --pool, --pools and --records are of a heap\n\nFor more information, try '--help'.\n";
+
+/// The text where a setting of a heap stands beside the option that tells each location.
+const NO_SITES: &str =
+    "error: --sites takes no option beside it but --points: --pool, --pools and --records are of a heap\n\nFor more information, try '--help'.\n";
 
 /// The text where snapshots are asked of a report on a heap.
 const NO_EVERY: &str =
@@ -63,12 +71,19 @@ fn asked_sites(alloc: Global, matches: &ArgMatches<'_>) -> Result<Command, ToolF
 fn asked_timeline(alloc: Global, matches: &ArgMatches<'_>) -> Result<Command, ToolFault>
     ensures { MatchesGive (Some (codes "timeline", rows_of (found_of matches.now))) result }
 {
-    let Some(parts) = option_number(matches, "points") else {
+    let Some(stretches) = option_number(matches, "points") else {
         return Err(ToolFault::usage(alloc, NO_COMMAND));
     };
     let log = word_of(alloc, matches, "LOG")?;
-    let heap = heap_of(matches);
-    let what = Rereading::Timeline { heap, parts };
+    if !has_flag(matches, "sites") {
+        let heap = heap_of(matches);
+        let what = Rereading::Timeline { heap, stretches };
+        return Ok(Command::Reread { what, log });
+    }
+    if has_setting(matches) {
+        return Err(ToolFault::usage(alloc, NO_SITES));
+    }
+    let what = Rereading::SiteTimeline(stretches);
     Ok(Command::Reread { what, log })
 }
 
@@ -115,7 +130,8 @@ fn asked_check(alloc: Global, matches: &ArgMatches<'_>) -> Result<Command, ToolF
     ensures { MatchesGive (Some (codes "check", rows_of (found_of matches.now))) result }
 {
     let image = word_of(alloc, matches, "IMAGE")?;
-    Ok(Command::Check { image })
+    let report = ImageReport::Check;
+    Ok(Command::Image { report, image })
 }
 
 /// Whether the option of this id is there, which takes no value.
@@ -136,6 +152,7 @@ fn asked_ledger(
     matches: &ArgMatches<'_>,
 ) -> Result<Command, ToolFault>
     requires none { HasNoHeap (rows_of (found_of matches.now)) }
+    requires no_image { HasImage name (rows_of (found_of matches.now)) → ⊥ }
     requires name { IsOfReport report (name_text name) }
     ensures { MatchesGive (Some (name_text name, rows_of (found_of matches.now))) result }
 {
@@ -154,6 +171,7 @@ fn asked_on_heap(
     matches: &ArgMatches<'_>,
 ) -> Result<Command, ToolFault>
     requires none { HasNoHeap (rows_of (found_of matches.now)) → ⊥ }
+    requires no_image { HasImage name (rows_of (found_of matches.now)) → ⊥ }
     ensures { MatchesGive (Some (name_text name, rows_of (found_of matches.now))) result }
 {
     let (settings, log) = log_of(alloc, matches)?;
@@ -173,6 +191,7 @@ fn asked_report(
     name: HeapReport,
     matches: &ArgMatches<'_>,
 ) -> Result<Command, ToolFault>
+    requires no_image { HasImage name (rows_of (found_of matches.now)) → ⊥ }
     ensures { MatchesGive (Some (name_text name, rows_of (found_of matches.now))) result }
 {
     if !has_flag(matches, "no-heap") {
@@ -183,6 +202,29 @@ fn asked_report(
         HeapReport::Peak => asked_ledger(alloc, name, LedgerReport::Sums, matches),
         HeapReport::Walk => Err(ToolFault::usage(alloc, NO_COMMAND)),
     }
+}
+
+/// What the matches of the subcommand that walks ask for, where it is given an image.
+fn asked_image(alloc: Global, matches: &ArgMatches<'_>) -> Result<Command, ToolFault>
+    requires image { HasImage HeapReport.Walk (rows_of (found_of matches.now)) }
+    ensures { MatchesGive (Some (codes "walk", rows_of (found_of matches.now))) result }
+{
+    let (settings, image) = log_of(alloc, matches)?;
+    if Settings::DEFAULT != settings {
+        return Err(ToolFault::usage(alloc, NO_SETTINGS_OF_IMAGE));
+    }
+    let report = ImageReport::Walk;
+    Ok(Command::Image { report, image })
+}
+
+/// What the matches of the subcommand that walks ask for.
+fn asked_walk(alloc: Global, matches: &ArgMatches<'_>) -> Result<Command, ToolFault>
+    ensures { MatchesGive (Some (codes "walk", rows_of (found_of matches.now))) result }
+{
+    if has_flag(matches, "image") {
+        return asked_image(alloc, matches);
+    }
+    asked_report(alloc, HeapReport::Walk, matches)
 }
 
 /// What the matches ask for.
@@ -201,7 +243,7 @@ fn asked(alloc: Global, matches: &ArgMatches<'_>) -> Result<Command, ToolFault>
         "check" => asked_check(alloc, sub_matches),
         "leaks" => asked_report(alloc, HeapReport::Leaks, sub_matches),
         "peak" => asked_report(alloc, HeapReport::Peak, sub_matches),
-        "walk" => asked_report(alloc, HeapReport::Walk, sub_matches),
+        "walk" => asked_walk(alloc, sub_matches),
         _ => Err(ToolFault::usage(alloc, NO_COMMAND)),
     }
 }

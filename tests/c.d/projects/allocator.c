@@ -116,10 +116,7 @@ void *allocator_resize(allocator *a, void *ptr, size_t size)
     return other;
 }
 
-void allocator_free(allocator *a, void *ptr)
-{
-    tlsf_free(a->tlsf, ptr);
-}
+void allocator_free(allocator *a, void *ptr) { tlsf_free(a->tlsf, ptr); }
 
 static void count(void *ptr, size_t size, int used, void *user)
 {

@@ -25,15 +25,9 @@ public:
     TlsfResource(const TlsfResource &) = delete;
     TlsfResource &operator=(const TlsfResource &) = delete;
 
-    ~TlsfResource() override
-    {
-        tlsf_destroy(heap_);
-    }
+    ~TlsfResource() override { tlsf_destroy(heap_); }
 
-    std::size_t pools() const
-    {
-        return 1 + more_.size();
-    }
+    std::size_t pools() const { return 1 + more_.size(); }
 
     std::size_t used() const
     {
@@ -45,10 +39,7 @@ public:
         return bytes;
     }
 
-    bool intact() const
-    {
-        return tlsf_check(heap_) == 0;
-    }
+    bool intact() const { return tlsf_check(heap_) == 0; }
 
 protected:
     void *do_allocate(std::size_t bytes, std::size_t align) override
@@ -65,10 +56,7 @@ protected:
         return block;
     }
 
-    void do_deallocate(void *block, std::size_t, std::size_t) override
-    {
-        tlsf_free(heap_, block);
-    }
+    void do_deallocate(void *block, std::size_t, std::size_t) override { tlsf_free(heap_, block); }
 
     bool do_is_equal(const std::pmr::memory_resource &other) const noexcept override
     {

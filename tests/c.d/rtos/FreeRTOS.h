@@ -1,4 +1,5 @@
-/* What c/rtos/heap_tlsf.c takes of FreeRTOS's headers, by the names of the kernel's manual: the kernel isn't here. */
+/* What c/rtos/heap_tlsf.c takes of FreeRTOS's headers, by the names of the kernel's manual: the
+ * kernel isn't here. */
 #ifndef FREERTOS_H
 #define FREERTOS_H
 

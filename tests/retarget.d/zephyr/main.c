@@ -31,9 +31,11 @@ int main(void)
     unsigned int made = locks;
     void *one = tlsf_malloc(heap, 100);
     tlsf_free(heap, one);
-    bool good = one != NULL && locks == made + 2 && tlsf_check(heap) == 0 && locks == unlocks && !wrong;
+    bool good =
+        one != NULL && locks == made + 2 && tlsf_check(heap) == 0 && locks == unlocks && !wrong;
     good = good && tlsf_heap_create_in(table, sizeof table, 16, &places) == TLSF_OK
-           && tlsf_heap_add_pool(&places, 0, 4096) == TLSF_OK && tlsf_heap_malloc(&places, 10, &block) == TLSF_OK;
+           && tlsf_heap_add_pool(&places, 0, 4096) == TLSF_OK
+           && tlsf_heap_malloc(&places, 10, &block) == TLSF_OK;
     printf("%u bytes for tlsf_create, %s\n", (unsigned)tlsf_size(), good ? "ok" : "not ok");
     return 0;
 }

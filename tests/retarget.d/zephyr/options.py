@@ -1,9 +1,11 @@
 #!/usr/bin/python3
-"""What Kconfig answers for Zephyr's module, by python3-kconfiglib: CONFIG_ lines of a board with these symbols.
+"""What Kconfig answers for Zephyr's module, by python3-kconfiglib: CONFIG_ lines of a board with
+these symbols.
 
     options.py KCONFIG SYMBOL.. [NAME=VALUE..]
 
-SYMBOLs are those of Zephyr that the board's own files would set. A warning of Kconfig's is a failure."""
+SYMBOLs are those of Zephyr that the board's own files would set. A warning of Kconfig's is a
+failure."""
 import os
 import sys
 import tempfile
@@ -20,7 +22,8 @@ def main(kconfig, words):
         top = os.path.join(folder, "Kconfig")
         with open(top, "w") as file:
             for name in BOARD:
-                file.write(f"config {name}\n\tbool\n\tdefault {'y' if name in symbols else 'n'}\n\n")
+                file.write(f"config {name}\n\tbool\n\tdefault {'y' if name in symbols else 'n'}\n\n"
+                           f"")
             file.write(f'source "{kconfig}"\n')
         found = kconfiglib.Kconfig(top, warn_to_stderr=False)
         for name, value in (word.split("=", 1) for word in words if "=" in word):

@@ -46,8 +46,8 @@ struct note {
 
 static struct note *add(struct note *all, const char *title, int number)
 {
-    struct note *note = xmalloc(sizeof *note); // planted 144 in 6: add
-    note->title = xstrdup(title); // planted 36 in 6: add
+    struct note *note = xmalloc(sizeof *note);      // planted 144 in 6: add
+    note->title = xstrdup(title);                   // planted 36 in 6: add
     note->text = xrealloc(xrealloc(NULL, 10), 110); // planted 660 in 6: add
     snprintf(note->text, 110, "%d", number);
     note->next = all;
@@ -71,7 +71,7 @@ int main(int count, char **words)
     for (int k = 0; k < 6; k++)
         all = add(all, "title", k);
     last = xformat("%045d", count); // planted 46 in 1: main
-    last = aligned_alloc(64, 128); // planted 128 in 1: main
+    last = aligned_alloc(64, 128);  // planted 128 in 1: main
     FILE *file = fmemopen("one line\n", 9, "r");
     if (file != NULL) {
         line_of(file);

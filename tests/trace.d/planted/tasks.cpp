@@ -16,8 +16,7 @@ static inline Task *make_task()
     return new Task; // planted 720 in 10: make_task
 }
 
-template <typename Step>
-static void each(int count, Step step)
+template <typename Step> static void each(int count, Step step)
 {
     for (int k = 0; k < count; k++)
         step(k);
@@ -25,8 +24,7 @@ static void each(int count, Step step)
 
 class Failing {
 public:
-    explicit Failing(int number)
-        : kept(new char[444]) // planted 444 in 1: Failing::Failing
+    explicit Failing(int number) : kept(new char[444]) // planted 444 in 1: Failing::Failing
     {
         last = kept;
         if (number > 0)
@@ -56,8 +54,11 @@ int main(int count, char **)
     for (std::thread &thread : threads)
         thread.join();
     auto length = std::async(std::launch::async, [] {
-        auto *words = new std::vector<std::string>(2); // planted 24 in 1: main::{lambda#2}::operator() or operator() // planted 64 in 1: main::{lambda#2}::operator() or operator()
-        (*words)[1].assign(200, 'y'); // planted 201 in 1: main::{lambda#2}::operator() or operator()
+        // planted 24 in 1: main::{lambda#2}::operator() or operator()
+        // planted 64 in 1: main::{lambda#2}::operator() or operator()
+        auto *words = new std::vector<std::string>(2);
+        // planted 201 in 1: main::{lambda#2}::operator() or operator()
+        (*words)[1].assign(200, 'y');
         last = words;
         return words->size();
     });

@@ -1,5 +1,5 @@
-// Containers, templates and pointers of C++ that keep their memory. A node of std::list has 16 bytes before its value, one of std::map
-// 32, and what std::make_shared gives 16.
+// Containers, templates and pointers of C++ that keep their memory. A node of std::list has 16
+// bytes before its value, one of std::map 32, and what std::make_shared gives 16.
 #include <array>
 #include <functional>
 #include <list>
@@ -12,8 +12,7 @@ namespace vault {
 
 using Box = std::array<char, 48>;
 
-template <typename Value, int Count>
-struct Shelf {
+template <typename Value, int Count> struct Shelf {
     Value *values = nullptr;
     void fill()
     {
@@ -42,8 +41,7 @@ struct Square : Shape {
     char side[33];
 };
 
-template <typename Made, typename... Words>
-Shape *make(Words... words)
+template <typename Made, typename... Words> Shape *make(Words... words)
 {
     return new Made(words...); // planted 48 in 1: vault::make
 }
@@ -65,7 +63,7 @@ void keep_map(std::map<long, Box> &boxes)
 static std::vector<int> *numbers()
 {
     auto *all = new std::vector<int>; // planted 24 in 1: numbers
-    all->reserve(250); // planted 1000 in 1: numbers
+    all->reserve(250);                // planted 1000 in 1: numbers
     return all;
 }
 
@@ -83,7 +81,9 @@ int main()
     vault::keep_map(*named);
     last = numbers();
     std::function<void(int)> keep = [](int count) {
-        last = new std::string(count, 'x'); // planted 32 in 1: main::{lambda#1}::operator() or operator() // planted 301 in 1: main::{lambda#1}::operator() or operator()
+        // planted 32 in 1: main::{lambda#1}::operator() or operator()
+        // planted 301 in 1: main::{lambda#1}::operator() or operator()
+        last = new std::string(count, 'x');
     };
     keep(300);
     last = shelf.values;

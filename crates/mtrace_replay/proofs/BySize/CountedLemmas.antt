@@ -12,7 +12,7 @@ use Rattle.mtrace_replay.specs.Moment.{ReadLine, Given}
 use Rattle.mtrace_replay.specs.History.{pending}
 use Rattle.mtrace_replay.specs.Totals.{is_served}
 use Rattle.mtrace_replay.specs.Asked.{class_asked}
-use Rattle.mtrace_replay.specs.Served.{served_moments, Standing, StandsWithoutHeap}
+use Rattle.mtrace_replay.specs.LedgerReplay.{ledger_moments, LedgerReplayed, LedgerStandsFor}
 use Rattle.mtrace_replay.specs.Parts.{served_classes}
 use Rattle.mtrace_replay.specs.Spans.{released, range_released, unless_released, given_all, given_range, released_by, block_asked, AreCounted, AreCountedOf}
 use Rattle.mtrace_replay.specs.CountedReplay.{IsChangeOf}
@@ -97,6 +97,6 @@ followed_few range given old new is lines few =
     subst (All (λ (span : Span). span.live ≤ suc lines)) (sym is) (few_given given lines (map (released range) old) (few_released range lines old few))
 
 -- whether a line was served is told by how many were
-pub served_more : (old new : Standing) (line : ReadLine) (past : List ReadLine) → StandsWithoutHeap old past → StandsWithoutHeap new (line ∷ past) → nat_lt old.served new.served ≡ is_served (its past line)
-unfolding served_moments
-served_more old new line past before after = moment_served (its past line) (served_moments past) old.served new.served before.served_are after.served_are
+pub served_more : (old new : LedgerReplayed) (line : ReadLine) (past : List ReadLine) → LedgerStandsFor old past → LedgerStandsFor new (line ∷ past) → nat_lt old.served new.served ≡ is_served (its past line)
+unfolding ledger_moments
+served_more old new line past before after = moment_served (its past line) (ledger_moments past) old.served new.served before.served_are after.served_are

@@ -8,11 +8,11 @@ use Rattle.std.proofs.lemmas.Bool.{false≢true}
 use Rattle.std.proofs.lemmas.Cmp.{ranked}
 use Rattle.mtrace_replay.specs.Moment.{ReadLine}
 use Rattle.mtrace_replay.specs.Totals.{Measures}
-use Rattle.mtrace_replay.specs.Served.{served_history, served_moments}
+use Rattle.mtrace_replay.specs.LedgerReplay.{ledger_history, ledger_moments}
 use Rattle.mtrace_replay.specs.Parts.{size_ranges, class_at, blocks_of, Part, IsPart, IsCut, IsLeastCut, parts_of, part_bytes, unbuilt, cut_bytes, cut_unbuilt, cut_cmp, parts_text, peak_line_text, TellsCut, TellsHeaps, TellsParts}
 use Rattle.mtrace_replay.proofs.BySize.CutLemmas.{cmp_total}
 use Rattle.mtrace_replay.proofs.History.TotalsLemmas.{one_greatest}
-use Rattle.mtrace_replay.proofs.Served.OneText.{one_peak_line}
+use Rattle.mtrace_replay.proofs.OnLedger.OneText.{one_peak_line}
 
 -- where neither is greater, they are tied
 level : (there here : Ordering) → there ≡ ordering_reverse here → is_gt there ≡ false → is_gt here ≡ false → there ≡ Equal
@@ -91,7 +91,7 @@ least_of_other part other alike most first ends is = record {
 -- the part of some ranges is one
 one_part : (past : List ReadLine) (first last : ℕ) (one other : Part) → IsPart past first last one → IsPart past first last other → one ≡ other
 one_part past first last one other is as_well = (
-    let blocks = one_greatest (Measures (blocks_of (class_at past) first last)) (served_moments past) one.blocks other.blocks is.blocks.0 as_well.blocks.0 is.blocks.1 as_well.blocks.1 in
+    let blocks = one_greatest (Measures (blocks_of (class_at past) first last)) (ledger_moments past) one.blocks other.blocks is.blocks.0 as_well.blocks.0 is.blocks.1 as_well.blocks.1 in
     let size = is.size ∙ sym as_well.size in
     λ i. record { blocks = blocks i; size = size i })
 
@@ -107,8 +107,8 @@ one_heaps_text false heaps past text other one two = one ∙ sym two
 
 pub one_parts_text : (heaps : ℕ) (lines : List ReadLine) (text other : List ℕ) → TellsParts heaps lines text → TellsParts heaps lines other → text ≡ other
 one_parts_text heaps lines text other one two =
-    let bytes = one_greatest _ (served_history lines) one.totals.peak_bytes two.totals.peak_bytes one.totals.peak_line two.totals.peak_line one.summed.peak two.summed.peak in
-    let line = one_peak_line (served_history lines) one.totals.peak_bytes two.totals.peak_bytes one.totals.peak_line two.totals.peak_line one.summed.peak two.summed.peak in
+    let bytes = one_greatest _ (ledger_history lines) one.totals.peak_bytes two.totals.peak_bytes one.totals.peak_line two.totals.peak_line one.summed.peak two.summed.peak in
+    let line = one_peak_line (ledger_history lines) one.totals.peak_bytes two.totals.peak_bytes one.totals.peak_line two.totals.peak_line one.summed.peak two.summed.peak in
     let rest = one_heaps_text _ heaps (reverse lines) one.rest two.rest one.tells two.tells in
     one.text_is
     ∙ ap (λ n. peak_line_text n one.totals.peak_line ++ one.rest) bytes

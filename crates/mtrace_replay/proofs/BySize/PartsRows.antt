@@ -8,7 +8,7 @@ use Rattle.tlsf_class.specs.Classes.{need, low}
 use Rattle.tlsf_class.specs.Rounding.{rounded}
 use Rattle.mtrace_replay.specs.Moment.{ReadLine}
 use Rattle.mtrace_replay.specs.History.{held}
-use Rattle.mtrace_replay.specs.Served.{served_moments}
+use Rattle.mtrace_replay.specs.LedgerReplay.{ledger_moments}
 use Rattle.mtrace_replay.specs.Parts.{range_of, class_at, served_classes, largest, Part, parts_of, cut_bytes, cut_cmp, pool_bytes, parts_text, no_parts_text, peak_line_text}
 
 -- the ranges end at powers of two
@@ -31,17 +31,17 @@ aligned-rows : (served_classes (reverse aligned) ≡ Some 1024 ∷ Some 4224 ∷
     × (class_at (reverse aligned) 1 ≡ Some 112)
     × (class_at (reverse aligned) 2 ≡ Some 4224)
     × (class_at (reverse aligned) 4 ≡ Some 1024)
-    × (held (served_moments (reverse aligned)) 48 ≡ Some (record { entry = record { addr = 48; size = 1024; line = 4; at = None }; place = 0 }))
-    × (held (served_moments (reverse aligned)) 16 ≡ None)
+    × (held (ledger_moments (reverse aligned)) 48 ≡ Some (record { entry = record { addr = 48; size = 1024; line = 4; at = None }; place = 0 }))
+    × (held (ledger_moments (reverse aligned)) 16 ≡ None)
     × (largest 0 6 (served_classes (reverse aligned)) ≡ 1024)
     × (largest 7 26 (served_classes (reverse aligned)) ≡ 4224)
     × (largest 0 2 (served_classes (reverse aligned)) ≡ 0)
-unfolding served_moments served_classes range_of need low rounded
+unfolding ledger_moments served_classes range_of need low rounded
 aligned-rows = (refl, refl, refl, refl, refl, refl, refl, refl, refl)
 
 -- a request of no byte is one unit, and one above the last class has none
 classes-rows : (served_classes (Ok (Alloc None (Some 16) 0) ∷ []) ≡ Some 16 ∷ []) × (served_classes (Ok (Alloc None (Some 16) 1056964609) ∷ []) ≡ None ∷ [])
-unfolding served_moments served_classes need low rounded
+unfolding ledger_moments served_classes need low rounded
 classes-rows = (refl, refl)
 
 -- the parts of ls, by the ends of their ranges: what an independent implementation found for these

@@ -13,12 +13,12 @@ use Rattle.mtrace_replay.specs.Moment.{ReadLine, Moment}
 use Rattle.mtrace_replay.specs.Totals.{IsMost}
 use Rattle.mtrace_replay.specs.Asked.{class_asked}
 use Rattle.mtrace_replay.specs.Reporting.{PutsAndFlushes}
-use Rattle.mtrace_replay.specs.Served.{served_moments, StandsWithoutHeap, Standing, totals_of}
+use Rattle.mtrace_replay.specs.LedgerReplay.{ledger_moments, LedgerStandsFor, LedgerReplayed, totals_of}
 use Rattle.mtrace_replay.specs.Parts.{class_at, blocks_of, served_classes, largest, Part, IsPart, AreParts, IsLeastCut, parts_of, parts_text, peak_line_text, TellsHeaps, TellsParts}
 use Rattle.mtrace_replay.specs.Spans.{Agrees, IsSpan, AreCounted}
 use Rattle.mtrace_replay.specs.Cuts.{part_of, ArePartsIn}
 use Rattle.mtrace_replay.specs.RunParts.{is_bad_heaps, PartsFollow}
-use Rattle.mtrace_replay.proofs.Served.ServedRunLemmas.{summed}
+use Rattle.mtrace_replay.proofs.OnLedger.LedgerRunLemmas.{summed}
 
 -- what the lines ask for agrees with the lines
 agrees_of : (asked : ℕ → Option ℕ) (past : List ReadLine) → ((number : ℕ) → number ≤ length past → asked number ≡ class_at past number) → Agrees asked past
@@ -102,8 +102,8 @@ module _ (past : List ReadLine) (spans : List Span) (ranges : ℕ → Option ℕ
       let is = is_span one has in
       let is_other = is_span other as_well in
       let asked = class_at past in
-      let most : one.most ≡ other.most = most_is_one asked other.first other.last (served_moments past) one.most other.most
-      (subst (λ l. IsMost (blocks_of asked other.first l) (served_moments past) one.most) last (subst (λ f. IsMost (blocks_of asked f one.last) (served_moments past) one.most) first (is.most asked (agrees past))))
+      let most : one.most ≡ other.most = most_is_one asked other.first other.last (ledger_moments past) one.most other.most
+      (subst (λ l. IsMost (blocks_of asked other.first l) (ledger_moments past) one.most) last (subst (λ f. IsMost (blocks_of asked f one.last) (ledger_moments past) one.most) first (is.most asked (agrees past))))
       (is_other.most asked (agrees past)) in
       let size : one.size ≡ other.size = is.size ∙ ap (λ f. largest f one.last (served_classes past)) first ∙ ap (λ l. largest other.first l (served_classes past)) last ∙ sym is_other.size in
       ap (λ n. record { blocks = n; size = one.size }) most ∙ ap (λ n. record { blocks = other.most; size = n }) size
@@ -135,7 +135,7 @@ module _ (past : List ReadLine) (spans : List Span) (ranges : ℕ → Option ℕ
       (record { part = its_part; are_parts = are_parts; ends = ends; chosen = chosen; text_is = refl })
 
 -- the text of the heaps of the lines
-pub tells_parts : (heaps : ℕ) (lines : List ReadLine) (replay : Standing) → StandsWithoutHeap replay (reverse lines) → (rest : List ℕ) → TellsHeaps (list_all is_some (served_classes (reverse lines))) heaps (reverse lines) rest
+pub tells_parts : (heaps : ℕ) (lines : List ReadLine) (replay : LedgerReplayed) → LedgerStandsFor replay (reverse lines) → (rest : List ℕ) → TellsHeaps (list_all is_some (served_classes (reverse lines))) heaps (reverse lines) rest
     → TellsParts heaps lines (peak_line_text replay.peak_bytes replay.peak_line ++ rest)
 tells_parts heaps lines replay stands rest tells = record { totals = totals_of replay; summed = summed replay lines stands; rest = rest; tells = tells; text_is = refl }
 

@@ -12,7 +12,7 @@ use Rattle.mtrace_replay.specs.History.{held, given_or, pending, unless_taken, A
 use Rattle.mtrace_replay.specs.Step.{held_given}
 use Rattle.mtrace_replay.specs.Totals.{is_served, Measures, IsMost}
 use Rattle.mtrace_replay.specs.Asked.{class_asked}
-use Rattle.mtrace_replay.specs.Served.{served_moment, served_moments}
+use Rattle.mtrace_replay.specs.LedgerReplay.{ledger_moment, ledger_moments}
 use Rattle.mtrace_replay.specs.Parts.{size_ranges, range_of, is_in, blocks_of, served_classes, largest}
 use Rattle.mtrace_replay.specs.Spans.{has_range, with_block, hits, released, Agrees, range_held, IsSpan, AreAll, AreCounted, released_by, address_asked, range_released, unless_released, IsPlaced, blank, IsBlank, given_all}
 use Rattle.mtrace_replay.proofs.History.FoundLemmas.{found_is_held}
@@ -53,14 +53,14 @@ module _ (past : List ReadLine) (line : ReadLine) (span : Span) (is : IsSpan pas
   abbrev now : Span
   now = record { first = span.first; last = span.last; live = live; most = most; size = size }
 
-  pub one_line_more : ((asked : ℕ → Option ℕ) → Agrees asked (line ∷ past) → Measures (blocks_of asked span.first span.last) (served_moments (line ∷ past)) live)
+  pub one_line_more : ((asked : ℕ → Option ℕ) → Agrees asked (line ∷ past) → Measures (blocks_of asked span.first span.last) (ledger_moments (line ∷ past)) live)
       → most ≡ max span.most live → size ≡ largest span.first span.last (served_classes (line ∷ past)) → live ≤ suc (length past) → IsSpan (line ∷ past) now
-  unfolding served_moments
+  unfolding ledger_moments
   one_line_more measured most_is size_is few = record {
     live = measured;
     most = λ asked agrees.
-        subst (IsMost (blocks_of asked span.first span.last) (served_moments (line ∷ past))) (sym most_is)
-        (most_goes_on (blocks_of asked span.first span.last) _ (served_moments past) span.most live (measured asked agrees) (is.most asked agrees.1));
+        subst (IsMost (blocks_of asked span.first span.last) (ledger_moments (line ∷ past))) (sym most_is)
+        (most_goes_on (blocks_of asked span.first span.last) _ (ledger_moments past) span.most live (measured asked agrees) (is.most asked agrees.1));
     size = size_is;
     few = few;
     raised = omega (arith, most_is);
@@ -69,11 +69,11 @@ module _ (past : List ReadLine) (line : ReadLine) (span : Span) (is : IsSpan pas
 module _ (past : List ReadLine) (line : ReadLine) where
   -- what was held before it
   abbrev pub before : ℕ → Option Given
-  before = held (served_moments past)
+  before = held (ledger_moments past)
 
   -- what the line leaves
   abbrev pub its : Moment
-  its = served_moment (length past) line (pending past) before
+  its = ledger_moment (length past) line (pending past) before
 
   abbrev changes : IsChange line (suc (length past)) (pending past) before (plan (suc (length past)) line (pending past) before)
   changes = line_change (suc (length past)) line (pending past) before
@@ -89,16 +89,16 @@ module _ (past : List ReadLine) (line : ReadLine) where
       × (unless_taken (released_by line (pending past) true) given.entry.addr (before given.entry.addr) ≡ None))) gave changes.given
 
   -- what is held behind the line, in order
-  module _ (all : List Given) (are : AreHeld all (served_moments past)) where
+  module _ (all : List Given) (are : AreHeld all (ledger_moments past)) where
     -- nothing is given
-    held_without : its.given ≡ None → AreHeld (still_held taken all) (served_moments (line ∷ past))
-    unfolding served_moments
-    held_without none = held_behind (served_moments past) its taken changes.taken all are None none (λ given is. absurd (cc))
+    held_without : its.given ≡ None → AreHeld (still_held taken all) (ledger_moments (line ∷ past))
+    unfolding ledger_moments
+    held_without none = held_behind (ledger_moments past) its taken changes.taken all are None none (λ given is. absurd (cc))
 
     -- a block is given
-    held_with : (given : Given) → its.given ≡ Some given → unless_taken its.taken given.entry.addr (before given.entry.addr) ≡ None → AreHeld (put given (still_held taken all)) (served_moments (line ∷ past))
-    unfolding served_moments
-    held_with given gave vacant = held_behind (served_moments past) its taken changes.taken all are (Some given) gave
+    held_with : (given : Given) → its.given ≡ Some given → unless_taken its.taken given.entry.addr (before given.entry.addr) ≡ None → AreHeld (put given (still_held taken all)) (ledger_moments (line ∷ past))
+    unfolding ledger_moments
+    held_with given gave vacant = held_behind (ledger_moments past) its taken changes.taken all are (Some given) gave
         (λ other is. subst (λ (g : Given). unless_taken its.taken g.entry.addr (before g.entry.addr) ≡ None) (let same : given ≡ other = cc in same) vacant)
 
   module _ (ranges : ℕ → Option ℕ) (ranges_are : (asked : ℕ → Option ℕ) → Agrees asked past → (address : ℕ) → ranges address ≡ range_held asked before address)
@@ -114,11 +114,11 @@ module _ (past : List ReadLine) (line : ReadLine) where
         by_hit true = omega arith
         by_hit false = omega arith
 
-    left_counts : (asked : ℕ → Option ℕ) → Agrees asked past → (all : List Given) → AreHeld all (served_moments past) → span.live ≡ blocks_of asked span.first span.last all
+    left_counts : (asked : ℕ → Option ℕ) → Agrees asked past → (all : List Given) → AreHeld all (ledger_moments past) → span.live ≡ blocks_of asked span.first span.last all
         → left.live ≡ blocks_of asked span.first span.last (still_held taken all)
     left_counts asked agrees all are counted =
         ap (λ range. (released range span).live) (same_range taken)
-        ∙ count-rest asked span before taken all (found_is_held all (served_moments past) are) counted
+        ∙ count-rest asked span before taken all (found_is_held all (ledger_moments past) are) counted
       where
         same_range : (o : Option ℕ) → range_released ranges o ≡ range_released (range_held asked before) o
         same_range None = refl
@@ -205,7 +205,7 @@ module _ (past : List ReadLine) (line : ReadLine) (spans : List Span) (ranges ra
   -- the line gives no block
   pub counted_without : is_served (its past line) ≡ false → ((address : ℕ) → ranges_now address ≡ unless_released (taken past line) address (ranges address))
       → AreCounted (line ∷ past) (map (released (range_released ranges (taken past line))) spans) ranges_now
-  unfolding served_classes served_moments
+  unfolding served_classes ledger_moments
   counted_without none updates = record {
     each = All-map (IsSpan (line ∷ past)) (released (range_released ranges (taken past line))) spans
         (λ k d within. span_without past line ranges counted.ranges_are (slice_index_or spans k d) (counted.each k d within) not_given);
@@ -240,7 +240,7 @@ module _ (past : List ReadLine) (line : ReadLine) (spans : List Span) (ranges ra
     pub counted_with : (address : ℕ) → address_asked line ≡ Some address
         → ((other : ℕ) → ranges_now other ≡ (if address == other then Some (range_of size) else unless_released (taken past line) other (ranges other)))
         → AreCounted (line ∷ past) (map (with_block (range_of size) size) (map (released (range_released ranges (taken past line))) spans)) ranges_now
-    unfolding served_classes served_moments
+    unfolding served_classes ledger_moments
     counted_with address asks updates = record {
       each = All-map (IsSpan (line ∷ past)) (with_block (range_of size) size) (map (released (range_released ranges (taken past line))) spans)
           (All-map (λ span. IsSpan (line ∷ past) (with_block (range_of size) size span)) (released (range_released ranges (taken past line))) spans
@@ -276,7 +276,7 @@ module _ (spans now : List Span) (one : Span) (is : now ≡ spans ++ one ∷ [])
 
 -- a blank span is one of no line
 span_blank : (span : Span) → IsBlank span → IsSpan [] span
-unfolding served_moments served_classes
+unfolding ledger_moments served_classes
 span_blank span is = subst (IsSpan []) (sym is.0) (record {
   live = λ asked agrees. none_measured (blocks_of asked span.first span.last) refl;
   most = λ asked agrees. (0, most_none (blocks_of asked span.first span.last) refl);
@@ -288,7 +288,7 @@ span_blank span is = subst (IsSpan []) (sym is.0) (record {
 -- nothing is counted before the first line
 pub counted_none : (spans : List Span) (ranges : ℕ → Option ℕ) → All IsBlank spans → ((first last : ℕ) → first ≤ last → last < size_ranges → Contains spans (blank first last))
     → ((address : ℕ) → ranges address ≡ None) → AreCounted [] spans ranges
-unfolding served_moments served_classes
+unfolding ledger_moments served_classes
 counted_none spans ranges all_blank rows none = record {
   each = λ k d within. span_blank (slice_index_or spans k d) (all_blank k d within);
   placed = λ k d within. (all_blank k d within).1;

@@ -35,7 +35,7 @@ use Rattle.mtrace_replay.proofs.Enough.LineOnHeap.{IsRefusedAs, AreRefusals, lea
 use Rattle.mtrace_replay.proofs.Enough.EnoughRecords.{first_but_last}
 use Rattle.mtrace_replay.proofs.Enough.SurePool.{IsEnough, IsWithin, room, enough_still}
 use Rattle.mtrace_replay.proofs.OnHeap.HeldLive.{IsLiveAt, AllLive, all_live}
-use Rattle.mtrace_replay.proofs.Enough.UnrefusedLemmas.{Answer, bare, bare_act, plain, planned_bare, none_behind, asked_some, served_alike, held_plain, held_unplaced, held_back, unplaced_all, entries_back, entries_unplaced_all, first_plain}
+use Rattle.mtrace_replay.proofs.Enough.UnrefusedLemmas.{Answer, bare, bare_act, plain, planned_bare, none_behind, asked_some, ledger_alike, held_plain, held_unplaced, held_back, unplaced_all, entries_back, entries_unplaced_all, first_plain}
 
 -- ---- what the heap refuses where it has room
 
@@ -236,7 +236,7 @@ module _ (most bytes size : ℕ) (big : Bare) (big_good : IsGood big) (big_free 
         of = so.of.1;
       } in
       let done_before = here past before in
-      let alike : map plain there ≡ map plain ms = sym (served_alike big past before.unrefused) ∙ served_alike start past done_before.unrefused_here in
+      let alike : map plain there ≡ map plain ms = sym (ledger_alike big past before.unrefused) ∙ ledger_alike start past done_before.unrefused_here in
       let within : IsWithin most bytes size start good free one large enough past = record {
         holds = holds_alike there ms alike (λ all. length all ≤ most) (few_entries most) before.holds;
         bytes_held = holds_alike there ms alike (λ all. rounded_bytes_in all ≤ bytes) (small_entries bytes) before.bytes_held;

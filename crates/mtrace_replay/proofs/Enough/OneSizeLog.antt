@@ -30,9 +30,9 @@ use Rattle.mtrace_replay.specs.Moment.{ReadLine, Given, Moment, Act, idle, give,
 use Rattle.mtrace_replay.specs.History.{AreHeld, held, moments, next_moment, content_after, pending}
 use Rattle.mtrace_replay.specs.Totals.{is_refused}
 use Rattle.mtrace_replay.specs.Enough.{HoldsAtMost, act_of}
-use Rattle.mtrace_replay.specs.Served.{served, served_moment, served_moments, unplaced}
+use Rattle.mtrace_replay.specs.LedgerReplay.{act_moment, ledger_moment, ledger_moments, unplaced}
 use Rattle.mtrace_replay.specs.Step.{held_given}
-use Rattle.mtrace_replay.specs.OneSize.{served_act, served_acts, AsksForSize, rounded_up}
+use Rattle.mtrace_replay.specs.OneSize.{ledger_act, ledger_acts, AsksForSize, rounded_up}
 use Rattle.mtrace_replay.proofs.History.TotalsLemmas.{AreAllFree, first_moments_all, started_free}
 use Rattle.mtrace_replay.proofs.History.Moments.{moments-none, moments-line}
 use Rattle.mtrace_replay.proofs.History.PlanLemmas.{Fits, is_planned}
@@ -42,7 +42,7 @@ use Rattle.mtrace_replay.proofs.History.FoundLemmas.{found_is_held, held_as_foun
 use Rattle.mtrace_replay.proofs.Enough.LineOnHeap.{IsRefusedAs, leaves_moment}
 use Rattle.mtrace_replay.proofs.Enough.EnoughRecords.{first_but_one, few_held}
 use Rattle.mtrace_replay.proofs.OnHeap.HeldLive.{AllLive, IsLiveAt, all_live}
-use Rattle.mtrace_replay.proofs.Enough.UnrefusedLemmas.{bare, bare_act, plain, served_bare, asked_some, served_alike, held_plain, held_back, length_back}
+use Rattle.mtrace_replay.proofs.Enough.UnrefusedLemmas.{bare, bare_act, plain, moment_bare, asked_some, ledger_alike, held_plain, held_back, length_back}
 use Rattle.mtrace_replay.proofs.Enough.FittedPool.{no_refusal, never_bad, act_bare}
 use Rattle.mtrace_replay.proofs.OnHeap.StartLemmas.{one_pool_added}
 
@@ -144,8 +144,8 @@ module _ (blocks size base : ℕ) (lowest : IsLowest size) where
   module _ (start : Bare) (ready : IsForSize blocks size base start) (free : AreAllFree start) where
     -- what is so of the lines without a heap
     record IsSo (past : List ReadLine) : Type 0 where
-      holds : HoldsAtMost blocks (served_moments past)
-      asks : AllByRecursion (AsksForSize size) (served_acts past)
+      holds : HoldsAtMost blocks (ledger_moments past)
+      asks : AllByRecursion (AsksForSize size) (ledger_acts past)
 
     -- and then on the heap
     record IsHere (past : List ReadLine) : Type 0 where
@@ -153,36 +153,36 @@ module _ (blocks size base : ℕ) (lowest : IsLowest size) where
       still : IsForSize blocks size base (content_after start (moments start past))
 
     fewer : (line : ReadLine) (past : List ReadLine) → IsSo (line ∷ past) → IsSo past
-    unfolding served_moments
+    unfolding ledger_moments
     fewer line past so = record {
-      holds = first_but_one (λ first. (all : List Given) × AreHeld all first × (length all ≤ blocks)) _ (served_moments past) so.holds;
+      holds = first_but_one (λ first. (all : List Given) × AreHeld all first × (length all ≤ blocks)) _ (ledger_moments past) so.holds;
       asks = so.asks.1;
     }
 
-    look_alike : (past : List ReadLine) → IsHere past → held (served_moments past) ≡ (λ a. bare (held (moments start past) a))
-    look_alike past before = ap held (served_alike start past before.unrefused) ∙ fun_ext (held_plain (moments start past))
+    look_alike : (past : List ReadLine) → IsHere past → held (ledger_moments past) ≡ (λ a. bare (held (moments start past) a))
+    look_alike past before = ap held (ledger_alike start past before.unrefused) ∙ fun_ext (held_plain (moments start past))
 
-    act_alike : (line : ReadLine) (past : List ReadLine) → IsHere past → bare_act (served_act line past) ≡ bare_act (act_of start line past)
+    act_alike : (line : ReadLine) (past : List ReadLine) → IsHere past → bare_act (ledger_act line past) ≡ bare_act (act_of start line past)
     act_alike line past before =
         ap (λ (look : ℕ → Option Given). bare_act (plan (suc (length past)) line (pending past) look).act) (look_alike past before) ∙ act_bare (suc (length past)) line (pending past) (held (moments start past))
 
     -- a line that asks for a block finds fewer live ones
     few_before : (line : ReadLine) (past : List ReadLine) → IsSo (line ∷ past) → IsHere past → Fits (suc (length past)) (held (moments start past)) (act_of start line past)
         → (entry : Entry) (align : Option ℕ) → act_of start line past ≡ give entry align → live_blocks (content_after start (moments start past)) < blocks
-    unfolding served_moments
+    unfolding ledger_moments
     few_before line past so before fits entry align is =
         let ms = moments start past in
-        let ones = served_moments past in
-        let one = served_moment (length past) line (pending past) (held ones) in
+        let ones = ledger_moments past in
+        let one = ledger_moment (length past) line (pending past) (held ones) in
         let last = so.holds (length (one ∷ ones)) in
         let all : AreHeld last.0 (one ∷ ones) = subst (λ (first : List Moment). AreHeld last.0 first) (first_moments_all (one ∷ ones)) last.1 in
-        let its : served (served_act line past) ≡ served (give entry align) =
-        sym (served_bare (served_act line past)) ∙ ap served (act_alike line past before) ∙ served_bare (act_of start line past) ∙ ap served is in
+        let its : act_moment (ledger_act line past) ≡ act_moment (give entry align) =
+        sym (moment_bare (ledger_act line past)) ∙ ap act_moment (act_alike line past before) ∙ moment_bare (act_of start line past) ∙ ap act_moment is in
         let not_held : held ms entry.addr ≡ None = (subst (Fits (suc (length past)) (held ms)) is fits).1 in
         let none : held ones entry.addr ≡ None = ap (λ (look : ℕ → Option Given). look entry.addr) (look_alike past before) ∙ ap bare not_held in
         let less = one_more_held (unplaced entry) one ones last.0 (ap (λ (m : Moment). m.given) its) (ap (λ (m : Moment). m.taken) its) none all in
         let rest = without entry.addr last.0 in
-        let on_heap : AreHeld rest (map plain ms) = subst (AreHeld rest) (served_alike start past before.unrefused) less.0 in
+        let on_heap : AreHeld rest (map plain ms) = subst (AreHeld rest) (ledger_alike start past before.unrefused) less.0 in
         omega (arith, few_held start ready.good free past _ (held_back ms rest on_heap), length_back ms rest on_heap, less.1, last.2)
 
     here : (past : List ReadLine) → IsSo past → IsHere past
@@ -195,7 +195,7 @@ module _ (blocks size base : ℕ) (lowest : IsLowest size) where
         let content = content_after start ms in
         let act = act_of start line past in
         let before = here past (fewer line past so) in
-        let asks : AsksForSize size act = bare_asks size act (subst (AsksForSize size) (act_alike line past before) (asks_bare size (served_act line past) so.asks.0)) in
+        let asks : AsksForSize size act = bare_asks size act (subst (AsksForSize size) (act_alike line past before) (asks_bare size (ledger_act line past) so.asks.0)) in
         let planned = is_planned (suc (length past)) (held ms) line (pending past) in
         let serves = act_serves (suc (length past)) (held ms) content act before.still (all_live start ready.good free past) planned.fits asks (few_before line past so before planned.fits) in
         let leaves = leaves_moment content before.still.good (held ms) (length past) line (pending past) in
@@ -206,7 +206,7 @@ module _ (blocks size base : ℕ) (lowest : IsLowest size) where
           still = subst (λ (all : List Moment). IsForSize blocks size base (content_after start all)) (sym (moments-line start line past)) serves.still;
         }
 
-pub one_size_serves : (blocks size pool records : ℕ) (past : List ReadLine) → class_size 1 size ≡ Some size → AllByRecursion (AsksForSize size) (served_acts past) → HoldsAtMost blocks (served_moments past)
+pub one_size_serves : (blocks size pool records : ℕ) (past : List ReadLine) → class_size 1 size ≡ Some size → AllByRecursion (AsksForSize size) (ledger_acts past) → HoldsAtMost blocks (ledger_moments past)
     → are_bad (one_pool pool records) ≡ false → blocks * size ≤ pool → HasRecords blocks size pool records → count_by is_refused (moments (started (one_pool pool records)) past) ≡ 0
 one_size_serves blocks size pool records past sized asks holds good large many =
     let settings = one_pool pool records in
@@ -246,15 +246,15 @@ module _ (size : ℕ) (rounds : round (asked_size size) ≡ Some size) where
   line_asks number (Ok (New at address bytes)) pending look = renewal_asks (record { addr = address; size = size; line = number; at = at }) pending look refl
   line_asks number (Ok _) pending look = tt
 
-  all_ask : (past : List ReadLine) → AllByRecursion (AsksForSize size) (served_acts (map (rounded_up size) past))
+  all_ask : (past : List ReadLine) → AllByRecursion (AsksForSize size) (ledger_acts (map (rounded_up size) past))
   all_ask [] = tt
   all_ask (line ∷ past) = (line_asks _ line _ _, all_ask past)
 
-pub rounded_serves : (blocks size pool records : ℕ) (lines : List ReadLine) → class_size 1 size ≡ Some size → HoldsAtMost blocks (served_moments (reverse (map (rounded_up size) lines)))
+pub rounded_serves : (blocks size pool records : ℕ) (lines : List ReadLine) → class_size 1 size ≡ Some size → HoldsAtMost blocks (ledger_moments (reverse (map (rounded_up size) lines)))
     → are_bad (one_pool pool records) ≡ false → blocks * size ≤ pool → HasRecords blocks size pool records → count_by is_refused (moments (started (one_pool pool records)) (reverse (map (rounded_up size) lines))) ≡ 0
 rounded_serves blocks size pool records lines sized =
     let rounds : round size ≡ Some size = (own_class size sized).rounds in
     let some : size ≢ 0 = λ nothing. omega (arith, nothing, positive size size rounds) in
     let asks : round (asked_size size) ≡ Some size = ap (λ b. round (cond b 1 size)) (ne_eqb size 0 some) ∙ rounds in
     one_size_serves blocks size pool records (reverse (map (rounded_up size) lines)) sized
-    (subst (λ past. AllByRecursion (AsksForSize size) (served_acts past)) (map-reverse (rounded_up size) lines) (all_ask size asks (reverse lines)))
+    (subst (λ past. AllByRecursion (AsksForSize size) (ledger_acts past)) (map-reverse (rounded_up size) lines) (all_ask size asks (reverse lines)))

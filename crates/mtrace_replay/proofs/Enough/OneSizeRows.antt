@@ -6,10 +6,10 @@ use Rattle.tlsf_class.specs.Rounding.{rounded}
 use Rattle.mtrace_replay.specs.Started.{started}
 use Rattle.mtrace_replay.specs.Moment.{ReadLine, idle, give, take, move}
 use Rattle.mtrace_replay.specs.History.{moments}
-use Rattle.mtrace_replay.specs.Served.{served_moments}
+use Rattle.mtrace_replay.specs.LedgerReplay.{ledger_moments}
 use Rattle.mtrace_replay.specs.Fit.{one_pool}
 use Rattle.mtrace_replay.specs.RunFit.{refusals}
-use Rattle.mtrace_replay.specs.OneSize.{rounded_up, served_acts}
+use Rattle.mtrace_replay.specs.OneSize.{rounded_up, ledger_acts}
 
 -- `+ 0x10 0x31`, `+ 0x20 0x40`, `- 0x10`, `* 0x30 0x20 0x1`, `< 0x20`, `> 0x20 0x5`, `- 0x30`: at most two are held
 abbrev two : List ReadLine
@@ -28,10 +28,10 @@ rounded_up-rows : map (rounded_up 64) two ≡ Ok (Alloc None (Some 16) 64) ∷ O
 rounded_up-rows = refl
 
 -- the acts of the last lines, the latest first
-served_acts-rows : served_acts (reverse (Ok (Alloc None (Some 16) 64) ∷ Ok (Old None 16) ∷ Ok (New None 32 64) ∷ Ok (Free None 32) ∷ []))
+ledger_acts-rows : ledger_acts (reverse (Ok (Alloc None (Some 16) 64) ∷ Ok (Old None 16) ∷ Ok (New None 32 64) ∷ Ok (Free None 32) ∷ []))
     ≡ take 32 0 ∷ move 16 0 (record { addr = 32; size = 64; line = 3; at = None }) ∷ idle ∷ give (record { addr = 16; size = 64; line = 1; at = None }) None ∷ []
-unfolding served_moments
-served_acts-rows = refl
+unfolding ledger_moments
+ledger_acts-rows = refl
 
 -- two blocks of 64 bytes serve it, with a record for each; 16 bytes less or a record less don't
 enough-rows : (refusals (one_pool 128 2) (map (rounded_up 64) two) ≡ 0) × (refusals (one_pool 112 2) (map (rounded_up 64) two) ≡ 2) × (refusals (one_pool 128 1) (map (rounded_up 64) two) ≡ 4)

@@ -16,15 +16,15 @@ use Rattle.mtrace_replay.specs.Moment.{ReadLine, Given, Moment, Plan, Act, idle,
 use Rattle.mtrace_replay.specs.History.{held, given_or, unless_taken, pending, notes, AreHeld, entries_of, moments, next_moment, content_after}
 use Rattle.mtrace_replay.specs.Totals.{is_served, is_refused, is_refusal, Measures, IsPeak, asked_bytes_in, blocks_in, first_moments, AreTotals}
 use Rattle.mtrace_replay.specs.Step.{held_given}
-use Rattle.mtrace_replay.specs.RunServed.{AreServedTotals}
+use Rattle.mtrace_replay.specs.RunLedger.{AreLedgerTotals}
 use Rattle.mtrace_replay.specs.declared.heap.totals.Totals.{Totals}
 use Rattle.mtrace_replay.specs.declared.heap.point.Point.{Point}
-use Rattle.mtrace_replay.specs.declared.no_heap.point.LedgerPoint.{LedgerPoint}
+use Rattle.mtrace_replay.specs.declared.ledger.point.LedgerPoint.{LedgerPoint}
 use Rattle.mtrace_replay.specs.Timeline.{IsPoint}
-use Rattle.mtrace_replay.specs.ServedTimeline.{IsLedgerPoint}
-use Rattle.mtrace_replay.specs.declared.no_heap.replay.LedgerTotals.{LedgerTotals}
+use Rattle.mtrace_replay.specs.LedgerTimeline.{IsLedgerPoint}
+use Rattle.mtrace_replay.specs.declared.ledger.replay.LedgerTotals.{LedgerTotals}
 use Rattle.mtrace_replay.specs.Texts.{total_size}
-use Rattle.mtrace_replay.specs.Served.{no_heap, unplaced, served, all_served, served_moment, served_moments, without_places}
+use Rattle.mtrace_replay.specs.LedgerReplay.{no_heap, unplaced, act_moment, plan_moment, ledger_moment, ledger_moments, without_places}
 use Rattle.tlsf_heap.specs.declared.refusal.Refusal.{Refusal}
 use Rattle.tlsf_heap.specs.Realloc.{realloc, realloc_rounded, fits_in_place, moved as heap_moved}
 use Rattle.tlsf_heap.specs.declared.refusal.Refusal.TheVariants.{BadPointer}
@@ -89,18 +89,18 @@ planned_bare number (Ok (Free at address)) pending look = released_bare number a
 planned_bare number (Ok (New at address size)) pending look = renewed_bare (record { addr = address; size = size; line = number; at = at }) pending look
 planned_bare number (Ok _) pending look = refl
 
-pub served_bare : (act : Act) → served (bare_act act) ≡ served act
-served_bare idle = refl
-served_bare (give entry align) = refl
-served_bare (take address place) = refl
-served_bare (move old place entry) = refl
+pub moment_bare : (act : Act) → act_moment (bare_act act) ≡ act_moment act
+moment_bare idle = refl
+moment_bare (give entry align) = refl
+moment_bare (take address place) = refl
+moment_bare (move old place entry) = refl
 
-all_served_bare : (number : ℕ) (line : ReadLine) (pending : Option ℕ) (look : ℕ → Option Given) → all_served (plan number line pending (λ a. bare (look a))) ≡ all_served (plan number line pending look)
-all_served_bare number line pending look =
-    of_plan (plan number line pending (λ a. bare (look a))) ∙ ap all_served (planned_bare number line pending look) ∙ sym (of_plan (plan number line pending look))
+plan_bare : (number : ℕ) (line : ReadLine) (pending : Option ℕ) (look : ℕ → Option Given) → plan_moment (plan number line pending (λ a. bare (look a))) ≡ plan_moment (plan number line pending look)
+plan_bare number line pending look =
+    of_plan (plan number line pending (λ a. bare (look a))) ∙ ap plan_moment (planned_bare number line pending look) ∙ sym (of_plan (plan number line pending look))
   where
-    of_plan : (planned : Plan) → all_served planned ≡ all_served (bare_plan planned)
-    of_plan planned = ap (after_diagnostics planned.first) (sym (served_bare planned.act))
+    of_plan : (planned : Plan) → plan_moment planned ≡ plan_moment (bare_plan planned)
+    of_plan planned = ap (after_diagnostics planned.first) (sym (moment_bare planned.act))
 
 -- ---- an act that is not refused does what it does without a heap
 
@@ -146,16 +146,16 @@ realloc_block place size content =
     (subst (λ (b : Bool). IsBlock (cond b freed rest)) (sym (asked_some size)) (rounded_block place (round (asked_size size)) content))
 
 module _ (entry : Entry) (content : Bare) where
-  answered_alike : (align : Option ℕ) (answer : Result (ℕ × Bare) Refusal) → is_refused (answered entry content answer) ≡ false → plain (answered entry content answer) ≡ served (give entry align)
+  answered_alike : (align : Option ℕ) (answer : Result (ℕ × Bare) Refusal) → is_refused (answered entry content answer) ≡ false → plain (answered entry content answer) ≡ act_moment (give entry align)
   answered_alike align (Ok (place, new)) none = refl
   answered_alike align (Err refusal) none = absurd (cc)
 
-  moved_alike : (old from : ℕ) (answer : Answer) → IsBlock answer → is_refused (moved old from entry content answer) ≡ false → plain (moved old from entry content answer) ≡ served (move old from entry)
+  moved_alike : (old from : ℕ) (answer : Answer) → IsBlock answer → is_refused (moved old from entry content answer) ≡ false → plain (moved old from entry content answer) ≡ act_moment (move old from entry)
   moved_alike old from (Ok (Some (place, owner), new)) block none = refl
   moved_alike old from (Ok (None, new)) block none = absurd block
   moved_alike old from (Err refusal) block none = absurd (cc)
 
-done_alike : (act : Act) (content : Bare) → is_refused (done act content) ≡ false → plain (done act content) ≡ served act
+done_alike : (act : Act) (content : Bare) → is_refused (done act content) ≡ false → plain (done act content) ≡ act_moment act
 done_alike idle content none = refl
 done_alike (give entry align) content none = answered_alike entry content align _ none
 done_alike (take address place) content none = refl
@@ -172,12 +172,12 @@ none_behind (d ∷ first) second none = by (none_behind first second) (is_refusa
     by more false rest = more rest
 
 moment_alike : (before : ℕ) (line : ReadLine) (pending : Option ℕ) (look : ℕ → Option Given) (content : Bare) → is_refused (moment before line pending look content) ≡ false
-    → served_moment before line pending (λ a. bare (look a)) ≡ plain (moment before line pending look content)
+    → ledger_moment before line pending (λ a. bare (look a)) ≡ plain (moment before line pending look content)
 moment_alike before line pending look content none =
     let planned = plan (suc before) line pending look in
     let first = cond (is_new line) [] (half before pending) in
     let behind = none_behind planned.first (done planned.act content).diagnostics (none_behind first (planned.first ++ (done planned.act content).diagnostics) none) in
-    ap (after_diagnostics first) (all_served_bare (suc before) line pending look)
+    ap (after_diagnostics first) (plan_bare (suc before) line pending look)
     ∙ ap (λ (m : Moment). after_diagnostics first (after_diagnostics planned.first m)) (sym (done_alike planned.act content behind))
 
 -- ---- what is held, told and served by moments without places
@@ -218,20 +218,20 @@ count_plain [] = refl
 count_plain (one ∷ past) =
     omega (arith, count-cons is_served (plain one) (map plain past), count-cons is_served one past, ap one_if (served_plain one.given), count_plain past)
 
-pub served_alike : (start : Bare) (past : List ReadLine) → count_by is_refused (moments start past) ≡ 0 → served_moments past ≡ map plain (moments start past)
-unfolding served_moments
-served_alike start [] none = sym (ap (map plain) (moments-none start))
-served_alike start (line ∷ past) none =
+pub ledger_alike : (start : Bare) (past : List ReadLine) → count_by is_refused (moments start past) ≡ 0 → ledger_moments past ≡ map plain (moments start past)
+unfolding ledger_moments
+ledger_alike start [] none = sym (ap (map plain) (moments-none start))
+ledger_alike start (line ∷ past) none =
     let before = moments start past in
     let last = next_moment start line past before in
     let all : moments start (line ∷ past) ≡ last ∷ before = moments-line start line past in
     let counted : count_by is_refused (last ∷ before) ≡ 0 = sym (ap (count_by is_refused) all) ∙ none in
     let cons = count-cons is_refused last before in
-    let earlier = served_alike start past (omega (arith, counted, cons)) in
-    let look : held (served_moments past) ≡ (λ a. bare (held before a)) = ap held earlier ∙ fun_ext (held_plain before) in
-    let now : served_moment (length past) line (pending past) (held (served_moments past)) ≡ plain last =
-    ap (served_moment (length past) line (pending past)) look ∙ moment_alike (length past) line (pending past) (held before) (content_after start before) (not_refused (is_refused last) (omega (arith, counted, cons))) in
-    ap (λ (m : Moment). m ∷ served_moments past) now ∙ ap (λ (ms : List Moment). plain last ∷ ms) earlier ∙ sym (ap (map plain) all)
+    let earlier = ledger_alike start past (omega (arith, counted, cons)) in
+    let look : held (ledger_moments past) ≡ (λ a. bare (held before a)) = ap held earlier ∙ fun_ext (held_plain before) in
+    let now : ledger_moment (length past) line (pending past) (held (ledger_moments past)) ≡ plain last =
+    ap (ledger_moment (length past) line (pending past)) look ∙ moment_alike (length past) line (pending past) (held before) (content_after start before) (not_refused (is_refused last) (omega (arith, counted, cons))) in
+    ap (λ (m : Moment). m ∷ ledger_moments past) now ∙ ap (λ (ms : List Moment). plain last ∷ ms) earlier ∙ sym (ap (map plain) all)
   where
     not_refused : (b : Bool) → one_if b ≡ 0 → b ≡ false
     not_refused true is = absurd (omega (arith, is))
@@ -362,7 +362,7 @@ peak_plain past bytes line is = record {
   first = λ k n less has. is.first k n less (bytes_back (first_moments k past) n (subst (λ ms. Measures asked_bytes_in ms n) (first_plain k past) has));
 }
 
-pub sums_alike : (start : Bare) (past : List Moment) (totals : Totals) (sums : LedgerTotals) → AreTotals start past totals → AreServedTotals (map plain past) sums → sums ≡ without_places totals
+pub sums_alike : (start : Bare) (past : List Moment) (totals : Totals) (sums : LedgerTotals) → AreTotals start past totals → AreLedgerTotals (map plain past) sums → sums ≡ without_places totals
 sums_alike start past totals sums are told =
     let lines : sums.lines ≡ totals.lines = told.lines ∙ length_plain past ∙ sym are.lines in
     let served : sums.served ≡ totals.served = told.served ∙ count_plain past ∙ sym are.served in

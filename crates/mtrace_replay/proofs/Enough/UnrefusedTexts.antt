@@ -6,7 +6,7 @@ use Rattle.mtrace_log.specs.Shown.{Bytes}
 use Rattle.mtrace_replay.specs.declared.held.diagnostic.Diagnostic.{Diagnostic}
 use Rattle.mtrace_replay.specs.declared.heap.settings.Settings.{Settings}
 use Rattle.mtrace_replay.specs.declared.heap.totals.Totals.{Totals}
-use Rattle.mtrace_replay.specs.declared.no_heap.replay.LedgerTotals.{LedgerTotals}
+use Rattle.mtrace_replay.specs.declared.ledger.replay.LedgerTotals.{LedgerTotals}
 use Rattle.mtrace_replay.specs.declared.runs.report.Report.TheVariants.{Leaks}
 use Rattle.mtrace_replay.specs.Started.{Bare, started}
 use Rattle.mtrace_replay.specs.Entry.{Entry}
@@ -18,46 +18,46 @@ use Rattle.mtrace_replay.specs.Texts.{diagnostics_text, leaks_report, both_secti
 use Rattle.mtrace_replay.specs.Run.{whole_text}
 use Rattle.mtrace_replay.specs.RunFit.{refusals}
 use Rattle.mtrace_replay.specs.RunSites.{HeldSites, sections_of, TellsSites}
-use Rattle.mtrace_replay.specs.Served.{served_history, served_diagnostics, without_places}
-use Rattle.mtrace_replay.specs.RunServed.{AreServedTotals, TellsHeld, TellsServedSites, whole_served}
+use Rattle.mtrace_replay.specs.LedgerReplay.{ledger_history, ledger_diagnostics, without_places}
+use Rattle.mtrace_replay.specs.RunLedger.{AreLedgerTotals, TellsHeld, TellsLedgerSites, whole_ledger}
 use Rattle.mtrace_replay.proofs.History.Moments.{moments-line}
 use Rattle.mtrace_replay.proofs.History.HeldLemmas.{length-moments}
 use Rattle.mtrace_replay.proofs.History.SortedLemmas.{one_list}
 use Rattle.mtrace_replay.proofs.Told.SiteLemmas.OneList.{one_list as one_list_of_sites}
 use Rattle.mtrace_replay.proofs.Running.ToldLemmas.{told_first}
-use Rattle.mtrace_replay.proofs.Enough.UnrefusedLemmas.{plain, served_alike, notes_plain, first_plain, unplaced_all, held_unplaced, entries_unplaced_all, sums_alike}
+use Rattle.mtrace_replay.proofs.Enough.UnrefusedLemmas.{plain, ledger_alike, notes_plain, first_plain, unplaced_all, held_unplaced, entries_unplaced_all, sums_alike}
 
 module _ (settings : Settings) (lines : List ReadLine) (none : refusals settings lines ≡ 0) where
   -- the same is wrong with the lines
-  pub same_diagnostics : served_diagnostics lines ≡ diagnostics settings lines
+  pub same_diagnostics : ledger_diagnostics lines ≡ diagnostics settings lines
   same_diagnostics =
-      ap (λ (past : List Moment). notes past ++ half (length lines) (pending (reverse lines))) (served_alike (started settings) (reverse lines) none)
+      ap (λ (past : List Moment). notes past ++ half (length lines) (pending (reverse lines))) (ledger_alike (started settings) (reverse lines) none)
       ∙ ap (λ (told : List Diagnostic). told ++ half (length lines) (pending (reverse lines))) (notes_plain (history settings lines))
 
   -- the same is held at the end
-  pub same_held : (all other : List Given) → AreHeld all (history settings lines) → AreHeld other (served_history lines) → entries_of other ≡ entries_of all
+  pub same_held : (all other : List Given) → AreHeld all (history settings lines) → AreHeld other (ledger_history lines) → entries_of other ≡ entries_of all
   same_held all other is as_well =
-      let served = subst (λ (past : List Moment). AreHeld other past) (served_alike (started settings) (reverse lines) none) as_well in
+      let served = subst (λ (past : List Moment). AreHeld other past) (ledger_alike (started settings) (reverse lines) none) as_well in
       ap entries_of (one_list (map plain (history settings lines)) other (unplaced_all all) served (held_unplaced all (history settings lines) is)) ∙ entries_unplaced_all all
 
   -- the same is held after the first lines
-  pub same_first : (many : ℕ) (all other : List Given) → AreHeld all (first_moments many (history settings lines)) → AreHeld other (first_moments many (served_history lines))
+  pub same_first : (many : ℕ) (all other : List Given) → AreHeld all (first_moments many (history settings lines)) → AreHeld other (first_moments many (ledger_history lines))
       → entries_of other ≡ entries_of all
   same_first many all other is as_well =
       let past = history settings lines in
-      let alike = ap (first_moments many) (served_alike (started settings) (reverse lines) none) ∙ first_plain many past in
+      let alike = ap (first_moments many) (ledger_alike (started settings) (reverse lines) none) ∙ first_plain many past in
       let served = subst (λ (past : List Moment). AreHeld other past) alike as_well in
       ap entries_of (one_list (map plain (first_moments many past)) other (unplaced_all all) served (held_unplaced all (first_moments many past) is)) ∙ entries_unplaced_all all
 
   -- the sums are the same
-  pub same_sums : (totals : Totals) (sums : LedgerTotals) → AreTotals (started settings) (history settings lines) totals → AreServedTotals (served_history lines) sums
+  pub same_sums : (totals : Totals) (sums : LedgerTotals) → AreTotals (started settings) (history settings lines) totals → AreLedgerTotals (ledger_history lines) sums
       → sums ≡ without_places totals
   same_sums totals sums are told =
-      sums_alike (started settings) (history settings lines) totals sums are (subst (λ (past : List Moment). AreServedTotals past sums) (served_alike (started settings) (reverse lines) none) told)
+      sums_alike (started settings) (history settings lines) totals sums are (subst (λ (past : List Moment). AreLedgerTotals past sums) (ledger_alike (started settings) (reverse lines) none) told)
 
   -- the report of leaks is the same
   pub same_leaks : (all : List Given) (totals : Totals) (text : List ℕ) → AreHeld all (history settings lines) → TellsHeld lines text
-      → whole_served lines text ≡ whole_text Leaks settings lines all totals
+      → whole_ledger lines text ≡ whole_text Leaks settings lines all totals
   same_leaks all totals text is told =
       ap₂ (λ (found : List Diagnostic) (report : List ℕ). diagnostics_text found ++ report) same_diagnostics (told.text_is ∙ ap leaks_report (same_held all told.all is told.held))
 
@@ -103,14 +103,14 @@ sections_alike line other peak end its_peak its_end same peaks ends =
 
 -- the text of the sites is the same
 pub same_sites : (settings : Settings) (lines : List ReadLine) (whole : List ℕ) (end left : Bytes) (text other : List ℕ) → refusals settings lines ≡ 0 → HasReadAll (Some whole) end lines
-    → TellsSites settings lines (Some whole) left text → TellsServedSites lines other → other ≡ text
+    → TellsSites settings lines (Some whole) left text → TellsLedgerSites lines other → other ≡ text
 same_sites settings lines whole end left text other none all told served =
     let many = told.totals.peak_line in
     let line : served.totals.peak_line ≡ many = ap (λ (sums : LedgerTotals). sums.peak_line) (same_sums settings lines none told.totals served.totals told.summed served.summed) in
     let first : history settings told.first ≡ first_moments many (history settings lines) =
     ap (history settings) (told_first whole end left many lines told.first all told.again) ∙ first_history settings many lines in
     let peaks = same_first settings lines none many told.at_peak.all served.at_peak.all (subst (λ (past : List Moment). AreHeld told.at_peak.all past) first told.at_peak.held)
-    (subst (λ n. AreHeld served.at_peak.all (first_moments n (served_history lines))) line served.at_peak.held) in
+    (subst (λ n. AreHeld served.at_peak.all (first_moments n (ledger_history lines))) line served.at_peak.held) in
     let ends = same_held settings lines none told.at_end.all served.at_end.all told.at_end.held served.at_end.held in
     let both = sections_of many told.at_peak told.at_end in
     let refused : refused_line told.totals.refused ≡ [] = ap refused_line (told.summed.refused ∙ none) in

@@ -9,13 +9,13 @@ use Rattle.mtrace_replay.specs.Entry.{Entry}
 use Rattle.mtrace_replay.specs.declared.held.diagnostic.Kind.TheVariants.{AlreadyHeld}
 use Rattle.mtrace_replay.specs.Moment.{ReadLine, Given, Plan, idle, move, one_diagnostic, plan, allocation, release, reallocation}
 use Rattle.mtrace_replay.specs.History.{unless_taken}
-use Rattle.mtrace_replay.specs.Served.{all_served}
+use Rattle.mtrace_replay.specs.LedgerReplay.{plan_moment}
 use Rattle.mtrace_replay.specs.Spans.{released_by, address_asked}
 
 -- what a plan leaves is a release, and then perhaps a block for what the line asks for, at an address that isn't held then
 pub record IsChange (line : ReadLine) (number : ℕ) (last : Option ℕ) (before : ℕ → Option Given) (planned : Plan) : Type 0 where
-  pub taken : (address : ℕ) → unless_taken (all_served planned).taken address (before address) ≡ unless_taken (released_by line last (is_some (all_served planned).given)) address (before address)
-  pub given : IfSome (all_served planned).given (λ given. (given.entry.line ≡ number) × (address_asked line ≡ Some given.entry.addr)
+  pub taken : (address : ℕ) → unless_taken (plan_moment planned).taken address (before address) ≡ unless_taken (released_by line last (is_some (plan_moment planned).given)) address (before address)
+  pub given : IfSome (plan_moment planned).given (λ given. (given.entry.line ≡ number) × (address_asked line ≡ Some given.entry.addr)
       × (unless_taken (released_by line last true) given.entry.addr (before given.entry.addr) ≡ None))
 
 module _ (number : ℕ) (last : Option ℕ) (before : ℕ → Option Given) where
@@ -103,7 +103,7 @@ module _ (number : ℕ) (last : Option ℕ) (before : ℕ → Option Given) wher
     renewed (Some from) here there same = by_clash from here same (not (entry.addr == old) && is_some here) refl
 
 -- no block is asked for, and none released
-idles : (line : ReadLine) (number : ℕ) (last : Option ℕ) (before : ℕ → Option Given) (planned : Plan) → (all_served planned).taken ≡ None → (all_served planned).given ≡ None → released_by line last false ≡ None
+idles : (line : ReadLine) (number : ℕ) (last : Option ℕ) (before : ℕ → Option Given) (planned : Plan) → (plan_moment planned).taken ≡ None → (plan_moment planned).given ≡ None → released_by line last false ≡ None
     → IsChange line number last before planned
 idles line number last before planned none_taken none_given none = record {
   taken = λ address.

@@ -12,7 +12,7 @@ use Rattle.mtrace_replay.specs.Moment.{ReadLine}
 use Rattle.mtrace_replay.specs.History.{moments, history, held, content_after, diagnostics}
 use Rattle.mtrace_replay.specs.Survey.{live_ends}
 use Rattle.mtrace_replay.specs.Texts.{free_sizes, greatest, leaks_text, timeline_text, ledger_timeline_text}
-use Rattle.mtrace_replay.specs.Timeline.{end_of_part}
+use Rattle.mtrace_replay.specs.Timeline.{end_of_stretch}
 
 -- the settings where none are named
 abbrev default_settings : Settings
@@ -184,13 +184,13 @@ unfolding started moments class need low rounded digits
 a_hole-points = (refl, refl, refl, refl, refl, refl, refl, refl, refl)
 
 -- the ends of three parts of seven lines, and of five parts of fourteen; a log of one line ends with each part
-ends_of_parts : (map (end_of_part 7 3) (0 ∷ 1 ∷ 2 ∷ 3 ∷ []) ≡ 0 ∷ 3 ∷ 5 ∷ 7 ∷ []) × (map (end_of_part 14 5) (0 ∷ 1 ∷ 2 ∷ 3 ∷ 4 ∷ 5 ∷ []) ≡ 0 ∷ 3 ∷ 6 ∷ 9 ∷ 12 ∷ 14 ∷ [])
-    × (map (end_of_part 1 3) (0 ∷ 1 ∷ 2 ∷ 3 ∷ []) ≡ 0 ∷ 1 ∷ 1 ∷ 1 ∷ [])
-ends_of_parts = (refl, refl, refl)
+ends_of_stretches : (map (end_of_stretch 7 3) (0 ∷ 1 ∷ 2 ∷ 3 ∷ []) ≡ 0 ∷ 3 ∷ 5 ∷ 7 ∷ []) × (map (end_of_stretch 14 5) (0 ∷ 1 ∷ 2 ∷ 3 ∷ 4 ∷ 5 ∷ []) ≡ 0 ∷ 3 ∷ 6 ∷ 9 ∷ 12 ∷ 14 ∷ [])
+    × (map (end_of_stretch 1 3) (0 ∷ 1 ∷ 2 ∷ 3 ∷ []) ≡ 0 ∷ 1 ∷ 1 ∷ 1 ∷ [])
+ends_of_stretches = (refl, refl, refl)
 
 -- words.log in twenty parts, without a heap, as an independent implementation tells it: where its parts end, and its first two rows,
 -- that of the peak, and the last one
-words-rows : (map (end_of_part 163 20) (1 ∷ 2 ∷ 3 ∷ 4 ∷ 5 ∷ 6 ∷ 7 ∷ 8 ∷ 9 ∷ 10 ∷ 11 ∷ 12 ∷ 13 ∷ 14 ∷ 15 ∷ 16 ∷ 17 ∷ 18 ∷ 19 ∷ 20 ∷ [])
+words-rows : (map (end_of_stretch 163 20) (1 ∷ 2 ∷ 3 ∷ 4 ∷ 5 ∷ 6 ∷ 7 ∷ 8 ∷ 9 ∷ 10 ∷ 11 ∷ 12 ∷ 13 ∷ 14 ∷ 15 ∷ 16 ∷ 17 ∷ 18 ∷ 19 ∷ 20 ∷ [])
     ≡ 9 ∷ 17 ∷ 25 ∷ 33 ∷ 41 ∷ 49 ∷ 58 ∷ 66 ∷ 74 ∷ 82 ∷ 90 ∷ 98 ∷ 106 ∷ 115 ∷ 123 ∷ 131 ∷ 139 ∷ 147 ∷ 155 ∷ 163 ∷ [])
     × (ledger_timeline_text (record { line = 0; bytes = 0; blocks = 0 } ∷ record { line = 9; bytes = 434; blocks = 6 } ∷ record { line = 136; bytes = 8208; blocks = 39 }
     ∷ record { line = 163; bytes = 1906; blocks = 21 } ∷ []) ≡ codes "line bytes blocks\n0 0 0\n9 434 6\n136 8208 39\n163 1906 21\n")

@@ -12,7 +12,7 @@ use Rattle.mtrace_replay.specs.Course.{Course, course, shown_before, shown_after
 use Rattle.mtrace_replay.specs.Settings.{are_bad}
 use Rattle.mtrace_replay.specs.Moment.{ReadLine}
 use Rattle.mtrace_replay.specs.Run.{RunEnds}
-use Rattle.mtrace_replay.specs.Timeline.{is_bad_parts}
+use Rattle.mtrace_replay.specs.Timeline.{is_bad_stretches}
 use Rattle.mtrace_replay.specs.Reporting.{PutsAndFlushes}
 use Rattle.mtrace_replay.specs.Again.{Follows, RunsAgain}
 
@@ -46,6 +46,6 @@ module _ {R W : Type 0} (Tells : Bytes → List ℕ → Type 0) (HasWorked Fails
     nothing_put = λ is. absurd (never_read result only is);
   }
 
--- this many parts are not bad
-pub not_bad : (parts : ℕ) → parts ≢ 0 → parts ≤ 10000 → is_bad_parts parts ≡ true → ⊥
-not_bad parts some few bad = search rules
+-- this many stretches are not bad
+pub not_bad : (stretches : ℕ) → stretches ≢ 0 → stretches ≤ 10000 → is_bad_stretches stretches ≡ true → ⊥
+not_bad stretches some few bad = search rules

@@ -26,29 +26,29 @@ peak_within : (settings : Settings) (lines : List ReadLine) (totals : Totals) �
 peak_within settings lines totals summed = omega (arith, summed.lines, summed.peak.within)
 
 -- the text of the points that were gathered
-pub tells_timeline : (settings : Settings) (parts : ℕ) (lines : List ReadLine) (replay : Replayed) (totals : Totals) (numbers : List ℕ) (points : List Point) (whole left : Bytes) → 0 < parts
-    → StandsFor replay settings (reverse lines) → totals ≡ replay.totals → (totals.peak_line ≤ totals.lines → AreTold totals.lines totals.peak_line parts numbers)
-    → HasPoints settings numbers points whole left → TellsTimeline settings parts lines whole left (timeline_text points totals.refused)
-tells_timeline settings parts lines replay totals numbers points whole left some stands same told has =
+pub tells_timeline : (settings : Settings) (stretches : ℕ) (lines : List ReadLine) (replay : Replayed) (totals : Totals) (numbers : List ℕ) (points : List Point) (whole left : Bytes) → 0 < stretches
+    → StandsFor replay settings (reverse lines) → totals ≡ replay.totals → (totals.peak_line ≤ totals.lines → AreTold totals.lines totals.peak_line stretches numbers)
+    → HasPoints settings numbers points whole left → TellsTimeline settings stretches lines whole left (timeline_text points totals.refused)
+tells_timeline settings stretches lines replay totals numbers points whole left some stands same told has =
     let summed = totals_of settings lines replay totals stands same in
     let within = peak_within settings lines totals summed in
     record {
       totals = totals;
       summed = summed;
       again = has.again;
-      read = subst (λ n. HasReadFirst n whole left has.again) (greatest_told totals.lines totals.peak_line parts numbers some within (told within)) has.read;
+      read = subst (λ n. HasReadFirst n whole left has.again) (greatest_told totals.lines totals.peak_line stretches numbers some within (told within)) has.read;
       points = points;
-      told = subst (AreTold totals.lines totals.peak_line parts) (sym has.told) (told within);
+      told = subst (AreTold totals.lines totals.peak_line stretches) (sym has.told) (told within);
       exact = has.exact;
       text_is = refl;
     }
 
 -- the reader failed before the last line
-pub fails_before : (settings : Settings) (parts : ℕ) (lines : List ReadLine) (replay : Replayed) (totals : Totals) (numbers : List ℕ) (reader_old reader_new : ReaderState) → 0 < parts
-    → StandsFor replay settings (reverse lines) → totals ≡ replay.totals → (totals.peak_line ≤ totals.lines → AreTold totals.lines totals.peak_line parts numbers) → totals.lines ≤ greatest_number
+pub fails_before : (settings : Settings) (stretches : ℕ) (lines : List ReadLine) (replay : Replayed) (totals : Totals) (numbers : List ℕ) (reader_old reader_new : ReaderState) → 0 < stretches
+    → StandsFor replay settings (reverse lines) → totals ≡ replay.totals → (totals.peak_line ≤ totals.lines → AreTold totals.lines totals.peak_line stretches numbers) → totals.lines ≤ greatest_number
     → (All (λ number. number ≤ totals.lines) numbers → totals.lines ≤ greatest_number → FailsAgain totals.lines reader_old reader_new)
     → FailsAgainBefore settings lines reader_old reader_new
-fails_before settings parts lines replay totals numbers reader_old reader_new some stands same told few fails =
+fails_before settings stretches lines replay totals numbers reader_old reader_new some stands same told few fails =
     let summed = totals_of settings lines replay totals stands same in
     let within = peak_within settings lines totals summed in
-    (totals, summed, fails (told_within totals.lines totals.peak_line parts numbers some within (told within)) few)
+    (totals, summed, fails (told_within totals.lines totals.peak_line stretches numbers some within (told within)) few)

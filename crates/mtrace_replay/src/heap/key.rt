@@ -17,7 +17,7 @@ pub(crate) struct Key {
 
 /// How a key stands to an address.
 #[derive(Clone, Copy)]
-pub(crate) struct Standing {
+pub(crate) struct LedgerReplayed {
     /// 1 where the key's own address is at most that one, else 0.
     pub reaches: usize,
     /// Whether it is that one.
@@ -45,12 +45,12 @@ impl Key {
     /// How this key stands to an address: one comparison of two addresses, which is counted. Without a test, so that the
     /// search which adds by it has no branch to guess.
     #[inline(always)]
-    pub(crate) fn compare(&self, address: Addr, comparisons: &mut GhostCount) -> Standing
+    pub(crate) fn compare(&self, address: Addr, comparisons: &mut GhostCount) -> LedgerReplayed
         ensures { StandsTo self.now.address address result comparisons.old.count comparisons.new.count }
     {
         comparisons.tick();
         let (own, other) = (self.address.value(), address.value());
-        Standing {
+        LedgerReplayed {
             reaches: (((1 << 64) + u128::from(other) - u128::from(own)) >> 64) as usize,
             is_same: self.address == address,
         }

@@ -49,7 +49,7 @@ fn put_pool<H: Heaped, W: Sink>(
 /// # Errors
 ///
 /// `Failed` where the writer failed, or took no byte of some: then a beginning of the report is put.
-pub(crate) fn put_walk<H: Heaped, W: Sink>(writer: &mut W, heap: &mut H) -> Result<(), Failed>
+pub fn put_walk<H: Heaped, W: Sink>(writer: &mut W, heap: &mut H) -> Result<(), Failed>
     ensures { PutsOf H.content result (walk_report (bare (H.content heap.old))) (W.shown writer.old) (W.shown writer.new) heap.old heap.new }
 {
     heap.keeps_good();

@@ -1,16 +1,16 @@
-//! Which lines are told of a log that is cut in equal parts.
+//! Which lines are told of a log that is cut in equal stretches.
 
 ghost use Rattle.std.specs.Prelude.{◌≡◌, ◌+◌, ◌<◌, ◌≤◌, [], max, vec_len, vec_capacity};
 ghost use Rattle.std.specs.List.Sorted.{IsStrictlyIncreasing};
-ghost use Rattle.mtrace_replay.specs.Timeline.{end_of_part, AreTold, told_later};
+ghost use Rattle.mtrace_replay.specs.Timeline.{end_of_stretch, AreTold, told_later};
 
-/// The number of the last line of a part, where the first is part 1. It is 0 for part 0.
-fn end_of_part(lines: u64, parts: u32, part: u32) -> u64
-    requires some { 0 < parts }
-    requires within { part ≤ parts }
-    ensures { result ≡ end_of_part lines parts part }
+/// The number of the last line of a stretch, where the first is stretch 1. It is 0 for stretch 0.
+fn end_of_stretch(lines: u64, stretches: u32, stretch: u32) -> u64
+    requires some { 0 < stretches }
+    requires within { stretch ≤ stretches }
+    ensures { result ≡ end_of_stretch lines stretches stretch }
 {
-    let end = (u128::from(part) * u128::from(lines)).div_ceil(u128::from(parts));
+    let end = (u128::from(stretch) * u128::from(lines)).div_ceil(u128::from(stretches));
     u64::try_from(end).unwrap_or(lines)
 }
 
@@ -30,19 +30,19 @@ fn tell(numbers: &mut Vec<u64>, last: u64, number: u64) -> u64
     number
 }
 
-/// The line numbers that are told: 0, the peak's, and where each part ends, in rising order.
-pub(crate) fn tell_lines(lines: u64, peak: u64, parts: u32, numbers: &mut Vec<u64>)
-    requires some { 0 < parts }
+/// The line numbers that are told: 0, the peak's, and where each stretch ends, in rising order.
+pub(crate) fn tell_lines(lines: u64, peak: u64, stretches: u32, numbers: &mut Vec<u64>)
+    requires some { 0 < stretches }
     requires empty { numbers.old.items ≡ [] }
-    requires room { parts + 2 ≤ vec_capacity numbers.old }
-    ensures told { peak ≤ lines → AreTold lines peak parts numbers.new.items }
+    requires room { stretches + 2 ≤ vec_capacity numbers.old }
+    ensures told { peak ≤ lines → AreTold lines peak stretches numbers.new.items }
     ensures rising { IsStrictlyIncreasing numbers.new.items }
-    ensures few { vec_len numbers.new ≤ parts + 2 }
+    ensures few { vec_len numbers.new ≤ stretches + 2 }
 {
     numbers.push_reserved(0);
     let mut last = 0;
-    for part in 0..parts {
-        let end = end_of_part(lines, parts, part + 1);
+    for stretch in 0..stretches {
+        let end = end_of_stretch(lines, stretches, stretch + 1);
         last = tell(numbers, last, peak.min(end));
         last = tell(numbers, last, end);
     }

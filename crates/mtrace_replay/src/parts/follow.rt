@@ -2,13 +2,13 @@
 
 ghost use Rattle.std.specs.Prelude.{IfOk};
 ghost use Rattle.mtrace_replay.specs.Spans.{AreFew};
-ghost use Rattle.mtrace_replay.specs.RunServed.{RunsServed};
+ghost use Rattle.mtrace_replay.specs.RunLedger.{RunsLedger};
 ghost use Rattle.mtrace_replay.specs.RunParts.{IsStart, EndsCounted};
-ghost use Rattle.mtrace_replay.specs.declared.no_heap.report.LedgerReport.TheVariants.{Nothing};
+ghost use Rattle.mtrace_replay.specs.declared.ledger.report.LedgerReport.TheVariants.{Nothing};
 
 use super::replay::CountedReplay;
-use crate::no_heap::prepared::Prepared;
-use crate::no_heap::run::finish;
+use crate::ledger::prepared::Prepared;
+use crate::ledger::run::finish;
 use crate::runs::following::read_log;
 use crate::runs::status::{RunFault, Status};
 use mtrace_log::{Sink, Source};
@@ -21,7 +21,7 @@ pub(crate) fn follow_counted<R: Source, W: Sink>(
 ) -> Result<Status, RunFault>
     requires start { IsStart replay.old }
     requires few { AreFew 0 replay.old.spans }
-    ensures ran { RunsServed Nothing result (R.shown reader.old) (R.shown reader.new) (W.shown writer.old) (W.shown writer.new) }
+    ensures ran { RunsLedger Nothing result (R.shown reader.old) (R.shown reader.new) (W.shown writer.old) (W.shown writer.new) }
     ensures last { IfOk result (λ status. EndsCounted status replay.new (R.shown reader.old) (R.shown reader.new) (W.shown writer.old) (W.shown writer.new)) }
 {
     let has_diagnostics = match read_log(reader, writer, replay) {

@@ -3,14 +3,14 @@
 ghost use Rattle.std.specs.Prelude.{◌≡◌, ℕ, suc, ◌+◌, ◌^◌, ◌<◌, List, [], ◌∷◌, Some, None, OnOk, IfOk, if◌then◌else◌};
 ghost use Rattle.std.specs.List.{All};
 ghost use Rattle.mtrace_replay.specs.Moment.{ReadLine};
-ghost use Rattle.mtrace_replay.specs.Served.{StandsWithoutHeap};
+ghost use Rattle.mtrace_replay.specs.LedgerReplay.{LedgerStandsFor};
 ghost use Rattle.mtrace_replay.specs.Spans.{AreCountedOf, AreFew};
 ghost use Rattle.mtrace_replay.specs.CountedReplay.{IsChangeOf, FeedsCounted};
 
 use super::change::Change;
 use super::spans::Spans;
 use crate::held::findings::Findings;
-use crate::no_heap::replay::LedgerReplay;
+use crate::ledger::replay::LedgerReplay;
 use crate::runs::following::tell_found;
 use crate::runs::line_replay::{LineReplay, TellFault};
 use mtrace_log::{Event, LentLocation, LineFault, Sink};
@@ -53,7 +53,7 @@ impl CountedReplay {
     ///
     /// `AllocError` where memory is refused.
     pub(crate) fn new(alloc: Global, seed: RandomState) -> Result<CountedReplay, AllocError>
-        ensures served { IfOk result (λ replay. StandsWithoutHeap replay.ledger []) }
+        ensures served { IfOk result (λ replay. LedgerStandsFor replay.ledger []) }
         ensures counted { IfOk result (λ replay. AreCountedOf [] replay.spans) }
         ensures few { IfOk result (λ replay. AreFew 0 replay.spans) }
     {

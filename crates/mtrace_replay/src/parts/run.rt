@@ -3,7 +3,7 @@
 ghost use Rattle.std.specs.Prelude.{◌≡◌, ◌≤◌, ◌<◌, ℕ, reverse, length, map, List, IfOk};
 ghost use Rattle.mtrace_replay.specs.Course.{course};
 ghost use Rattle.mtrace_replay.specs.declared.parts.span.Span.{Span};
-ghost use Rattle.mtrace_replay.specs.Served.{StandsWithoutHeap};
+ghost use Rattle.mtrace_replay.specs.LedgerReplay.{LedgerStandsFor};
 ghost use Rattle.mtrace_replay.specs.Spans.{AreCountedOf};
 ghost use Rattle.mtrace_replay.specs.Moment.{ReadLine};
 ghost use Rattle.mtrace_replay.specs.Parts.{Part, size_ranges, IsCut, parts_of};
@@ -64,7 +64,7 @@ fn tell_parts<W: Sink>(
     requires few { heaps ≤ 8 }
     requires lines { HasLines replay.now }
     ensures answer { IfOk result (λ answered. answered ≡ status) }
-    ensures told { (lines : List ReadLine) → StandsWithoutHeap replay.now.ledger (reverse lines) → AreCountedOf (reverse lines) replay.now.spans
+    ensures told { (lines : List ReadLine) → LedgerStandsFor replay.now.ledger (reverse lines) → AreCountedOf (reverse lines) replay.now.spans
         → PartsFollow heaps lines result (W.shown writer.old) (W.shown writer.new) }
 {
     let totals = replay.ledger.totals();

@@ -1,13 +1,13 @@
 //! The runs that write the reports of a log.
 
-ghost use Rattle.std.specs.Prelude.{◌≡◌, ◌++◌, false, [], IfOk};
+ghost use Rattle.std.specs.Prelude.{◌≡◌, ◌++◌, false, [], IfOk, OnErr};
 ghost use Rattle.mtrace_log.specs.Output.{Puts};
 ghost use Rattle.mtrace_replay.specs.Course.{course};
 ghost use Rattle.mtrace_replay.specs.Texts.{diagnostic_text, diagnostics_text, report_text};
 ghost use Rattle.mtrace_replay.specs.Replay.{entries};
 ghost use Rattle.mtrace_replay.specs.Moment.{half};
 ghost use Rattle.mtrace_replay.specs.Reporting.{Finishes};
-ghost use Rattle.mtrace_replay.specs.Run.{Runs, EndsAt, status_in, PutsReport};
+ghost use Rattle.mtrace_replay.specs.Run.{Runs, CountsRefused, EndsAt, status_in, PutsReport};
 
 use crate::heap::replay::{Replay, ReplayFault};
 use crate::heap::settings::Settings;
@@ -89,10 +89,11 @@ pub(crate) fn finish<H: Heaped, W: Sink>(
     flush_behind(writer, put, status)
 }
 
-/// A run that read its log to the end: its status, and the replay then.
+/// A run that read its log to the end: its status, how many lines the heap refused, and the replay then.
 #[derive(Drop)]
 pub(crate) struct FinishedRun {
     pub(crate) status: Status,
+    pub(crate) refused: u64,
     pub(crate) replay: Replay<Heap>,
 }
 
@@ -105,6 +106,7 @@ pub(crate) fn replay_log<R: Source, W: Sink>(
     report: Report,
 ) -> Result<FinishedRun, RunFault>
     ensures ran { Runs report settings (status_in result) (course R.shown reader.old reader.new) (course W.shown writer.old writer.new) }
+    ensures counted { IfOk result (λ ended. CountsRefused settings ended.refused (R.shown reader.old) (R.shown reader.new)) }
     ensures last { report ≡ Report.Nothing → IfOk result (λ ended. EndsAt settings ended.status ended.replay
         (R.shown reader.old) (R.shown reader.new) (W.shown writer.old) (W.shown writer.new)) }
 {
@@ -113,12 +115,18 @@ pub(crate) fn replay_log<R: Source, W: Sink>(
         Err(ReplayFault::BadSettings) => return Err(RunFault::BadSettings),
         Err(ReplayFault::OutOfMemory) => return Err(RunFault::OutOfMemory),
     };
-    match read_log(reader, writer, &mut replay) {
-        Ok(has_diagnostics) => match finish(writer, &mut replay, has_diagnostics, report) {
-            Ok(status) => Ok(FinishedRun { status, replay }),
-            Err(_) => Err(RunFault::Write),
-        },
-        Err(fault) => Err(fault),
+    let has_diagnostics = match read_log(reader, writer, &mut replay) {
+        Ok(has_diagnostics) => has_diagnostics,
+        Err(fault) => return Err(fault),
+    };
+    let refused = replay.totals().refused;
+    match finish(writer, &mut replay, has_diagnostics, report) {
+        Ok(status) => Ok(FinishedRun {
+            status,
+            refused,
+            replay,
+        }),
+        Err(_) => Err(RunFault::Write),
     }
 }
 
@@ -144,6 +152,28 @@ pub fn run_report<R: Source, W: Sink>(
     ensures { Runs report settings result (course R.shown reader.old reader.new) (course W.shown writer.old writer.new) }
 {
     let ended = replay_log(alloc, reader, writer, settings, report)?;
+    Ok(ended.status)
+}
+
+/// [`run_report`], which also counts the lines that the heap refused.
+///
+/// # Errors
+///
+/// Those of `run_report`: then the count stays.
+pub fn run_counting<R: Source, W: Sink>(
+    alloc: Global,
+    reader: &mut R,
+    writer: &mut W,
+    settings: Settings,
+    report: Report,
+    refused: &mut u64,
+) -> Result<Status, RunFault>
+    ensures ran { Runs report settings result (course R.shown reader.old reader.new) (course W.shown writer.old writer.new) }
+    ensures counted { IfOk result (λ status. CountsRefused settings refused.new (R.shown reader.old) (R.shown reader.new)) }
+    ensures kept { OnErr result (refused.new ≡ refused.old) }
+{
+    let ended = replay_log(alloc, reader, writer, settings, report)?;
+    *refused = ended.refused;
     Ok(ended.status)
 }
 

@@ -26,8 +26,8 @@ use mtrace_log::{Again, Failed, Sink, put_all};
 use std::alloc::{AllocError, Global};
 use tlsf_heap::Heap;
 
-/// The greatest number of parts.
-pub(crate) const MOST_PARTS: u32 = 10_000;
+/// The greatest number of stretches.
+pub(crate) const MOST_STRETCHES: u32 = 10_000;
 
 impl InLine for Point {
     ghost line = { point_text };
@@ -83,11 +83,11 @@ struct Room {
 }
 
 impl Room {
-    /// Room for 0, the peak and this many parts. It takes memory twice.
-    fn new(alloc: Global, parts: u32) -> Result<Room, AllocError>
-        ensures { IfOk result (λ room. HasRoomForPoints parts room.numbers room.points) }
+    /// Room for 0, the peak and this many stretches. It takes memory twice.
+    fn new(alloc: Global, stretches: u32) -> Result<Room, AllocError>
+        ensures { IfOk result (λ room. HasRoomForPoints stretches room.numbers room.points) }
     {
-        let most = parts as usize + 2;
+        let most = stretches as usize + 2;
         Ok(Room {
             numbers: Vec::with_capacity(alloc, most)?,
             points: Vec::with_capacity(alloc, most)?,
@@ -101,20 +101,20 @@ fn tell_timeline<R: Again, W: Sink>(
     writer: &mut W,
     replay: &mut Replay<Heap>,
     settings: Settings,
-    parts: u32,
+    stretches: u32,
     mut room: Room,
     status: Status,
 ) -> Result<Status, RunFault>
     requires good { are_bad settings ≡ false }
     requires records { replay.old.content.records ≡ settings.records }
-    requires some { 0 < parts }
-    requires room { HasRoomForPoints parts room.numbers room.points }
+    requires some { 0 < stretches }
+    requires room { HasRoomForPoints stretches room.numbers room.points }
     ensures answer { IfOk result (λ answered. answered ≡ status) }
     ensures told { (lines : List ReadLine) → StandsFor replay.old settings (reverse lines)
-        → TimelineFollows settings parts lines result (course R.shown reader.old reader.new) (course W.shown writer.old writer.new) }
+        → TimelineFollows settings stretches lines result (course R.shown reader.old reader.new) (course W.shown writer.old writer.new) }
 {
     let totals = replay.totals();
-    tell_lines(totals.lines, totals.peak_line, parts, &mut room.numbers);
+    tell_lines(totals.lines, totals.peak_line, stretches, &mut room.numbers);
     replay.restart(settings);
     let Ok(()) = read_points(reader, replay, room.numbers.as_slice(), &mut room.points) else {
         return Err(RunFault::Read);
@@ -124,14 +124,14 @@ fn tell_timeline<R: Again, W: Sink>(
 }
 
 /// Room for what is told, where the settings aren't bad.
-fn take_room(alloc: Global, settings: Settings, parts: u32) -> Result<Room, ReplayFault>
-    ensures room { IfOk result (λ room. HasRoomForPoints parts room.numbers room.points) }
+fn take_room(alloc: Global, settings: Settings, stretches: u32) -> Result<Room, ReplayFault>
+    ensures room { IfOk result (λ room. HasRoomForPoints stretches room.numbers room.points) }
     ensures bad_settings { IsErrOf result ReplayFault.BadSettings ↔ IsTrue (are_bad settings) }
 {
     if settings.are_bad() {
         return Err(ReplayFault::BadSettings);
     }
-    match Room::new(alloc, parts) {
+    match Room::new(alloc, stretches) {
         Ok(room) => Ok(room),
         Err(_) => Err(ReplayFault::OutOfMemory),
     }
@@ -139,8 +139,8 @@ fn take_room(alloc: Global, settings: Settings, parts: u32) -> Result<Room, Repl
 
 /// Reads a log of mtrace(3), replays it on a heap by the settings, and writes what is wrong with its lines, each as
 /// it comes. Then flushes the writer, reads the log again, and writes what was held over its lines. The log is cut into
-/// equal parts, `parts` of them. There is a point before the first line, after the line of the peak, and after the last line of
-/// each part. A point has the bytes and the blocks held, the greatest end of a live block, the free bytes of all pools, and the
+/// equal stretches, `stretches` of them. There is a point before the first line, after the line of the peak, and after the last line of
+/// each stretch. A point has the bytes and the blocks held, the greatest end of a live block, the free bytes of all pools, and the
 /// largest free block.
 /// Where lines were refused, their number stands in a last line. The writer is flushed once more.
 ///
@@ -149,7 +149,7 @@ fn take_room(alloc: Global, settings: Settings, parts: u32) -> Result<Room, Repl
 /// # Errors
 ///
 /// `Read`, `Write`, `OutOfMemory` and `BadSettings` come as in the runs that write a report. `BadSettings` comes also where the
-/// parts aren't from 1 to 10,000: then nothing is read or written. `Read` comes also where the reader doesn't begin again, fails
+/// stretches aren't from 1 to 10,000: then nothing is read or written. `Read` comes also where the reader doesn't begin again, fails
 /// then, or has fewer lines then. Then what is wrong with the lines is written, and no point. `Write` comes also where the writer
 /// fails at the points: a beginning of them is written.
 pub fn run_timeline<R: Again, W: Sink>(
@@ -157,14 +157,14 @@ pub fn run_timeline<R: Again, W: Sink>(
     reader: &mut R,
     writer: &mut W,
     settings: Settings,
-    parts: u32,
+    stretches: u32,
 ) -> Result<Status, RunFault>
-    ensures { RunsTimeline settings parts result (course R.shown reader.old reader.new) (course W.shown writer.old writer.new) }
+    ensures { RunsTimeline settings stretches result (course R.shown reader.old reader.new) (course W.shown writer.old writer.new) }
 {
-    if parts == 0 || parts > MOST_PARTS {
+    if stretches == 0 || stretches > MOST_STRETCHES {
         return Err(RunFault::BadSettings);
     }
-    let room = match take_room(alloc, settings, parts) {
+    let room = match take_room(alloc, settings, stretches) {
         Ok(room) => room,
         Err(ReplayFault::BadSettings) => return Err(RunFault::BadSettings),
         Err(ReplayFault::OutOfMemory) => return Err(RunFault::OutOfMemory),
@@ -175,7 +175,7 @@ pub fn run_timeline<R: Again, W: Sink>(
         writer,
         &mut ended.replay,
         settings,
-        parts,
+        stretches,
         room,
         ended.status,
     )

@@ -59,7 +59,13 @@ pub(super) struct Case {
 }
 
 /// Runs it with a reader that fails at its call behind this many.
-fn expect_read_fault(rt: &impl Abort, alloc: Global, case: &Case, calls: u64, wanted: &[u8]) {
+pub(super) fn expect_read_fault(
+    rt: &impl Abort,
+    alloc: Global,
+    case: &Case,
+    calls: u64,
+    wanted: &[u8],
+) {
     let mut reader = MemorySource::failing_after(case.log, 4096, calls);
     let mut writer = MemorySink::in_pieces(alloc, 4096);
     let answer = run_again(alloc, seed(rt), case.what, &mut reader, &mut writer, &());

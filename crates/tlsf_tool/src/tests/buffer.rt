@@ -43,6 +43,7 @@ fn expect_peak(rt: &impl Abort, alloc: Global, log: &[u8], piece: usize) {
     let mut reader = MemorySource::in_pieces(log, piece.max(1));
     let mut writer = MemorySink::in_pieces(alloc, 4096);
     let mut errors = MemorySink::in_pieces(alloc, 4096);
+    let mut refused = 1;
     let status = serve(
         alloc,
         HeapReport::Peak,
@@ -50,7 +51,9 @@ fn expect_peak(rt: &impl Abort, alloc: Global, log: &[u8], piece: usize) {
         &mut reader,
         &mut writer,
         &mut errors,
+        &mut refused,
     );
+    expect_eq(rt, refused, 0);
     expect_eq(rt, status, 0);
     expect_eq(
         rt,

@@ -1,5 +1,6 @@
 //! Images that are saved and checked, through `serve_save` and `check_image`.
 
+use crate::asked::ImageReport;
 use crate::check::check_image;
 use crate::service::serve_save;
 use crate::tests::expect_eq;
@@ -57,14 +58,18 @@ fn own_neighbour(offset: usize) -> Bytes {
     vector().with(at, 0).with(at.saturating_add(1), 0)
 }
 
-/// Whether an image is checked with this status and line.
-fn is_checked(alloc: Global, image: &[u8], status: u8, line: &[u8]) -> bool {
+/// Whether this text is told of an image, with this status.
+fn is_told(alloc: Global, report: ImageReport, image: &[u8], status: u8, text: &[u8]) -> bool {
     let mut reader = MemorySource::in_pieces(image, 5_000);
     let mut writer = MemorySink::in_pieces(alloc, 3);
     let mut errors = MemorySink::in_pieces(alloc, 4_096);
-    check_image(alloc, &mut reader, &mut writer, &mut errors) == status
-        && writer.bytes() == line
-        && errors.bytes().is_empty()
+    let told = check_image(alloc, report, &mut reader, &mut writer, &mut errors);
+    told == status && writer.bytes() == text && errors.bytes().is_empty()
+}
+
+/// Whether an image is checked with this status and line.
+fn is_checked(alloc: Global, image: &[u8], status: u8, line: &[u8]) -> bool {
+    is_told(alloc, ImageReport::Check, image, status, line)
 }
 
 #[test]
@@ -192,11 +197,62 @@ fn first_rule_named(rt: HostRuntime) {
     }
 }
 
+/// What `tlsf_save` of c/tlsf.h writes: this much in front of an image, and the image.
+fn behind(alloc: Global, front: usize, image: &[u8]) -> Result<Vec<u8>, AllocError> {
+    let mut bytes = Vec::new(alloc);
+    bytes.extend_from_slice(b"TSFSIMG1")?;
+    for index in 8..front {
+        bytes.push((index % 251) as u8)?;
+    }
+    bytes.extend_from_slice(image)?;
+    Ok(bytes)
+}
+
+/// What stands in front of an image isn't looked at, where it begins as `tlsf_save` has it and is of its length.
+#[test]
+fn images_behind_a_front(rt: HostRuntime) {
+    let alloc = rt.alloc();
+    let of = |front: usize, image: &Bytes| behind(alloc, front, image.as_slice()).expect(
+        &rt, "memory",
+    );
+    assert!(rt; is_checked(alloc, of(280, &vector()).as_slice(), 0, b"ok\n"));
+    assert!(rt;
+        is_checked(
+            alloc,
+            of(280, &vector().with(28, 1)).as_slice(),
+            1,
+            b"broken: V4\n"
+        )
+    );
+    assert!(rt; is_checked(alloc, of(279, &vector()).as_slice(), 1, b"broken: V1\n"));
+    assert!(rt; is_checked(alloc, of(281, &vector()).as_slice(), 1, b"broken: V1\n"));
+    for front in [279, 280] {
+        let alone = behind(alloc, front, b"").expect(&rt, "memory");
+        assert!(rt; is_checked(alloc, alone.as_slice(), 1, b"broken: V1\n"));
+    }
+}
+
+/// The blocks of images, or the first rule broken.
+#[test]
+fn walked_images(rt: HostRuntime) {
+    let alloc = rt.alloc();
+    let one: &[u8] = b"pool 0: 64 bytes\n0 64 free\n";
+    let behind_a_front = behind(alloc, 280, vector().as_slice()).expect(&rt, "memory");
+    for (image, status, text) in [
+        (vector().as_slice(), 0, one),
+        (behind_a_front.as_slice(), 0, one),
+        (free_neighbours().as_slice(), 1, b"broken: V10\n"),
+        (b"", 1, b"broken: V1\n"),
+    ] {
+        assert!(rt; is_told(alloc, ImageReport::Walk, image, status, text));
+    }
+}
+
 /// A file that is longer than any image, and begins as one.
 fn longer_than_any(alloc: Global) -> Result<Vec<u8>, AllocError> {
     let mut bytes = Vec::new(alloc);
     bytes.extend_from_slice(b"TLSFIMG1")?;
-    for _index in 8..1_050_081 {
+    for _index in 8..1_050_361 {
         bytes.push(0)?;
     }
     Ok(bytes)
@@ -214,7 +270,13 @@ fn writer_of_a_check_fails(rt: HostRuntime) {
     let mut reader = MemorySource::in_pieces(b"TLSFIMG1", 4_096);
     let mut full = MemorySink::with_room(rt.alloc(), 4_096, 4, Full::TakesNone);
     let mut errors = MemorySink::in_pieces(rt.alloc(), 4_096);
-    let status = check_image(rt.alloc(), &mut reader, &mut full, &mut errors);
+    let status = check_image(
+        rt.alloc(),
+        ImageReport::Check,
+        &mut reader,
+        &mut full,
+        &mut errors,
+    );
     expect_eq(&rt, status, 3);
     expect_eq(&rt, errors.bytes(), b"tlsf: write failed\n".as_slice());
 }

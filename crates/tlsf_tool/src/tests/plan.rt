@@ -1,7 +1,7 @@
 //! What is done for words, through `planned`, and which log is standard input.
 
 use super::program::strings;
-use crate::asked::{Command, HeapReport, Rereading, ToolFault};
+use crate::asked::{Command, HeapReport, ImageReport, Rereading, ToolFault};
 use crate::plan::{Plan, Streams, is_standard, planned};
 use crate::tests::expect_eq_at;
 use mtrace_replay::Settings;
@@ -127,7 +127,7 @@ const AGAIN: [(&[&str], Rereading); 8] = [
         &["tlsf", "timeline"],
         Rereading::Timeline {
             heap: None,
-            parts: 100,
+            stretches: 100,
         },
     ),
     (
@@ -137,14 +137,14 @@ const AGAIN: [(&[&str], Rereading); 8] = [
                 pool: 64,
                 ..GREATEST
             }),
-            parts: 10_000,
+            stretches: 10_000,
         },
     ),
     (
         &["tlsf", "timeline", "--pools", "1"],
         Rereading::Timeline {
             heap: Some(GREATEST),
-            parts: 100,
+            stretches: 100,
         },
     ),
     (
@@ -154,7 +154,7 @@ const AGAIN: [(&[&str], Rereading); 8] = [
                 records: 777,
                 ..GREATEST
             }),
-            parts: 100,
+            stretches: 100,
         },
     ),
     (&["tlsf", "fit"], Rereading::Fit(None)),
@@ -213,14 +213,19 @@ fn logs_that_are_read_again(rt: HostRuntime) -> Result<(), Fail> {
 #[test]
 fn images_that_are_checked(rt: HostRuntime) -> Result<(), Fail> {
     let alloc = rt.alloc();
-    for name in ["-", "", "an.image"] {
-        let image = String::from_str(alloc, name)?;
-        let wanted = Plan {
-            command: Command::Check { image },
-            notice: false,
-        };
-        let words = strings(alloc, &["tlsf", "check", name])?;
-        expect_eq_at(&rt, name, planned(alloc, words.as_slice(), TYPED)?, wanted);
+    let check: &[&str] = &["tlsf", "check"];
+    let walk: &[&str] = &["tlsf", "walk", "--image"];
+    for (report, first) in [(ImageReport::Check, check), (ImageReport::Walk, walk)] {
+        for name in ["-", "", "an.image"] {
+            let image = String::from_str(alloc, name)?;
+            let wanted = Plan {
+                command: Command::Image { report, image },
+                notice: false,
+            };
+            let mut words = strings(alloc, first)?;
+            words.push(String::from_str(alloc, name)?)?;
+            expect_eq_at(&rt, name, planned(alloc, words.as_slice(), TYPED)?, wanted);
+        }
     }
     Ok(())
 }

@@ -29,7 +29,16 @@ fn first_leak_through_command_and_serve(rt: HostRuntime) -> Result<(), Fail> {
     let mut reader = MemorySource::in_pieces(b"= Start\n@ a + 0x10 0x64\n= End\n", 4096);
     let mut writer = MemorySink::in_pieces(alloc, 4096);
     let mut errors = MemorySink::in_pieces(alloc, 4096);
-    let status = serve(alloc, name, settings, &mut reader, &mut writer, &mut errors);
+    let mut refused = 0;
+    let status = serve(
+        alloc,
+        name,
+        settings,
+        &mut reader,
+        &mut writer,
+        &mut errors,
+        &mut refused,
+    );
     expect_eq(&rt, status, 1);
     expect_eq(
         &rt,
@@ -47,6 +56,7 @@ fn full_standard_error_changes_nothing_else(rt: HostRuntime) {
     let mut reader = MemorySource::in_pieces(b"= Start\n", 4096);
     let mut writer = MemorySink::in_pieces(alloc, 4096);
     let mut errors = MemorySink::with_room(alloc, 4096, 5, Full::Fails);
+    let mut refused = 0;
     let status = serve(
         alloc,
         HeapReport::Leaks,
@@ -54,6 +64,7 @@ fn full_standard_error_changes_nothing_else(rt: HostRuntime) {
         &mut reader,
         &mut writer,
         &mut errors,
+        &mut refused,
     );
     expect_eq(&rt, status, 2);
     expect_eq(&rt, errors.bytes(), b"tlsf:".as_slice());

@@ -226,6 +226,7 @@ pub fn expect_status<R: Source, W: Sink>(
     error: &[u8],
 ) {
     let mut errors = MemorySink::in_pieces(alloc, WHOLE);
+    let mut refused = 0;
     let answer = serve(
         alloc,
         HeapReport::Leaks,
@@ -233,6 +234,7 @@ pub fn expect_status<R: Source, W: Sink>(
         reader,
         writer,
         &mut errors,
+        &mut refused,
     );
     expect_eq_at(rt, name, answer, status);
     expect_eq_at(rt, name, errors.bytes(), error);

@@ -23,7 +23,7 @@ const ROWS: [Row; 10] = [
         name: "empty-log",
         what: Rereading::Timeline {
             heap: Some(SMALL),
-            parts: 100,
+            stretches: 100,
         },
         log: b"",
         text: b"line bytes blocks reach free largest\n0 0 0 0 1024 1024\n",
@@ -33,7 +33,7 @@ const ROWS: [Row; 10] = [
         name: "each-line-once",
         what: Rereading::Timeline {
             heap: Some(SMALL),
-            parts: 10_000,
+            stretches: 10_000,
         },
         log: b"@ a + 0x10 0x8\n",
         text: b"line bytes blocks reach free largest\n0 0 0 0 1024 1024\n1 8 1 16 1008 1008\n",
@@ -43,7 +43,7 @@ const ROWS: [Row; 10] = [
         name: "peak-between",
         what: Rereading::Timeline {
             heap: Some(SMALL),
-            parts: 1,
+            stretches: 1,
         },
         log: b"+ 0x10 0x64\n+ 0x20 0x8\n- 0x20\n- 0x10\n",
         text: b"line bytes blocks reach free largest\n0 0 0 0 1024 1024\n2 108 2 128 896 896\n4 0 0 0 1024 1024\n",
@@ -53,7 +53,7 @@ const ROWS: [Row; 10] = [
         name: "peak-at-an-end",
         what: Rereading::Timeline {
             heap: Some(SMALL),
-            parts: 2,
+            stretches: 2,
         },
         log: b"+ 0x10 0x64\n+ 0x20 0x8\n- 0x20\n- 0x10\n",
         text: b"line bytes blocks reach free largest\n0 0 0 0 1024 1024\n2 108 2 128 896 896\n4 0 0 0 1024 1024\n",
@@ -63,7 +63,7 @@ const ROWS: [Row; 10] = [
         name: "a-hole",
         what: Rereading::Timeline {
             heap: Some(SMALL),
-            parts: 3,
+            stretches: 3,
         },
         log: b"+ 0x10 0x64\n+ 0x20 0x8\n- 0x10\n",
         text: b"line bytes blocks reach free largest\n0 0 0 0 1024 1024\n1 100 1 112 912 912\n2 108 2 128 896 896\n3 8 1 128 1008 896\n",
@@ -73,7 +73,7 @@ const ROWS: [Row; 10] = [
         name: "reach-falls",
         what: Rereading::Timeline {
             heap: Some(SMALL),
-            parts: 3,
+            stretches: 3,
         },
         log: b"+ 0x10 0x64\n+ 0x20 0x8\n- 0x20\n",
         text: b"line bytes blocks reach free largest\n0 0 0 0 1024 1024\n1 100 1 112 912 912\n2 108 2 128 896 896\n3 100 1 112 912 912\n",
@@ -83,7 +83,7 @@ const ROWS: [Row; 10] = [
         name: "all-pools",
         what: Rereading::Timeline {
             heap: Some(TWO_POOLS),
-            parts: 2,
+            stretches: 2,
         },
         log: b"+ 0x10 0x40\n+ 0x20 0x40\n",
         text: b"line bytes blocks reach free largest\n0 0 0 0 128 64\n1 64 1 64 64 64\n2 128 2 128 0 0\n",
@@ -93,7 +93,7 @@ const ROWS: [Row; 10] = [
         name: "ends-rounded-up",
         what: Rereading::Timeline {
             heap: Some(SMALL),
-            parts: 3,
+            stretches: 3,
         },
         log: b"= Start\n= Start\n= Start\n= Start\n= Start\n= Start\n= Start\n",
         text: b"line bytes blocks reach free largest\n0 0 0 0 1024 1024\n3 0 0 0 1024 1024\n5 0 0 0 1024 1024\n7 0 0 0 1024 1024\n",
@@ -103,7 +103,7 @@ const ROWS: [Row; 10] = [
         name: "refused-is-not-held",
         what: Rereading::Timeline {
             heap: Some(SMALL),
-            parts: 1,
+            stretches: 1,
         },
         log: b"@ a + 0x10 0x8\nx\n@ b + 0x20 0x800",
         text: b"line 2: not a line\nline 3: 0x20 refused: no fit\nline bytes blocks reach free largest\n0 0 0 0 1024 1024\n1 8 1 16 1008 1008\n3 8 1 16 1008 1008\nrefused: 1 lines\n",
@@ -113,7 +113,7 @@ const ROWS: [Row; 10] = [
         name: "half-in-front",
         what: Rereading::Timeline {
             heap: Some(SMALL),
-            parts: 2,
+            stretches: 2,
         },
         log: b"@ a + 0x10 0x8\n@ b < 0x10\n",
         text: b"line 2: half of a reallocation\nline bytes blocks reach free largest\n0 0 0 0 1024 1024\n1 8 1 16 1008 1008\n2 8 1 16 1008 1008\n",
@@ -126,12 +126,12 @@ fn rows_of_timelines(rt: HostRuntime) {
     expect_rows(&rt, rt.alloc(), &ROWS);
 }
 
-/// A log with a diagnostic and its peak at the third line, in two parts. The reader gives it, tells its end, begins again,
+/// A log with a diagnostic and its peak at the third line, in two stretches. The reader gives it, tells its end, begins again,
 /// and gives it.
 const CASE: Case = Case {
     what: Rereading::Timeline {
         heap: Some(SMALL),
-        parts: 2,
+        stretches: 2,
     },
     log: b"x\n@ a + 0x10 0x8\n@ b + 0x20 0x8\n- 0x10\n",
     notes: b"line 1: not a line\n",
@@ -152,10 +152,10 @@ fn writer_of_a_timeline_fails(rt: HostRuntime) {
 #[test]
 fn bad_settings_of_a_timeline(rt: HostRuntime) {
     let bad = Settings { pool: 24, ..SMALL };
-    for (settings, parts) in [(bad, 2), (SMALL, 0), (SMALL, 10_001)] {
+    for (settings, stretches) in [(bad, 2), (SMALL, 0), (SMALL, 10_001)] {
         let what = Rereading::Timeline {
             heap: Some(settings),
-            parts,
+            stretches,
         };
         expect_bad_settings(&rt, rt.alloc(), what, CASE.log);
     }

@@ -1,7 +1,7 @@
 //! Rows of words through `command`.
 
 use super::program::strings;
-use crate::asked::{Command, HeapReport, ToolFault};
+use crate::asked::{Command, HeapReport, ImageReport, ToolFault};
 use crate::tests::{expect_eq, expect_eq_at};
 use crate::words::command;
 use mtrace_replay::Settings;
@@ -218,10 +218,19 @@ fn words_of_images(rt: HostRuntime) -> Result<(), Fail> {
     );
     expect_eq(&rt, (log.as_str(), image.as_str()), ("a.log", "an.image"));
     let words = strings(alloc, &["tlsf", "check", "-"])?;
-    let Command::Check { image } = command(alloc, words.as_slice())? else {
+    let Command::Image { report, image } = command(alloc, words.as_slice())? else {
         panic!(rt; "not asked to check");
     };
-    expect_eq(&rt, image.as_str(), "-");
+    expect_eq(&rt, (report, image.as_str()), (ImageReport::Check, "-"));
+    let words = strings(alloc, &["tlsf", "walk", "--image", "an.image"])?;
+    let Command::Image { report, image } = command(alloc, words.as_slice())? else {
+        panic!(rt; "not asked to walk");
+    };
+    expect_eq(
+        &rt,
+        (report, image.as_str()),
+        (ImageReport::Walk, "an.image"),
+    );
     Ok(())
 }
 

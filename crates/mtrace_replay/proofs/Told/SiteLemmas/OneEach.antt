@@ -13,7 +13,7 @@ use Rattle.mtrace_replay.specs.Sites.{Origin, origin_cmp, weigh}
 use Rattle.mtrace_replay.proofs.Told.SiteLemmas.Origins.{weigh-self, weighs_at}
 
 -- what weighs nothing by one weighs nothing
-weigh-nothing : (p q : Origin) (n : ℕ) → weigh p q 1 ≡ 0 → weigh p q n ≡ 0
+pub weigh-nothing : (p q : Origin) (n : ℕ) → weigh p q 1 ≡ 0 → weigh p q n ≡ 0
 weigh-nothing p q n none = by (is_eq (origin_cmp p q)) none
   where
     by : (b : Bool) → cond {A = ℕ} b 1 0 ≡ 0 → cond b n 0 ≡ 0

@@ -1,5 +1,5 @@
 -- Each list in such a text is in strict order, and exact.
-use Rattle.mtrace_replay.proofs.Served.OneText.{one_sites_text, one_callers_text, one_timeline_text}
+use Rattle.mtrace_replay.proofs.OnLedger.OneText.{one_sites_text, one_callers_text, one_timeline_text}
 use Rattle.mtrace_replay.proofs.BySize.OneHeapsText.{one_parts_text}
 use Rattle.mtrace_replay.proofs.laws.one_text_without_a_heap.Goals as goal
 

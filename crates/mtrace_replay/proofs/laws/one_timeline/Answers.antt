@@ -1,7 +1,7 @@
 -- Two rising lists of the same numbers are equal, and a measure has one value.
 use Rattle.std.proofs.Common.{sym, ◌∙◌}
 use Rattle.mtrace_replay.proofs.History.TotalsLemmas.{measure_is_one}
-use Rattle.mtrace_replay.proofs.Served.OneText.{one_told, one_ledger_point}
+use Rattle.mtrace_replay.proofs.OnLedger.OneText.{one_told, one_ledger_point}
 use Rattle.mtrace_replay.proofs.laws.one_timeline.Goals as goal
 
 pub returns-clause-told : goal.returns-clause-told

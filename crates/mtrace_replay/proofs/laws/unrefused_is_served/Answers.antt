@@ -6,8 +6,8 @@ use Rattle.mtrace_replay.specs.Started.{started}
 use Rattle.mtrace_replay.specs.Moment.{ReadLine, Moment}
 use Rattle.mtrace_replay.specs.History.{history, moments}
 use Rattle.mtrace_replay.specs.Totals.{is_refused}
-use Rattle.mtrace_replay.specs.ServedTimeline.{IsLedgerPoint}
-use Rattle.mtrace_replay.proofs.Enough.UnrefusedLemmas.{served_alike, none_refused_before, points_alike}
+use Rattle.mtrace_replay.specs.LedgerTimeline.{IsLedgerPoint}
+use Rattle.mtrace_replay.proofs.Enough.UnrefusedLemmas.{ledger_alike, none_refused_before, points_alike}
 use Rattle.mtrace_replay.proofs.Enough.UnrefusedTexts.{same_diagnostics, same_held, same_first, same_sums}
 use Rattle.mtrace_replay.proofs.laws.unrefused_is_served.Goals as goal
 
@@ -33,4 +33,4 @@ returns-clause-points c = λ settings lines many point other none is told.
     let whole = subst (λ (past : List ReadLine). count_by is_refused (moments (started settings) past) ≡ 0) (sym (cut many lines)) none in
     let before = none_refused_before (started settings) (reverse (drop many lines)) (reverse first) whole in
     points_alike (started settings) (history settings first) point other is
-    (subst (λ (past : List Moment). IsLedgerPoint past other) (served_alike (started settings) (reverse first) before) told)
+    (subst (λ (past : List Moment). IsLedgerPoint past other) (ledger_alike (started settings) (reverse first) before) told)

@@ -1,5 +1,5 @@
 -- The program's blocks are all that is live. So each call finds fewer live blocks than there is room for.
-use Rattle.std.proofs.Common.{◌≡◌, ℕ, [], arith}
+use Rattle.std.proofs.Common.{◌≡◌, [], arith}
 use Rattle.tlsf_heap.specs.Implied.{live_blocks}
 use Rattle.tlsf_heap.specs.Pools.{created}
 use Rattle.tlsf_heap.proofs.Good.MallocIsGood.{created_is_good, add_pool_is_good}

@@ -1,9 +1,8 @@
--- The image is read, and what is broken is put.
+-- The file is read, and what is told of its image is put.
 use Rattle.std.proofs.Common.{rules, ℕ, List, ap, ◌∙◌, subst, inl, inr, refl}
 use Rattle.mtrace_log.specs.Output.{Wrote, Begins}
-use Rattle.tlsf_heap.specs.Images.Rules.{first_broken}
-use Rattle.tlsf_tool.specs.Checking.{check_text, check_status}
-use Rattle.tlsf_tool.proofs.CheckLemmas.{no_write}
+use Rattle.tlsf_tool.specs.Checking.{image_in, IsLoaded}
+use Rattle.tlsf_tool.proofs.CheckLemmas.{no_write, status_is, told_is}
 use Rattle.tlsf_tool.proofs.check.checked.Goals as goal
 
 pub returns-in_err-bytes : goal.returns-in_err-bytes
@@ -18,19 +17,20 @@ returns-in_err-bytes g c = record {
   faults = search rules;
 }
 
-pub returns-in-Ok-put_text : goal.returns-in-Ok-put_text
-returns-in-Ok-put_text g c =
+pub returns-in-Ok-put_loaded : goal.returns-in-Ok-put_loaded
+returns-in-Ok-put_loaded g c =
     let writes = g.W.Sink.shown in
-    let rule = c.in-Ok.ensures ∙ ap first_broken c.as_slice.ensures.value in
-    let P : List ℕ → Type 0 = λ text. Wrote (writes c.args.writer.now) (writes c.put_text.new.writer) text in
+    let image = c.image_in.ensures ∙ ap image_in c.as_slice.ensures.value in
+    let is = subst (λ (bytes : List ℕ). IsLoaded bytes c.in-Ok.loaded) image c.in-Ok.ensures in
+    let P : List ℕ → Type 0 = λ text. Wrote (writes c.args.writer.now) (writes c.put_loaded.new.writer) text in
     record {
       checks = record {
         bytes = c.in_ok-bytes.bytes.items;
         read = c.in_ok-bytes.ensures.read;
-        wrote = subst P (c.line_of.ensures ∙ ap check_text rule) c.in-Ok-put_text.ensures.0;
-        status_is = c.status_by_rule.ensures ∙ ap check_status rule;
+        wrote = subst P (told_is c.args.report (image_in c.in_ok-bytes.bytes.items) c.in-Ok.loaded is) c.in-Ok-put_loaded.ensures.0;
+        status_is = c.status_of-status.ensures ∙ status_is (image_in c.in_ok-bytes.bytes.items) c.in-Ok.loaded is;
       };
-      flushed = c.in-Ok-put_text.ensures.1;
+      flushed = c.in-Ok-put_loaded.ensures.1;
       read = λ failed. absurd (cc);
       not_failed = λ other. c.in_ok-bytes.ensures.not_failed (λ is. cc);
       begun = λ failed. absurd (cc);
@@ -42,8 +42,9 @@ returns-in-Ok-put_text g c =
 pub returns : goal.returns
 returns g c =
     let writes = g.W.Sink.shown in
-    let rule = c.in-Ok.ensures ∙ ap first_broken c.as_slice.ensures.value in
-    let P : List ℕ → Type 0 = λ text. Begins (writes c.args.writer.now) (writes c.put_text.new.writer) text in
+    let image = c.image_in.ensures ∙ ap image_in c.as_slice.ensures.value in
+    let is = subst (λ (bytes : List ℕ). IsLoaded bytes c.in-Ok.loaded) image c.in-Ok.ensures in
+    let P : List ℕ → Type 0 = λ text. Begins (writes c.args.writer.now) (writes c.put_loaded.new.writer) text in
     record {
       checks = tt;
       flushed = tt;
@@ -52,7 +53,7 @@ returns g c =
       begun = λ failed. record {
         bytes = c.in_ok-bytes.bytes.items;
         read = c.in_ok-bytes.ensures.read;
-        begun = subst P (c.line_of.ensures ∙ ap check_text rule) c.in-Err.ensures.0;
+        begun = subst P (told_is c.args.report (image_in c.in_ok-bytes.bytes.items) c.in-Ok.loaded is) c.in-Err.ensures.0;
       };
       write = λ failed. c.in-Err.ensures.1;
       unwritten = λ other. absurd (other refl);

@@ -8,8 +8,8 @@ abbrev pub invariant-loop-piece : goal.invariant-loop-piece
 invariant-loop-piece g l = record {
   read : (g.R.Source.shown l.fn.reader).left ≡ prepend_known l.bytes.items (g.R.Source.shown l.reader).left;
   given : HasGiven (g.R.Source.shown l.fn.reader).calls (g.R.Source.shown l.reader).calls;
-  few : length l.bytes.items ≤ 1050081;
+  few : length l.bytes.items ≤ 1050361;
 }
 
 abbrev pub decreases-loop-piece : goal.decreases-loop-piece
-decreases-loop-piece g l = 1050081 - length l.bytes.items
+decreases-loop-piece g l = 1050361 - length l.bytes.items

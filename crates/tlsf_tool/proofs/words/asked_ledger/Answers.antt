@@ -12,5 +12,5 @@ pub returns-then-ne : goal.returns-then-ne
 returns-then-ne c = record {
   asked = tt;
   faults = refuses c.usage.result c.usage.ensures
-      (follow_asks_nothing (rows_of (found_of c.args.matches.now)) c.args.name c.in_ok-settings.settings c.requires.none c.in_ok-settings.ensures.asked.0 (λ is. search rules));
+      (follow_asks_nothing (rows_of (found_of c.args.matches.now)) c.args.name c.in_ok-settings.settings c.requires.no_image c.requires.none c.in_ok-settings.ensures.asked.0 (λ is. search rules));
 }

@@ -10,5 +10,5 @@ returns-in_err-settings c =
 pub returns-in-Some : goal.returns-in-Some
 returns-in-Some c = record {
   asked = tt;
-  faults = refuses c.usage.result c.usage.ensures (every_asks_nothing (rows_of (found_of c.args.matches.now)) c.args.name c.requires.none (c.in-Some._every, c.in-Some.ensures.given));
+  faults = refuses c.usage.result c.usage.ensures (every_asks_nothing (rows_of (found_of c.args.matches.now)) c.args.name c.requires.no_image c.requires.none (c.in-Some._every, c.in-Some.ensures.given));
 }

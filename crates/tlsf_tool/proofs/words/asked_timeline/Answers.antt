@@ -12,4 +12,10 @@ returns-in_default c = record {
 
 pub returns-in_err-log : goal.returns-in_err-log
 returns-in_err-log c =
-    asks_exit c.from_residual.result _ c.from_residual.ensures.1 (λ missing. timeline_asks_nothing (rows_of (found_of c.args.matches.now)) (inr missing)) c.in_err-log.ensures.faults
+    asks_exit c.from_residual.result _ c.from_residual.ensures.1 (λ missing. timeline_asks_nothing (rows_of (found_of c.args.matches.now)) (inr (inl missing))) c.in_err-log.ensures.faults
+
+pub returns-then-has_setting : goal.returns-then-has_setting
+returns-then-has_setting c = record {
+  asked = tt;
+  faults = refuses c.usage-then-has_setting.result c.usage-then-has_setting.ensures (timeline_asks_nothing (rows_of (found_of c.args.matches.now)) (inr (inr (c.if-not-has_flag.ensures, c.if-has_setting.ensures))));
+}

@@ -1,7 +1,7 @@
 -- Digits are a text, of which the number is parsed.
 use Rattle.std.proofs.Common.{List, ℕ, sym, subst, ◌∙◌}
 use Rattle.std.specs.Str.Parse.{ParsesUnsigned}
-use Rattle.mtrace_replay.proofs.Served.MarkLemmas.{digits_text, parsed_spelled}
+use Rattle.mtrace_replay.proofs.OnLedger.MarkLemmas.{digits_text, parsed_spelled}
 use Rattle.mtrace_replay.proofs.held.mark.spelled.Goals as goal
 
 pub unreachable-requires : goal.unreachable-requires

@@ -1,9 +1,9 @@
 use Rattle.std.proofs.Common.{inr}
 use Rattle.mtrace_log.specs.declared.call.Call.TheVariants.{Took, Flushed}
 use Rattle.mtrace_log.proofs.TraceLemmas.{moved_then_append, failed_after}
-use Rattle.mtrace_replay.specs.declared.no_heap.report.LedgerReport.TheVariants.{Nothing}
-use Rattle.mtrace_replay.specs.declared.no_heap.prepared.Prepared.TheVariants as prepared
-use Rattle.mtrace_replay.proofs.Served.ServedRunLemmas.{no_notes, served_stops, served_write, served_all}
+use Rattle.mtrace_replay.specs.declared.ledger.report.LedgerReport.TheVariants.{Nothing}
+use Rattle.mtrace_replay.specs.declared.ledger.prepared.Prepared.TheVariants as prepared
+use Rattle.mtrace_replay.proofs.OnLedger.LedgerRunLemmas.{no_notes, ledger_stops, ledger_write, ledger_all}
 use Rattle.mtrace_replay.proofs.BySize.CountedRunLemmas.{alone, counted_all}
 use Rattle.mtrace_replay.proofs.parts.follow.follow_counted.Goals as goal
 
@@ -13,7 +13,7 @@ returns-in-Ok-finish-clause-ran g c =
     let done = c.in-Ok.ensures.ends tt (c.requires.start.stands, c.requires.start.counted) no_notes in
     record {
       ends = record {
-        finished = served_all Nothing c.read_log.new.replay.ledger _ _ _ _ _ _ (alone c.read_log.new.replay _ _ _ _ _ done.0) prepared.Nothing tt tt
+        finished = ledger_all Nothing c.read_log.new.replay.ledger _ _ _ _ _ _ (alone c.read_log.new.replay _ _ _ _ _ done.0) prepared.Nothing tt tt
             c.in-Ok-finish.status c.in-Ok-finish.ensures.put.0 c.in-Ok-finish.ensures.status;
         reader_ended = done.1;
         writer_flushed = moved_then_append Took Flushed _ _ _ done.2 c.in-Ok-finish.ensures.put.1;
@@ -33,7 +33,7 @@ returns-in-Err-finish-clause-ran g c =
     let done = c.in-Ok.ensures.ends tt (c.requires.start.stands, c.requires.start.counted) no_notes in
     record {
       ends = record {
-        write_fault = served_write Nothing c.read_log.new.replay.ledger _ _ _ _ _ _ (alone c.read_log.new.replay _ _ _ _ _ done.0) prepared.Nothing tt tt c.in-Err-finish.ensures.put.0;
+        write_fault = ledger_write Nothing c.read_log.new.replay.ledger _ _ _ _ _ _ (alone c.read_log.new.replay _ _ _ _ _ done.0) prepared.Nothing tt tt c.in-Err-finish.ensures.put.0;
         writer_failed = failed_after _ _ _ done.2 c.in-Err-finish.ensures.put.1;
         reader_not_failed = inr done.1;
       };
@@ -43,6 +43,6 @@ returns-in-Err-finish-clause-ran g c =
 -- the lines weren't all followed
 pub returns-in-Err-clause-ran : goal.returns-in-Err-clause-ran
 returns-in-Err-clause-ran g c = record {
-  ends = served_stops Nothing _ _ c.in-Err.fault _ _ _ _ (c.in-Err.ensures.ends tt (c.requires.start.stands, c.requires.start.counted) no_notes);
+  ends = ledger_stops Nothing _ _ c.in-Err.fault _ _ _ _ (c.in-Err.ensures.ends tt (c.requires.start.stands, c.requires.start.counted) no_notes);
   whole = c.read_log.ensures.whole;
 }

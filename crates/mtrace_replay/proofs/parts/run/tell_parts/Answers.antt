@@ -2,7 +2,7 @@
 use Rattle.std.proofs.Common.{◌≡◌, ◌++◌, refl, reverse, map, sym, ap, ◌∙◌, subst, nat_eq}
 use Rattle.std.specs.HashMap.{get}
 use Rattle.mtrace_log.specs.Output.{Puts}
-use Rattle.mtrace_replay.specs.declared.no_heap.replay.LedgerTotals.{LedgerTotals}
+use Rattle.mtrace_replay.specs.declared.ledger.replay.LedgerTotals.{LedgerTotals}
 use Rattle.mtrace_replay.specs.Parts.{TellsHeaps, no_parts_text, parts_text, peak_line_text, IsCut, parts_of}
 use Rattle.mtrace_replay.specs.Spans.{AreCounted, AreCountedOf}
 use Rattle.mtrace_replay.specs.Cuts.{ArePartsIn}

@@ -1,6 +1,7 @@
-use Rattle.std.proofs.Common.{rules, subst, ◌∙◌, inr}
+use Rattle.std.proofs.Common.{rules, ap, subst, ◌∙◌, inr}
 use Rattle.mtrace_log.specs.Output.{Wrote}
 use Rattle.mtrace_replay.specs.declared.runs.report.Report.{Report}
+use Rattle.mtrace_replay.specs.declared.heap.totals.Totals.{Totals}
 use Rattle.mtrace_log.specs.declared.call.Call.TheVariants.{Took, Flushed}
 use Rattle.mtrace_log.proofs.TraceLemmas.{moved_then_append, failed_after}
 use Rattle.mtrace_replay.proofs.Running.RunLemmas.{end_text, no_notes, run_stops, report_all, ends_at, report_write}
@@ -22,6 +23,15 @@ returns-in-Ok-finish-clause-ran g c =
       };
       bad_settings = search rules;
       whole = search rules;
+    }
+
+pub returns-in-Ok-finish-clause-counted : goal.returns-in-Ok-finish-clause-counted
+returns-in-Ok-finish-clause-counted g c =
+    let done = (c.in-Ok-read_log.ensures.ends c.args.settings c.in-Ok.ensures.made (no_notes c.args.settings)).0 in
+    record {
+      lines = done.lines;
+      read = done.read;
+      refused_are = ap (λ (totals : Totals). totals.refused) c.totals-refused.ensures.totals ∙ done.stands.totals.refused;
     }
 
 pub returns-in-Ok-finish-clause-last : goal.returns-in-Ok-finish-clause-last

@@ -1,8 +1,8 @@
 use Rattle.std.proofs.Common.{◌≡◌, ◌∷◌, suc, true, false, sym, ap, ◌∙◌, subst, arith}
 use Rattle.std.specs.Prelude.{Result, Ok, Err, OnOk, nat_lt}
-use Rattle.mtrace_replay.specs.Served.{Standing, StandsWithoutHeap}
+use Rattle.mtrace_replay.specs.LedgerReplay.{LedgerReplayed, LedgerStandsFor}
 use Rattle.mtrace_replay.specs.Spans.{AreFew, released_by}
-use Rattle.mtrace_replay.specs.declared.no_heap.replay.LedgerTotals.{LedgerTotals}
+use Rattle.mtrace_replay.specs.declared.ledger.replay.LedgerTotals.{LedgerTotals}
 use Rattle.mtrace_replay.proofs.BySize.CountedLemmas.{served_more}
 use Rattle.mtrace_replay.proofs.parts.replay.CountedReplay.feed_lent.Goals as goal
 
@@ -19,11 +19,11 @@ pub returns : goal.returns
 returns c =
     let fed = c.in_ok-feed_lent.ensures in
     let event = c.args.event in
-    let old : Standing = c.args.self.now.ledger in
-    let middle : Standing = c.feed_lent.new.self in
+    let old : LedgerReplayed = c.args.self.now.ledger in
+    let middle : LedgerReplayed = c.feed_lent.new.self in
     let same : c.count.new.self.ledger ≡ middle = c.count.ensures.ledger in
     record {
-      stands = on_ok c.count.result _ (λ past stands. subst (λ (replay : Standing). StandsWithoutHeap replay (event ∷ past)) (sym same) (fed.stands past stands));
+      stands = on_ok c.count.result _ (λ past stands. subst (λ (replay : LedgerReplayed). LedgerStandsFor replay (event ∷ past)) (sym same) (fed.stands past stands));
       spans = also_ok c.count.result _ _ c.count.ensures.counted (λ counts past stands counted.
           let pending_is = c.pending.ensures ∙ stands.pending_is in
           counts past event (record {
@@ -36,7 +36,7 @@ returns c =
                 ∙ served_more old middle event past stands (fed.stands past stands);
           }) counted);
       told = on_ok c.count.result _ fed.told;
-      counted = on_ok c.count.result _ (ap (λ (replay : Standing). replay.lines) same ∙ fed.counted);
+      counted = on_ok c.count.result _ (ap (λ (replay : LedgerReplayed). replay.lines) same ∙ fed.counted);
       few = also_ok c.count.result _ _ c.count.ensures.few (λ fewer.
           let next : suc old.lines ≡ c.args.number = omega (arith, c.requires.next) in
           subst (λ n. AreFew n c.count.new.self.spans) next (fewer old.lines c.requires.few));

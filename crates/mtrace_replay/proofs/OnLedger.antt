@@ -1,0 +1,23 @@
+-- Logs that are followed without a heap, and who asked.
+pub mod CallerRows
+pub mod CallersBySlot
+pub mod CallsLemmas
+pub mod OneText
+pub mod RowsBySlot
+pub mod SharesLemmas
+pub mod SitesBySlot
+pub mod ChangesBySlot
+pub mod ChangesRows
+pub mod EntryOrder
+pub mod LedgerLemmas
+pub mod LedgerPeak
+pub mod LocationsLemmas
+pub mod MarkLemmas
+pub mod LedgerReplayLemmas
+pub mod MarkedLemmas
+pub mod SiteTimelineLemmas
+pub mod SitesAgainLemmas
+pub mod LedgerRunLemmas
+pub mod LedgerTimelineLemmas
+pub mod SnapshotLemmas
+pub mod SnapshotRows

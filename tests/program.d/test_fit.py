@@ -1,0 +1,99 @@
+"""How large a pool a log needs: `tlsf fit`. tests/golden has its reports, too."""
+import re
+from pathlib import Path
+
+import pytest
+
+from cases import expect_that
+from runs import (LOGS, changes_while_read, each_call_fails, expect_run, named_pipe,
+                  reads_standard_input, run, shown_in_docs, text_of)
+
+GREATEST = 1073741808
+
+
+def blocks(count):
+    """The lines of so many blocks of 16 bytes."""
+    return text_of(f"+ 0x{k:x} 0x10" for k in range(1, count + 1))
+
+
+@pytest.mark.both
+@pytest.mark.parametrize("size, serves", [(1536, True), (2032, True), (3008, True),
+                                          (1520, False), (2016, False)])
+def test_sizes_of_the_report_serve(size, serves):
+    """A log that is served on the least size, and refused on some sizes above."""
+    log = LOGS.parent / "golden/fit-refused-above/log"
+    report = run("leaks", "--pool", str(size), "--records", "9", log)[1]
+    expect_that(f"a pool of {size} bytes", (b"refused" not in report) == serves)
+
+
+@pytest.mark.both
+@pytest.mark.parametrize("step", [16, 32, 48, 64, 1008, 4096, 65536, 1048576, 536870896, GREATEST])
+def test_steps(step):
+    """A block of 1,000,000 bytes: as many sizes are tried as multiples of a step lie between the
+    least that reaches the peak and twice that one, the greatest size at most."""
+    Path("log").write_text("+ 0x10 0xf4240\n")
+    first = (1000000 + step - 1) // step
+    last = min(2 * first, GREATEST // step)
+    status, report, errors = run("fit", "--step", str(step), "log")
+    told = re.search(rb"^(sizes tried: \d+), ", report, re.M)
+    expect_run(f"a step of {step} bytes", (status, told and told[1], errors), 1,
+               b"sizes tried: %d" % (last - first + 1))
+
+
+@pytest.mark.both
+def test_records():
+    """For each number of blocks held two records each and three more are enough, up to the most
+    that there are."""
+    for held in (*range(65), *range(100, 32001, 997), 6171, 16382, 32765, 32766, 32767, 40000,
+                 65534):
+        Path("log").write_bytes(blocks(held))
+        status, report, errors = run("fit", "--step", "536870912", "log")
+        told = b"".join(re.findall(rb"^(?:held|records).*\n", report, re.M))
+        expect_run(f"{held} blocks held", (status, told, errors), int(held > 0),
+                   b"held at most: %d blocks\nrecords: %d\n" % (held, min(2 * held + 3, 65535)))
+
+
+@pytest.mark.both
+def test_every_record():
+    """The table serves 65,534 blocks with a rest behind them, and not one more."""
+    Path("log").write_bytes(blocks(65535))
+    expect_run("65,535 blocks", run("fit", "log"), 1, text_of([
+        "line 65535: 0xffff refused: table full", "peak: 1048544 bytes at line 65534",
+        "held at most: 65534 blocks", "records: -", "table: -", "least pool: -", "safe pool: -",
+        "sizes tried: 0", "sure pool: -", "refused: 1 lines"]))
+    Path("fewer").write_bytes(blocks(65534))
+    expect_run("65,534 blocks", run("fit", "--step", "1048576", "fewer"), 1, text_of([
+        "peak: 1048544 bytes at line 65534", "held at most: 65534 blocks", "records: 65535",
+        "table: 1050256 bytes", "least pool: 1048576 bytes", "safe pool: 1048576 bytes",
+        "sizes tried: 2, 0 refused", "sure pool: -"]))
+
+
+@pytest.mark.both
+@pytest.mark.parametrize("words", [["fit"], ["timeline"], ["sites", "--pools", "1"]], ids=" ".join)
+def test_a_named_pipe_is_read_once(words):
+    writer = named_pipe("pipe", b"x\n+ 0x10 0x8\n")
+    expect_run(" ".join(words), run(*words, "pipe"), 2, b"", b"tlsf: pipe can't be read twice\n")
+    writer.wait()
+
+
+@pytest.mark.x86
+@pytest.mark.needs("cc")
+def test_each_call_fails():
+    each_call_fails(b"x\n+ 0x10 0x400\n+ 0x20 0x8\n- 0x10\n", "fit", "--step", "512")
+
+
+@pytest.mark.x86
+@pytest.mark.needs("cc")
+def test_log_changes():
+    """Each size is tried with the lines that were read first."""
+    changes_while_read(b"x\n+ 0x10 0x400\n- 0x10\n+ 0x20 0x8\n", "fit", "--step", "512")
+
+
+@pytest.mark.both
+def test_shown_in_docs():
+    expect_run("docs/LOG.md", run("fit", LOGS / "sensor.log"), 1, shown_in_docs("fit"))
+
+
+@pytest.mark.both
+def test_standard_input():
+    reads_standard_input("fit", "--step", "65536")
