@@ -29,11 +29,11 @@ _tlsf() {
         options='--pool --pools --records --points --sites -h --help'
         values='--pool --pools --records --points' ;;
     'tlsf fit')
-        options='--step --heaps -h --help'
-        values='--step --heaps' ;;
+        options='--step --heaps --front -h --help'
+        values='--step --heaps --front' ;;
     'tlsf size')
-        options='--blocks --largest --bytes --align --part -h --help'
-        values='--blocks --largest --bytes --align --part' ;;
+        options='--blocks --largest --bytes --align --front --part -h --help'
+        values='--blocks --largest --bytes --align --front --part' ;;
     'tlsf save')
         options='--pool --pools --records -h --help'
         values='--pool --pools --records' ;;

@@ -1,4 +1,5 @@
 """How large a pool a log needs: `tlsf fit`. tests/golden has its reports, too."""
+import random
 import re
 from pathlib import Path
 
@@ -14,6 +15,69 @@ GREATEST = 1073741808
 def blocks(count):
     """The lines of so many blocks of 16 bytes."""
     return text_of(f"+ 0x{k:x} 0x10" for k in range(1, count + 1))
+
+
+def with_front(log, front):
+    """The log, where each line that asks for a block asks for so many bytes more: in lines `+`, `>`
+    and `*` the last number."""
+    lines = []
+    for line in log.decode().split("\n"):
+        *words, size = line.split(" ")
+        asks = words[2:] if words[:1] == ["@"] else words
+        if asks[:1] in (["+"], [">"], ["*"]) and asks[1] != "(nil)":
+            more = min(int(size, 16) + front, 2**64 - 1)
+            line = " ".join([*words, spelled(more)])
+        lines.append(line)
+    return "\n".join(lines).encode()
+
+
+def spelled(number):
+    """A number as a log has it."""
+    return f"0x{number:x}" if number else "0"
+
+
+def random_log(seed):
+    """A log of lines of each form, with few addresses, so that some of them are wrong."""
+    chance = random.Random(seed)
+    lines = ["= Start"]
+    for _ in range(120):
+        address, other = (spelled(16 * chance.randrange(1, 30)) for _ in range(2))
+        align = spelled(2 ** chance.randrange(1, 9))
+        size = spelled(chance.choice([0, chance.randrange(1, 64), chance.randrange(1, 3000),
+                                      2**20 - 4]))
+        lines += chance.choice([[f"+ {address} {size}"], [f"* {address} {align} {size}"],
+                                [f"- {address}"], [f"- {address}"], [f"! {address} {size}"],
+                                [f"< {address}", f"> {other} {size}"], [f"+ (nil) {size}"]])
+    return text_of(chance.choice(["", "@ ./a:[0x10] "]) + line for line in lines)
+
+
+@pytest.mark.both
+@pytest.mark.parametrize("front", [0, 1, 8, 4096, GREATEST])
+@pytest.mark.parametrize("name", ["sensor", "words", "aligned", *range(1, 5)])
+def test_front(name, front):
+    """With a front a log needs what the log needs whose requests have so many bytes more. Where the
+    front is 0 that is the log itself."""
+    log = random_log(name) if isinstance(name, int) else (LOGS / f"{name}.log").read_bytes()
+    Path("log").write_bytes(log)
+    Path("more").write_bytes(with_front(log, front))
+    for words in ([], ["--step", str(GREATEST // 2 + 8)], *(["--heaps", k] for k in "138")):
+        status, wanted, errors = run("fit", *words, "more")
+        expect_run(f"{name}, {front} bytes in front, {words}",
+                   run("fit", "--front", str(front), *words, "log"), status, wanted, errors)
+
+
+@pytest.mark.both
+def test_front_at_the_greatest_number():
+    """No size is more than 2^64 - 1, however many bytes stand in front."""
+    Path("log").write_bytes(text_of(["+ 0x10 0xfffffffffffffff0", "* 0x20 0x10 0xffffffffffffffff",
+                                     "+ 0x30 0x8", "< 0x30", "> 0x30 0xfffffffffffffff7"]))
+    told = [f"line {line}: 0x{at}0 refused: no fit" for line, at in ((1, 1), (2, 2), (5, 3))]
+    expect_run("fit", run("fit", "--front", "8", "log"), 1, text_of([
+        *told, "peak: 16 bytes at line 3", "held at most: 1 blocks", "records: -", "table: -",
+        "least pool: -", "safe pool: -", "sizes tried: 0", "sure pool: -", "refused: 3 lines"]))
+    most = 3 * (2**64 - 1) - 7
+    expect_run("fit --heaps", run("fit", "--heaps", "2", "--front", "8", "log"), 1, text_of([
+        f"peak: {most} bytes at line 5", "heaps: -", "sum: -", "tables: -"]))
 
 
 @pytest.mark.both

@@ -30,6 +30,19 @@ def test_too_many_blocks():
         peak, "heaps: 1", "up to 32: 70000 blocks, -", "sum: -", "tables: -"]))
 
 
+@pytest.mark.both
+@pytest.mark.parametrize("front, sizes", [(0, (64, 2048)), (8, (80, 2112)), (16, (80, 2112)),
+                                          (17, (96, 2112)), (4096, (4224, 6144))])
+def test_sizes_with_a_front(front, sizes):
+    """Blocks of 64 and of 2,048 bytes, each with so many more, and the heaps that `size` tells."""
+    heaps = list(zip((2130, 20), sizes))
+    pools = [blocks * size for blocks, size in heaps]
+    expect_run(f"{front} bytes in front", run("size", "--front", str(front), "--part", "2130x64",
+                                              "--part", "20x2048"), 0, text_of([
+        *(f"up to {size}: {blocks} blocks, {blocks * size} bytes" for blocks, size in heaps),
+        f"sum: {sum(pools)} bytes", "tables: 37792 bytes"]))
+
+
 @pytest.mark.parametrize("heaps", ["0", "9", "-1", "four"])
 def test_wrong_words(heaps):
     Path("empty").touch()

@@ -17,10 +17,12 @@ NUMBERS = {
     "--bytes": ("a whole number from 1 to 1073741808", 20480,
                 ["size", "--blocks", "60", "--largest", "1040"]),
     "--align": ("a power of two from 1 to 536870912", 64, ["size"]),
+    "--front": ("a whole number from 0 to 1073741808", 8, ["fit", "log"]),
 }
 # Values beyond the range of each.
 BEYOND = {"--step": ["0", "4", "15", "1073741809"], "--blocks": ["0", "32767"],
-          "--largest": ["0", "1056964609"], "--bytes": ["0", "1073741809"]}
+          "--largest": ["0", "1056964609"], "--bytes": ["0", "1073741809"],
+          "--front": ["1073741809"]}
 OF_A_HEAP = {"--pool": "<BYTES>", "--pools": "<K>", "--records": "<N>"}
 
 
@@ -120,9 +122,10 @@ def test_options_of_other_commands():
             expect_no_option(command, option, of, option, "8")
             expect_no_option(command, option, of, f"{option}=8")
     for option, of in (("--step", "fit"), ("--points", "timeline"), ("--blocks", "size"),
-                       ("--largest", "size"), ("--bytes", "size"), ("--align", "size")):
+                       ("--largest", "size"), ("--bytes", "size"), ("--align", "size"),
+                       ("--front", "fit and size")):
         for command in ALL:
-            if command != of:
+            if command not in of.split():
                 expect_no_option(command, option, of, option, "16")
 
 
@@ -145,12 +148,22 @@ def test_words_of_fit_and_size():
 
 
 def test_parts():
-    for words in (["20x64", "--bytes", "64"], ["1x1"] + ["--part", "1x1"] * 8):
-        expect_wrong("--part takes no option beside it, and stands at most 8 times", "size",
-                     "--part", *words)
+    for words in (["20x64", "--bytes", "64"], ["20x64", "--front", "8", "--align", "16"],
+                  ["1x1"] + ["--part", "1x1"] * 8):
+        expect_wrong("--part takes no option beside it but --front, and stands at most 8 times",
+                     "size", "--part", *words)
     for value in ("64", "x64", "20x", "20x64x", "0x64", "65536x64", "20x0", "20x1056964609"):
         expect_wrong("--part takes LxM: L blocks, from 1 to 65535, of at most M bytes, from 1 to "
                      "1056964608", "size", "--part", value)
+
+
+@pytest.mark.parametrize("words", [["fit", "--heaps", "2", "log"],
+                                   ["size", "--blocks", "60", "--largest", "1040"],
+                                   ["size", "--part", "20x64"]], ids=" ".join)
+@pytest.mark.parametrize("value", ["1073741809", "x", "-8"])
+def test_a_bad_front(words, value):
+    for front in (["--front", value], [f"--front={value}"]):
+        expect_number("--front", value, words[0], *front, *words[1:])
 
 
 def test_a_pool_of_17_bytes_for_an_image():

@@ -2,6 +2,7 @@
 pub mod AgainLemmas
 pub mod FitLemmas
 pub mod FollowingLemmas
+pub mod FrontedLemmas
 pub mod ReplayingLemmas
 pub mod Points
 pub mod RunLemmas

@@ -10,6 +10,7 @@ pub mod Enough
 pub mod Entry
 pub mod Fit
 pub mod Following
+pub mod Fronted
 pub mod Gather
 pub mod Held
 pub mod History

@@ -16,7 +16,11 @@ use Rattle.mtrace_replay.specs.Totals.{blocks_in, rounded_bytes_in, Measures, Is
 use Rattle.mtrace_replay.specs.Asked.{greatest_class}
 use Rattle.mtrace_replay.specs.LineReplay.{LineRules, Notes}
 use Rattle.mtrace_replay.specs.Replay.{heap_notes, StandsFor}
-use Rattle.mtrace_replay.specs.Run.{EndsAt}
+use Rattle.mtrace_replay.specs.Settings.{are_bad}
+use Rattle.mtrace_replay.specs.Course.{Course}
+use Rattle.mtrace_replay.specs.Reporting.{TellsNothing, Reports}
+use Rattle.mtrace_replay.specs.Run.{RunsBy}
+use Rattle.mtrace_replay.specs.Fronted.{fronted, fronted_moments}
 
 -- a measure of what was given or freed, 0 where nothing was
 abbrev pub of_one : (Given → ℕ) → Option Given → ℕ
@@ -61,10 +65,16 @@ needs_rules = record {
   Lacks = ⊥;
 }
 
--- a run without a report, the replay in the end, and what the lines need
-pub record EndsWithNeeds (settings : Settings) (status : Status) (replay : NeedsReplay) (reader_old reader_new : ReaderState) (writer_old writer_new : WriterState) : Type 0 where
-  pub ends : EndsAt settings status replay.replay reader_old reader_new writer_old writer_new
-  pub needs : AreNeeds (started settings) (reverse ends.reports.lines) replay.needs
+-- what a run without a report leaves of a log whose requests each have so many bytes more
+abbrev pub RunsFronted : {R W : Type 0} → (front : ℕ) → Settings → Result Status RunFault → Course R ReaderState → Course W WriterState → Type 0
+RunsFronted front settings = RunsBy (fronted_moments front settings) TellsNothing (are_bad settings)
+
+-- such a run, the replay in the end, and what the lines need
+pub record EndsWithNeeds (front : ℕ) (settings : Settings) (status : Status) (replay : NeedsReplay) (reader_old reader_new : ReaderState) (writer_old writer_new : WriterState) : Type 0 where
+  pub reports : Reports (fronted_moments front settings) TellsNothing status reader_old reader_new writer_old writer_new
+  pub stands : StandsFor replay.replay settings (fronted front (reverse reports.lines))
+  pub records : replay.replay.content.records ≡ settings.records
+  pub needs : AreNeeds (started settings) (fronted front (reverse reports.lines)) replay.needs
 
 -- the status of a run with what its log needs
 abbrev pub status_with : Result NeedsRun RunFault → Result Status RunFault

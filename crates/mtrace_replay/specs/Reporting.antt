@@ -1,6 +1,6 @@
 -- What a run leaves that reads a log to its end and tells it, by the moments of its lines and by the text of its report. The moments
 -- are of lines of which the latest comes first.
-use Rattle.std.specs.Prelude.{◌≡◌, ◌⊎◌, ℕ, Bool, List, ◌++◌, length, reverse, Result, Ok, Err, IfOk, IfErr, ◌||◌, if◌then◌else◌}
+use Rattle.std.specs.Prelude.{◌≡◌, ◌⊎◌, ℕ, Bool, List, [], ◌++◌, length, reverse, Result, Ok, Err, IfOk, IfErr, ◌||◌, if◌then◌else◌}
 use Rattle.mtrace_log.specs.HasRead.{HasReadAll}
 use Rattle.mtrace_log.specs.Shown.{ReaderState, WriterState}
 use Rattle.mtrace_log.specs.Output.{Wrote, Begins}
@@ -27,6 +27,10 @@ pub record Finishes (last : List Diagnostic) (entries : List Entry) (text : List
   pub put : PutsAndFlushes result (diagnostics_text last ++ text) writer_old writer_new
   pub status : IfOk result (λ status. status ≡ (if has_diagnostics || (has_some last || has_some entries) then Found else Clean))
   pub fault : IfErr result (λ fault. fault ≡ Write)
+
+-- no report is told
+abbrev pub TellsNothing : List ReadLine → List ℕ → Type 0
+TellsNothing lines text = text ≡ []
 
 -- the diagnostics of a log's lines, the first line first, with that of a last line `<`
 abbrev pub all_diagnostics : (moments : List ReadLine → List Moment) → List ReadLine → List Diagnostic

@@ -1,5 +1,5 @@
 -- What a run read and wrote, by its answer.
-use Rattle.std.specs.Prelude.{◌≡◌, ◌↔◌, ℕ, List, ◌++◌, reverse, count_by, Result, Ok, Err, IsTrue, IsErrOf}
+use Rattle.std.specs.Prelude.{◌≡◌, ◌↔◌, ℕ, Bool, List, ◌++◌, reverse, count_by, Result, Ok, Err, IsTrue, IsErrOf}
 use Rattle.mtrace_log.specs.Shown.{ReaderState, WriterState}
 use Rattle.mtrace_replay.specs.declared.runs.report.Report.{Report}
 use Rattle.mtrace_replay.specs.declared.runs.report.Report.TheVariants.{Nothing}
@@ -14,9 +14,9 @@ use Rattle.mtrace_replay.specs.Settings.{are_bad}
 use Rattle.mtrace_replay.specs.Started.{Bare, started}
 use Rattle.mtrace_log.specs.HasRead.{HasReadAll}
 use Rattle.mtrace_replay.specs.Totals.{AreTotals, is_refused}
-use Rattle.mtrace_replay.specs.Moment.{ReadLine, Given}
-use Rattle.mtrace_replay.specs.History.{moments, history, diagnostics, AreHeld, entries_of, content_after}
-use Rattle.mtrace_replay.specs.Replay.{Replayed, StandsFor, heap_notes}
+use Rattle.mtrace_replay.specs.Moment.{ReadLine, Given, Moment}
+use Rattle.mtrace_replay.specs.History.{moments, history, notes, diagnostics, AreHeld, entries_of, content_after}
+use Rattle.mtrace_replay.specs.Replay.{Replayed, StandsFor}
 use Rattle.mtrace_replay.specs.Following.{Notes, HasReadUpTo, RunsToEnd, RunsToRead, RunsToWrite}
 use Rattle.mtrace_replay.specs.Reporting.{Reports, StopsAtWrite}
 use Rattle.mtrace_replay.specs.Texts.{diagnostics_text, report_text}
@@ -55,21 +55,26 @@ pub record EndsAt (settings : Settings) (status : Status) (replay : Replayed) (r
 abbrev pub NothingDone : {R W : Type 0} → Course R ReaderState → Course W WriterState → Type 0
 NothingDone reader writer = (reader.new ≡ reader.old) × (writer.new ≡ writer.old)
 
--- how a run ended, by what it answers, which is never `Image`
-abbrev pub RunEnds : {R W : Type 0} → Report → Settings → Result Status RunFault → Course R ReaderState → Course W WriterState → Type 0
-RunEnds report settings (Ok status) reader writer = RunsToEnd (ReportsOnHeap report settings status (shown_before reader) (shown_after reader) (shown_before writer) (shown_after writer)) (shown_before reader) (shown_after reader) (shown_before writer) (shown_after writer)
-RunEnds report settings (Err Read) reader writer = RunsToRead (Notes (heap_notes settings)) (shown_before reader) (shown_after reader) (shown_before writer) (shown_after writer)
-RunEnds report settings (Err Write) reader writer = RunsToWrite (StopsAtWrite HasReadUpTo (moments (started settings)) (TellsReport report settings) (shown_before reader) (shown_after reader) (shown_before writer) (shown_after writer)) (shown_before reader) (shown_after reader) (shown_before writer) (shown_after writer)
-RunEnds report settings (Err OutOfMemory) reader writer = NothingDone reader writer
-RunEnds report settings (Err BadSettings) reader writer = NothingDone reader writer
-RunEnds report settings (Err Image) reader writer = ⊥
+-- how a run on a heap ended, by what it answers, which is never `Image`. The moments are of lines of which the latest comes first
+abbrev pub RunEndsBy : {R W : Type 0} → (moments : List ReadLine → List Moment) (Tells : List ReadLine → List ℕ → Type 0) → Result Status RunFault → Course R ReaderState → Course W WriterState → Type 0
+RunEndsBy moments Tells (Ok status) reader writer = RunsToEnd (Reports moments Tells status (shown_before reader) (shown_after reader) (shown_before writer) (shown_after writer)) (shown_before reader) (shown_after reader) (shown_before writer) (shown_after writer)
+RunEndsBy moments Tells (Err Read) reader writer = RunsToRead (Notes (λ past. notes (moments past))) (shown_before reader) (shown_after reader) (shown_before writer) (shown_after writer)
+RunEndsBy moments Tells (Err Write) reader writer = RunsToWrite (StopsAtWrite HasReadUpTo moments Tells (shown_before reader) (shown_after reader) (shown_before writer) (shown_after writer)) (shown_before reader) (shown_after reader) (shown_before writer) (shown_after writer)
+RunEndsBy moments Tells (Err OutOfMemory) reader writer = NothingDone reader writer
+RunEndsBy moments Tells (Err BadSettings) reader writer = NothingDone reader writer
+RunEndsBy moments Tells (Err Image) reader writer = ⊥
 
--- What a run leaves. The answer is bad settings exactly where they are bad, and the reader has the same bytes in whole.
-pub record Runs {R W : Type 0} (report : Report) (settings : Settings) (result : Result Status RunFault)
+-- What a run on a heap leaves, by the moments of its lines and what is told of them. The answer is bad settings exactly where they are
+-- bad, and the reader has the same bytes in whole.
+pub record RunsBy {R W : Type 0} (moments : List ReadLine → List Moment) (Tells : List ReadLine → List ℕ → Type 0) (is_bad : Bool) (result : Result Status RunFault)
     (reader : Course R ReaderState) (writer : Course W WriterState) : Type 0 where
-  pub ends : RunEnds report settings result reader writer
-  pub bad_settings : IsErrOf result BadSettings ↔ IsTrue (are_bad settings)
+  pub ends : RunEndsBy moments Tells result reader writer
+  pub bad_settings : IsErrOf result BadSettings ↔ IsTrue is_bad
   pub whole : (shown_after reader).whole ≡ (shown_before reader).whole
+
+-- what a run leaves that writes a report of what a heap does by the settings
+abbrev pub Runs : {R W : Type 0} → Report → Settings → Result Status RunFault → Course R ReaderState → Course W WriterState → Type 0
+Runs report settings = RunsBy (moments (started settings)) (TellsReport report settings) (are_bad settings)
 
 -- all of the log was read, and this many of its lines the heap refused
 pub record CountsRefused (settings : Settings) (refused : ℕ) (reader_old reader_new : ReaderState) : Type 0 where

@@ -9,14 +9,14 @@ use Rattle.mtrace_replay.specs.declared.ledger.report.LedgerReport.{LedgerReport
 use Rattle.mtrace_replay.specs.declared.ledger.report.LedgerReport.TheVariants.{Held, Sums, Sites, Callers, Nothing}
 use Rattle.mtrace_replay.specs.declared.ledger.run.EndedLedger.{EndedLedger}
 use Rattle.mtrace_replay.specs.Moment.{ReadLine, Given, Moment}
-use Rattle.mtrace_replay.specs.History.{AreHeld, entries_of}
+use Rattle.mtrace_replay.specs.History.{notes, AreHeld, entries_of}
 use Rattle.mtrace_replay.specs.Totals.{is_served, first_moments, Measures, IsPeak, asked_bytes_in, blocks_in}
 use Rattle.mtrace_replay.specs.RunSites.{HeldSites, sections_of}
 use Rattle.mtrace_replay.specs.Texts.{diagnostics_text, leaks_report, ledger_peak_report, callers_text}
 use Rattle.mtrace_replay.specs.declared.held.count.Count.{Count}
 use Rattle.mtrace_replay.specs.Calls.{Caller}
 use Rattle.mtrace_replay.specs.Callers.{calls_in, temporary_in, AreCallers, all_of}
-use Rattle.mtrace_replay.specs.LedgerReplay.{ledger_moments, ledger_history, ledger_diagnostics, ledger_noted, LedgerReplayed, LedgerStandsFor}
+use Rattle.mtrace_replay.specs.LedgerReplay.{ledger_moments, ledger_history, ledger_diagnostics, LedgerReplayed, LedgerStandsFor}
 use Rattle.mtrace_replay.specs.Following.{Notes, HasReadThese, RunsToEnd, RunsToRead, RunsToWrite, RunsToMemory}
 use Rattle.mtrace_replay.specs.Reporting.{Reports, StopsAtWrite}
 use Rattle.mtrace_replay.specs.Again.{RunsFirst}
@@ -80,18 +80,22 @@ whole_ledger lines text = diagnostics_text (ledger_diagnostics lines) ++ text
 abbrev pub ReportsLedger : LedgerReport → Status → (reader_old reader_new : ReaderState) (writer_old writer_new : WriterState) → Type 0
 ReportsLedger report = Reports ledger_moments (TellsLedger report)
 
--- how a run ended, by what it answers, which is never `BadSettings` or `Image`
-abbrev pub LedgerEnds : LedgerReport → Result Status RunFault → (reader_old reader_new : ReaderState) (writer_old writer_new : WriterState) → Type 0
-LedgerEnds report (Ok status) reader_old reader_new writer_old writer_new = RunsToEnd (ReportsLedger report status reader_old reader_new writer_old writer_new) reader_old reader_new writer_old writer_new
-LedgerEnds report (Err Read) reader_old reader_new writer_old writer_new = RunsToRead (Notes ledger_noted) reader_old reader_new writer_old writer_new
-LedgerEnds report (Err Write) reader_old reader_new writer_old writer_new = RunsToWrite (StopsAtWrite HasReadThese ledger_moments (TellsLedger report) reader_old reader_new writer_old writer_new) reader_old reader_new writer_old writer_new
-LedgerEnds report (Err OutOfMemory) reader_old reader_new writer_old writer_new = RunsToMemory (Notes ledger_noted) reader_old reader_new writer_old writer_new
-LedgerEnds report (Err _) reader_old reader_new writer_old writer_new = ⊥
+-- how a run ended, by what it answers, which is never `BadSettings` or `Image`. The moments are of lines of which the latest comes first
+abbrev pub LedgerEndsBy : (moments : List ReadLine → List Moment) (Tells : List ReadLine → List ℕ → Type 0) → Result Status RunFault → (reader_old reader_new : ReaderState) (writer_old writer_new : WriterState) → Type 0
+LedgerEndsBy moments Tells (Ok status) reader_old reader_new writer_old writer_new = RunsToEnd (Reports moments Tells status reader_old reader_new writer_old writer_new) reader_old reader_new writer_old writer_new
+LedgerEndsBy moments Tells (Err Read) reader_old reader_new writer_old writer_new = RunsToRead (Notes (λ past. notes (moments past))) reader_old reader_new writer_old writer_new
+LedgerEndsBy moments Tells (Err Write) reader_old reader_new writer_old writer_new = RunsToWrite (StopsAtWrite HasReadThese moments Tells reader_old reader_new writer_old writer_new) reader_old reader_new writer_old writer_new
+LedgerEndsBy moments Tells (Err OutOfMemory) reader_old reader_new writer_old writer_new = RunsToMemory (Notes (λ past. notes (moments past))) reader_old reader_new writer_old writer_new
+LedgerEndsBy moments Tells (Err _) reader_old reader_new writer_old writer_new = ⊥
 
--- What a run without a heap leaves. The reader has the same bytes in whole.
-pub record RunsLedger (report : LedgerReport) (result : Result Status RunFault) (reader_old reader_new : ReaderState) (writer_old writer_new : WriterState) : Type 0 where
-  pub ends : LedgerEnds report result reader_old reader_new writer_old writer_new
+-- What a run without a heap leaves, by the moments of its lines and what is told of them. The reader has the same bytes in whole.
+pub record RunsLedgerBy (moments : List ReadLine → List Moment) (Tells : List ReadLine → List ℕ → Type 0) (result : Result Status RunFault) (reader_old reader_new : ReaderState) (writer_old writer_new : WriterState) : Type 0 where
+  pub ends : LedgerEndsBy moments Tells result reader_old reader_new writer_old writer_new
   pub whole : reader_new.whole ≡ reader_old.whole
+
+-- what a run without a heap leaves that writes a report
+abbrev pub RunsLedger : LedgerReport → Result Status RunFault → (reader_old reader_new : ReaderState) (writer_old writer_new : WriterState) → Type 0
+RunsLedger report = RunsLedgerBy ledger_moments (TellsLedger report)
 
 -- what a run leaves that does more behind a run without a heap and without a report
 abbrev pub RunsLedgerFirst : {R W : Type 0} → (After : List ReadLine → Result Status RunFault → Course R ReaderState → Course W WriterState → Type 0)

@@ -6,13 +6,15 @@ use Rattle.mtrace_log.specs.Trace.{HasTakenAndFlushed, HasFailedToWrite}
 use Rattle.mtrace_replay.specs.declared.runs.status.Status.{Status}
 use Rattle.mtrace_replay.specs.declared.runs.status.RunFault.{RunFault}
 use Rattle.mtrace_replay.specs.declared.runs.status.RunFault.TheVariants.{Write, BadSettings, OutOfMemory}
-use Rattle.mtrace_replay.specs.declared.ledger.report.LedgerReport.TheVariants.{Nothing}
 use Rattle.mtrace_replay.specs.declared.parts.replay.CountedReplay.{CountedReplay}
 use Rattle.mtrace_replay.specs.Course.{Course, shown_before, shown_after}
 use Rattle.mtrace_replay.specs.Moment.{ReadLine}
 use Rattle.mtrace_replay.specs.Run.{NothingDone}
 use Rattle.mtrace_replay.specs.LedgerReplay.{LedgerStandsFor}
-use Rattle.mtrace_replay.specs.RunLedger.{ReportsLedger, RunsLedgerFirst}
+use Rattle.mtrace_replay.specs.RunLedger.{RunsLedgerBy}
+use Rattle.mtrace_replay.specs.Reporting.{TellsNothing, Reports}
+use Rattle.mtrace_replay.specs.Again.{RunsFirst}
+use Rattle.mtrace_replay.specs.Fronted.{fronted, fronted_ledger_moments}
 use Rattle.mtrace_replay.specs.Spans.{AreCountedOf}
 use Rattle.mtrace_replay.specs.Parts.{TellsParts}
 
@@ -34,12 +36,16 @@ PartsFollow heaps lines (Err _) writer_old writer_new = ⊥
 abbrev pub PartsFollowAlone : {R W : Type 0} → (heaps : ℕ) (lines : List ReadLine) (result : Result Status RunFault) (reader : Course R ReaderState) (writer : Course W WriterState) → Type 0
 PartsFollowAlone heaps lines result reader writer = (reader.new ≡ reader.old) × PartsFollow heaps lines result (shown_before writer) (shown_after writer)
 
--- What a run leaves that tells at most `heaps` heaps by size that serve a log. Where there are no heaps, or more than eight,
--- nothing is done; nor where memory is refused before the first line.
-pub record RunsParts {R W : Type 0} (heaps : ℕ) (result : Result Status RunFault) (reader : Course R ReaderState) (writer : Course W WriterState) : Type 0 where
+-- what a run without a heap and without a report leaves of a log whose requests each have so many bytes more
+abbrev pub RunsLedgerFronted : {R W : Type 0} → (front : ℕ) → Result Status RunFault → Course R ReaderState → Course W WriterState → Type 0
+RunsLedgerFronted front run reader writer = RunsLedgerBy (fronted_ledger_moments front) TellsNothing run (shown_before reader) (shown_after reader) (shown_before writer) (shown_after writer)
+
+-- What a run leaves that tells at most `heaps` heaps by size that serve a log whose requests each have so many bytes more. Where there
+-- are no heaps, or more than eight, nothing is done; nor where memory is refused before the first line.
+pub record RunsParts {R W : Type 0} (front heaps : ℕ) (result : Result Status RunFault) (reader : Course R ReaderState) (writer : Course W WriterState) : Type 0 where
   pub bad_heaps : is_bad_heaps heaps ≡ true → (result ≡ Err BadSettings) × NothingDone reader writer
   pub runs : is_bad_heaps heaps ≡ false → (IsErrOf result OutOfMemory × NothingDone reader writer)
-      ⊎ RunsLedgerFirst (PartsFollowAlone heaps) result reader writer
+      ⊎ RunsFirst (RunsLedgerFronted front) (fronted_ledger_moments front) TellsNothing (λ lines. PartsFollowAlone heaps (fronted front lines)) result reader writer
 
 -- nothing was followed yet
 pub record IsStart (replay : CountedReplay) : Type 0 where
@@ -51,7 +57,7 @@ abbrev pub HasLines : CountedReplay → Type 0
 HasLines replay = (lines : List ReadLine) × LedgerStandsFor replay.ledger (reverse lines) × AreCountedOf (reverse lines) replay.spans
 
 -- a run without a report, and the replay in the end
-pub record EndsCounted (status : Status) (replay : CountedReplay) (reader_old reader_new : ReaderState) (writer_old writer_new : WriterState) : Type 0 where
-  pub reports : ReportsLedger Nothing status reader_old reader_new writer_old writer_new
-  pub stands : LedgerStandsFor replay.ledger (reverse reports.lines)
-  pub counted : AreCountedOf (reverse reports.lines) replay.spans
+pub record EndsCounted (front : ℕ) (status : Status) (replay : CountedReplay) (reader_old reader_new : ReaderState) (writer_old writer_new : WriterState) : Type 0 where
+  pub reports : Reports (fronted_ledger_moments front) TellsNothing status reader_old reader_new writer_old writer_new
+  pub stands : LedgerStandsFor replay.ledger (fronted front (reverse reports.lines))
+  pub counted : AreCountedOf (fronted front (reverse reports.lines)) replay.spans

@@ -9,20 +9,21 @@ use Rattle.mtrace_replay.specs.declared.runs.status.RunFault.{RunFault}
 use Rattle.mtrace_replay.specs.declared.runs.status.RunFault.TheVariants.{Write, BadSettings}
 use Rattle.mtrace_replay.specs.Reporting.{PutsAndFlushes}
 use Rattle.mtrace_replay.specs.Texts.{size_line}
+use Rattle.mtrace_replay.specs.Fronted.{with_front}
 use Rattle.mtrace_replay.specs.Parts.{Part, pool_bytes, records_bytes, sum_over, part_line}
 
--- the part for requests of at most these bytes: its blocks have the class size; none where there is no such class
-abbrev pub part_for : PartBounds → Option Part
-part_for bounds = option_map (λ size. record { blocks = bounds.blocks; size = size }) (class_size 1 bounds.largest)
+-- the part for requests of at most these bytes, and so many more: its blocks have the class size; none where there is no such class
+abbrev pub part_for : (front : ℕ) → PartBounds → Option Part
+part_for front bounds = option_map (λ size. record { blocks = bounds.blocks; size = size }) (class_size 1 (with_front front bounds.largest))
 
 -- the parts for all of them; none where one has none
-abbrev pub parts_for : List PartBounds → Option (List Part)
-parts_for [] = Some []
-parts_for (bounds ∷ more) = option_and_then (λ part. option_map (λ parts. part ∷ parts) (parts_for more)) (part_for bounds)
+abbrev pub parts_for : (front : ℕ) → List PartBounds → Option (List Part)
+parts_for front [] = Some []
+parts_for front (bounds ∷ more) = option_and_then (λ part. option_map (λ parts. part ∷ parts) (parts_for front more)) (part_for front bounds)
 
 -- there are no parts, or more than eight, or one has no class
-abbrev pub are_bad_parts : List PartBounds → Bool
-are_bad_parts all = (length all == 0) || (nat_lt 8 (length all) || not (is_some (parts_for all)))
+abbrev pub are_bad_parts : (front : ℕ) → List PartBounds → Bool
+are_bad_parts front all = (length all == 0) || (nat_lt 8 (length all) || not (is_some (parts_for front all)))
 
 -- a line for each part, and the sums
 abbrev pub sized_parts_text : List Part → List ℕ
@@ -30,9 +31,9 @@ sized_parts_text parts = flat_map part_line parts ++ (size_line (codes "sum: ") 
 
 -- What a run leaves that tells so. `BadSettings` comes exactly for bad parts, and then nothing is written. Else the text is put and
 -- flushed, or a beginning of it is put, and the writer failed.
-pub record RunsSizeParts {W : Type 0} (all : List PartBounds) (writes : W → WriterState) (result : Result Status RunFault) (writer_old writer_new : W) : Type 0 where
-  pub bad_parts : IsErrOf result BadSettings ↔ IsTrue (are_bad_parts all)
+pub record RunsSizeParts {W : Type 0} (front : ℕ) (all : List PartBounds) (writes : W → WriterState) (result : Result Status RunFault) (writer_old writer_new : W) : Type 0 where
+  pub bad_parts : IsErrOf result BadSettings ↔ IsTrue (are_bad_parts front all)
   pub nothing_done : IsErrOf result BadSettings → writer_new ≡ writer_old
   pub faults : IfErr result (λ fault. (fault ≡ BadSettings) ⊎ (fault ≡ Write))
   pub clean : IfOk result (λ status. status ≡ Clean)
-  pub told : result ≢ Err BadSettings → (parts : List Part) × (parts_for all ≡ Some parts) × PutsAndFlushes result (sized_parts_text parts) (writes writer_old) (writes writer_new)
+  pub told : result ≢ Err BadSettings → (parts : List Part) × (parts_for front all ≡ Some parts) × PutsAndFlushes result (sized_parts_text parts) (writes writer_old) (writes writer_new)

@@ -16,6 +16,7 @@ ghost use Rattle.mtrace_replay.specs.Again.{HasReadFirst};
 ghost use Rattle.std.specs.List.{AllByRecursion};
 ghost use Rattle.mtrace_replay.specs.Settings.{are_bad};
 ghost use Rattle.mtrace_replay.specs.Fit.{one_pool};
+ghost use Rattle.mtrace_replay.specs.Fronted.{fronted};
 ghost use Rattle.mtrace_replay.specs.RunFit.{refusals, IsTried};
 ghost use Rattle.mtrace_replay.specs.Enough.{HoldsAtMost, HoldsBytesAtMost, acts_of, IsOfAtMost, IsNeverRefused, IsNeverFull};
 ghost use Rattle.mtrace_replay.specs.Held.{IsHeldUnder};
@@ -63,10 +64,11 @@ pub fn first_lines_again()
         → HasReadAll (Some text) middle lines → HasReadFirst many (Some text) after first → first ≡ take many lines }
 {}
 
-/// A size that a text was tried on which is told serves exactly where none of all its lines is refused there.
+/// A size that a text was tried on which is told serves exactly where none of all its lines, each request with its bytes more, is
+/// refused there.
 pub fn verdict_of_all_lines()
-    ensures { (settings : Settings) (text : List ℕ) (middle left : Bytes) (lines : List ReadLine) (serves : Bool)
-        → HasReadAll (Some text) middle lines → IsTried settings (length lines) serves (Some text) left → serves ≡ (refusals settings lines == 0) }
+    ensures { (front : ℕ) (settings : Settings) (text : List ℕ) (middle left : Bytes) (lines : List ReadLine) (serves : Bool)
+        → HasReadAll (Some text) middle lines → IsTried front settings (length lines) serves (Some text) left → serves ≡ (refusals settings (fronted front lines) == 0) }
 {}
 
 /// On one pool a log is never refused for want of a record where there are 2 * `most` + 3 records or more. After any

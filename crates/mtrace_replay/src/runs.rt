@@ -6,6 +6,7 @@ pub mod fit_text;
 pub mod fitted;
 pub mod flush;
 pub mod following;
+pub mod fronted;
 pub mod line_replay;
 pub mod needs;
 pub mod reading;

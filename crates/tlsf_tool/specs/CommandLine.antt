@@ -104,20 +104,26 @@ timeline_line =
     (option_rule (codes "points") (codes "100") (parser.Signed (pos 1) (pos 10000))))
     (flag_rule (codes "sites"))
 
+-- the bytes that a heap keeps in front of each block
+abbrev pub front_rule : Rule
+front_rule = given_rule (codes "front") (parser.Unsigned 0 greatest_size)
+
 abbrev pub fit_line : App
 fit_line =
-    with_rule (with_rule (with_rule (new_app (codes "fit"))
+    with_rule (with_rule (with_rule (with_rule (new_app (codes "fit"))
     (given_rule (codes "step") (parser.Unsigned unit greatest_size)))
     (given_rule (codes "heaps") (parser.Signed (pos 1) (pos 8))))
+    front_rule)
     (word_rule (codes "LOG"))
 
 abbrev pub size_line : App
 size_line =
-    with_rule (with_rule (with_rule (with_rule (with_rule (new_app (codes "size"))
+    with_rule (with_rule (with_rule (with_rule (with_rule (with_rule (new_app (codes "size"))
     (given_rule (codes "blocks") (parser.Signed (pos 1) (pos 32766))))
     (given_rule (codes "largest") (parser.Unsigned 1 1056964608)))
     (given_rule (codes "bytes") (parser.Unsigned 1 greatest_size)))
     (given_rule (codes "align") (parser.Unsigned 0 18446744073709551615)))
+    front_rule)
     (repeated_rule (codes "part"))
 
 abbrev pub save_line : App
@@ -220,10 +226,14 @@ abbrev pub HasGiven : List Row → Text → Option ℕ → Type 0
 HasGiven rows id (Some n) = HasNumber rows id 64 n
 HasGiven rows id None = (n : ℕ) → HasNumber rows id 64 n → ⊥
 
+-- how many bytes more each request has, and none where that isn't given
+abbrev pub HasFront : List Row → ℕ → Type 0
+HasFront rows front = HasOr rows (codes "front") 64 0 front
+
 -- the bounds of a program
 abbrev pub HasBounds : List Row → Bounds → Type 0
 HasBounds rows bounds = HasNumber rows (codes "blocks") 32 bounds.blocks × HasNumber rows (codes "largest") 64 bounds.largest
-    × HasGiven rows (codes "bytes") bounds.bytes × HasGiven rows (codes "align") bounds.align
+    × HasGiven rows (codes "bytes") bounds.bytes × HasGiven rows (codes "align") bounds.align × HasFront rows bounds.front
 
 -- none of the bounds of a program is given
 abbrev pub HasNoBounds : List Row → Type 0
@@ -279,12 +289,12 @@ MatchesAskFor (Some found) (Reread (Timeline heap stretches) log) = (found.0 ≡
 MatchesAskFor (Some found) (Reread (SiteTimeline stretches) log) = (found.0 ≡ codes "timeline")
     × HasNoSetting found.1 × HasNumber found.1 (codes "points") 32 stretches × (first_of (codes "LOG") found.1 ≡ Some (string_bytes log))
     × HasSites found.1
-MatchesAskFor (Some found) (Reread (Fit step) log) = (found.0 ≡ codes "fit") × HasGiven found.1 (codes "step") step × HasNone found.1 (codes "heaps") 32
-    × (first_of (codes "LOG") found.1 ≡ Some (string_bytes log))
-MatchesAskFor (Some found) (Parts heaps log) = (found.0 ≡ codes "fit") × HasNumber found.1 (codes "heaps") 32 heaps × HasNone found.1 (codes "step") 64
-    × (first_of (codes "LOG") found.1 ≡ Some (string_bytes log))
+MatchesAskFor (Some found) (Reread (Fit front step) log) = (found.0 ≡ codes "fit") × HasGiven found.1 (codes "step") step × HasNone found.1 (codes "heaps") 32
+    × (first_of (codes "LOG") found.1 ≡ Some (string_bytes log)) × HasFront found.1 front
+MatchesAskFor (Some found) (Parts front heaps log) = (found.0 ≡ codes "fit") × HasNumber found.1 (codes "heaps") 32 heaps × HasNone found.1 (codes "step") 64
+    × (first_of (codes "LOG") found.1 ≡ Some (string_bytes log)) × HasFront found.1 front
 MatchesAskFor (Some found) (Size bounds) = (found.0 ≡ codes "size") × HasBounds found.1 bounds × (all_of (codes "part") found.1 ≡ None)
-MatchesAskFor (Some found) (SizeParts parts) = (found.0 ≡ codes "size") × HasParts found.1 parts.items × HasNoBounds found.1
+MatchesAskFor (Some found) (SizeParts front parts) = (found.0 ≡ codes "size") × HasParts found.1 parts.items × HasNoBounds found.1 × HasFront found.1 front
 MatchesAskFor (Some found) (Save settings log image) = (found.0 ≡ codes "save")
     × HasSettings found.1 settings × (first_of (codes "LOG") found.1 ≡ Some (string_bytes log)) × (first_of (codes "IMAGE") found.1 ≡ Some (string_bytes image))
 MatchesAskFor (Some found) (Image Check image) = (found.0 ≡ codes "check") × (first_of (codes "IMAGE") found.1 ≡ Some (string_bytes image))

@@ -22,7 +22,7 @@ is_told_of streams log = streams.shown && not (streams.typed && is_dash log)
 abbrev pub is_told : Streams → Command → Bool
 is_told streams (Report name settings log) = is_told_of streams log
 is_told streams (Ledger report None log) = is_told_of streams log
-is_told streams (Parts heaps log) = is_told_of streams log
+is_told streams (Parts front heaps log) = is_told_of streams log
 is_told streams (Reread what log) = streams.shown
 is_told streams (Save settings log image) = is_told_of streams log
 is_told streams _ = false

@@ -60,7 +60,7 @@ Rereads (Sites settings) outcome reader writer = RunsSites settings outcome read
 Rereads (Timeline None stretches) outcome reader writer = RunsLedgerTimeline stretches outcome reader writer
 Rereads (Timeline (Some settings) stretches) outcome reader writer = RunsTimeline settings stretches outcome reader writer
 Rereads (SiteTimeline stretches) outcome reader writer = RunsSiteTimeline stretches outcome reader writer
-Rereads (Fit step) outcome reader writer = RunsFit step outcome reader writer
+Rereads (Fit front step) outcome reader writer = RunsFit front step outcome reader writer
 
 abbrev pub status_of_fault : ToolFault → ℕ
 status_of_fault (Help text) = 0

@@ -42,9 +42,13 @@ pub enum Rereading {
     },
     /// What each location holds over the lines of the log, which is cut in this many equal stretches. It reads the log twice.
     SiteTimeline(u32),
-    /// How large a pool the log needs, with the bytes between two sizes, where they are given. It reads the log once, and
-    /// then once for each size.
-    Fit(Option<u64>),
+    /// How large a pool the log needs. It reads the log once, and then once for each size.
+    Fit {
+        /// How many bytes more each request has.
+        front: u64,
+        /// The bytes between two sizes, where they are given.
+        step: Option<u64>,
+    },
 }
 
 /// What the words ask for.
@@ -70,6 +74,8 @@ pub enum Command {
     },
     /// Which heaps by size serve a log.
     Parts {
+        /// How many bytes more each request has.
+        front: u64,
         /// How many there are at most.
         heaps: u32,
         /// The log's name, `-` for standard input.
@@ -89,6 +95,8 @@ pub enum Command {
     },
     /// How large a pool is always enough for heaps by size, without a log.
     SizeParts {
+        /// How many bytes more each request has.
+        front: u64,
         /// What each heap serves.
         parts: Vec<PartBounds>,
     },

@@ -4,7 +4,7 @@ ghost use Rattle.std.specs.Prelude.{◌≡◌, IfOk, codes, pos};
 ghost use Rattle.clap.specs.declared.builder.value_parser.ValueParser.TheVariants.{Signed, Unsigned};
 ghost use Rattle.tlsf_class.specs.Classes.{unit, greatest_size};
 ghost use Rattle.clap.specs.Words.{App, app_of, new_app, with_subcommand};
-ghost use Rattle.tlsf_tool.specs.CommandLine.{IsArgOf, IsCommandOf, given_rule, repeated_rule, flag_rule, word_rule, heap_line, report_line, ledger_line, choice_line, sites_line, timeline_line, walk_line, fit_line, size_line, save_line, check_line, bare_line, tlsf_line};
+ghost use Rattle.tlsf_tool.specs.CommandLine.{IsArgOf, IsCommandOf, given_rule, front_rule, repeated_rule, flag_rule, word_rule, heap_line, report_line, ledger_line, choice_line, sites_line, timeline_line, walk_line, fit_line, size_line, save_line, check_line, bare_line, tlsf_line};
 
 use clap::builder::ValueParser;
 use clap::{Arg, ArgAction, Command, value_parser};
@@ -94,7 +94,8 @@ const FIT: Help = Help {
     examples: "Examples:
   tlsf fit a.log                            how large a pool a.log needs, and how many records
   tlsf fit --step 4096 a.log                the same, in steps of 4096 bytes
-  tlsf fit --heaps 4 a.log                  which four heaps serve a.log, each for blocks of one size",
+  tlsf fit --heaps 4 a.log                  which four heaps serve a.log, each for blocks of one size
+  tlsf fit --front 8 a.log                  how large a pool a.log needs over tlsf.h",
 };
 
 const SIZE: Help = Help {
@@ -102,6 +103,7 @@ const SIZE: Help = Help {
     examples: "Examples:
   tlsf size --blocks 60 --largest 1040                 what is enough for any 60 blocks of 1040 bytes
   tlsf size --blocks 60 --largest 1040 --bytes 20480   the same, where they have 20480 bytes at most
+  tlsf size --front 8 --blocks 60 --largest 1040       the same over tlsf.h
   tlsf size --part 2130x64 --part 20x4096              the same for two heaps, each for blocks of one size",
 };
 
@@ -136,6 +138,9 @@ const CHOSEN_RECORDS: &str =
 
 const EVERY: &str =
     "Also put the report so far each time that MS milliseconds more are over, by the times that the log tells; from 1 to 4294967295, not on a heap";
+
+const FRONT: &str =
+    "Bytes that a heap keeps in front of each block, 8 over tlsf.h, from 0 to 1073741808: each request has so many more; else 0";
 
 /// The option of this id, whose value the parser takes.
 fn option<'a>(
@@ -244,6 +249,13 @@ fn every_option<'a>(alloc: Global) -> Arg<'a>
     option(alloc, "every", "MS", bytes(1, u32::MAX), EVERY)
 }
 
+/// The option of the bytes that a heap keeps in front of each block.
+fn front_option<'a>(alloc: Global) -> Arg<'a>
+    ensures { IsArgOf front_rule result }
+{
+    option(alloc, "front", "BYTES", bytes(0, GREATEST_SIZE), FRONT)
+}
+
 /// A subcommand that takes a heap's settings and a log, with these defaults of a pool's bytes and of the records.
 fn heap_command<'a>(
     alloc: Global,
@@ -330,11 +342,11 @@ fn fit_command<'a>(alloc: Global) -> Result<Command<'a>, AllocError>
 {
     let step =
         "Bytes between two sizes that are tried, a multiple of 16 from 16 to 1073741808; else a 64th of the peak, rounded up";
-    let heaps =
-        "Number of heaps at most, from 1 to 8, each for a range of sizes; with no other option";
+    let heaps = "Number of heaps at most, from 1 to 8, each for a range of sizes; not with --step";
     subcommand(alloc, "fit", FIT)
         .arg(option(alloc, "step", "BYTES", bytes(UNIT, GREATEST_SIZE), step))?
         .arg(option(alloc, "heaps", "K", count(8), heaps))?
+        .arg(front_option(alloc))?
         .arg(log_word(alloc))
 }
 
@@ -348,12 +360,13 @@ fn size_command<'a>(alloc: Global) -> Result<Command<'a>, AllocError>
         "Most bytes in live blocks together, each block in whole units of 16, from 1 to 1073741808; else L times M in whole units";
     let align = "Greatest alignment of a request, a power of two from 1 to 536870912";
     let part =
-        "One heap of its own for requests of at most M bytes, with at most L live blocks; up to 8 times, with no other option";
+        "One heap of its own for requests of at most M bytes, with at most L live blocks; up to 8 times, with no other option but --front";
     subcommand(alloc, "size", SIZE)
         .arg(option(alloc, "blocks", "L", count(32_766), blocks))?
         .arg(option(alloc, "largest", "M", bytes(1, 1_056_964_608), largest))?
         .arg(option(alloc, "bytes", "U", bytes(1, GREATEST_SIZE), sum))?
         .arg(option(alloc, "align", "A", value_parser!(u64), align))?
+        .arg(front_option(alloc))?
         .arg(repeated(alloc, "part", "LxM", part))
 }
 

@@ -207,13 +207,19 @@ fn follow_by<R: Read + Drop>(
 }
 
 /// Tells which heaps by size serve a log that is open.
-fn parts<R: Read + Drop>(run: &Run<'_>, heaps: u32, log: Input<R>) -> Result<u8, ToolFault> {
+fn parts<R: Read + Drop>(
+    run: &Run<'_>,
+    front: u64,
+    heaps: u32,
+    log: Input<R>,
+) -> Result<u8, ToolFault> {
     let mut reader = run.reader(log.file);
     let mut errors = run.errors();
     let mut writer = run.output()?;
     let status = serve_parts(
         run.rt.alloc(),
         run.seed()?,
+        front,
         heaps,
         &mut reader,
         &mut writer,
@@ -331,10 +337,10 @@ fn size(run: &Run<'_>, bounds: Bounds) -> u8 {
 }
 
 /// Tells how large a pool is always enough for each of some heaps by size.
-fn size_parts(run: &Run<'_>, parts: &[PartBounds]) -> u8 {
+fn size_parts(run: &Run<'_>, front: u64, parts: &[PartBounds]) -> u8 {
     let mut writer = run.unbuffered();
     let mut errors = run.errors();
-    let status = serve_size_parts(parts, &mut writer, &mut errors);
+    let status = serve_size_parts(front, parts, &mut writer, &mut errors);
     run.end(status, "", "")
 }
 
@@ -365,11 +371,11 @@ fn follow_log(
 }
 
 /// Tells which heaps by size serve a log, which is opened first where it is a file.
-fn parts_log(run: &Run<'_>, heaps: u32, log: String) -> Result<u8, ToolFault> {
+fn parts_log(run: &Run<'_>, front: u64, heaps: u32, log: String) -> Result<u8, ToolFault> {
     if is_standard(&log) {
-        return parts(run, heaps, standard_input(run, log)?);
+        return parts(run, front, heaps, standard_input(run, log)?);
     }
-    parts(run, heaps, open_path(run, log, false)?)
+    parts(run, front, heaps, open_path(run, log, false)?)
 }
 
 /// Tells what is asked of an image, which is opened first where it is a file.
@@ -402,7 +408,7 @@ fn act(run: &Run<'_>, command: Command) -> Result<u8, ToolFault> {
             log,
         } => report_log(run, name, settings, log),
         Command::Ledger { report, every, log } => follow_log(run, report, every, log),
-        Command::Parts { heaps, log } => parts_log(run, heaps, log),
+        Command::Parts { front, heaps, log } => parts_log(run, front, heaps, log),
         Command::Reread { what, log } => reread(run, what, log),
         Command::Save {
             settings,
@@ -410,7 +416,7 @@ fn act(run: &Run<'_>, command: Command) -> Result<u8, ToolFault> {
             image,
         } => save_log(run, settings, log, image),
         Command::Size { bounds } => Ok(size(run, bounds)),
-        Command::SizeParts { parts } => Ok(size_parts(run, parts.as_slice())),
+        Command::SizeParts { front, parts } => Ok(size_parts(run, front, parts.as_slice())),
         Command::Image { report, image } => tell_image_file(run, report, image),
     }
 }

@@ -163,7 +163,7 @@ pub(crate) fn run_again<R: Again, W: Sink, T: Watch>(
         Rereading::SiteTimeline(stretches) => {
             run_site_timeline(alloc, seed, reader, writer, stretches)
         }
-        Rereading::Fit(step) => run_fit(alloc, reader, writer, step, watch),
+        Rereading::Fit { front, step } => run_fit(alloc, reader, writer, front, step, watch),
     }
 }
 
@@ -174,15 +174,19 @@ pub(crate) fn run_again<R: Again, W: Sink, T: Watch>(
 pub fn serve_parts<R: Source, W: Sink, E: Sink>(
     alloc: Global,
     seed: RandomState,
+    front: u64,
     heaps: u32,
     reader: &mut R,
     writer: &mut W,
     errors: &mut E,
 ) -> u8
-    ensures { EndsAs (λ outcome. RunsParts heaps outcome (course R.shown reader.old reader.new) (course W.shown writer.old writer.new))
+    ensures { EndsAs (λ outcome. RunsParts front heaps outcome (course R.shown reader.old reader.new) (course W.shown writer.old writer.new))
         result errors.old errors.new }
 {
-    end_run(errors, run_fit_heaps(alloc, seed, reader, writer, heaps))
+    end_run(
+        errors,
+        run_fit_heaps(alloc, seed, reader, writer, front, heaps),
+    )
 }
 
 /// Makes what reads its log more than once, of the log that the reader has left. Puts the line of a fault to `errors`,
@@ -217,13 +221,14 @@ pub fn serve_size<W: Sink, E: Sink>(bounds: Bounds, writer: &mut W, errors: &mut
 /// `errors`, whose own fault doesn't matter. Answers the status that the program ends with: 0, 2 for no heaps, more than 8, or a
 /// size without a class, and 3 where the writer failed.
 pub fn serve_size_parts<W: Sink, E: Sink>(
+    front: u64,
     parts: &[PartBounds],
     writer: &mut W,
     errors: &mut E,
 ) -> u8
-    ensures { EndsAs (λ outcome. RunsSizeParts parts.now W.shown outcome writer.old writer.new) result errors.old errors.new }
+    ensures { EndsAs (λ outcome. RunsSizeParts front parts.now W.shown outcome writer.old writer.new) result errors.old errors.new }
 {
-    end_run(errors, run_size_parts(writer, parts))
+    end_run(errors, run_size_parts(writer, front, parts))
 }
 
 /// Saves the heap at the end of the log that the reader has left, by `run_save`. Puts the line of a fault to

@@ -35,11 +35,15 @@ pub(crate) fn tell_bad_reading(run: &Run<'_>, status: u8, what: Rereading) {
             heap: Some(settings),
             ..
         } => tell_bad_heap(run, status, settings),
-        Rereading::Fit(Some(step)) if status == BAD_SETTINGS && run.tells_causes() => {
+        Rereading::Fit {
+            step: Some(step),
+            ..
+        } if status == BAD_SETTINGS && run.tells_causes() => {
             let _ = eprintln!(run.rt; "tlsf: --step {step} is no multiple of 16");
         }
-        Rereading::Timeline { heap: None, .. } | Rereading::SiteTimeline(_) | Rereading::Fit(_) =>
-            {}
+        Rereading::Timeline { heap: None, .. }
+        | Rereading::SiteTimeline(_)
+        | Rereading::Fit { .. } => {}
     }
 }
 

@@ -7,7 +7,7 @@ ghost use Rattle.tlsf_tool.specs.CommandLine.{HasBounds, HasNoBounds, IsNumberTe
 ghost use Rattle.tlsf_tool.specs.Asks.{Picks, Asks, MatchesGive};
 
 use crate::asked::{Command, ToolFault};
-use crate::option_values::{NO_MEMORY, option_number, size_of};
+use crate::option_values::{NO_MEMORY, option_number, size_of, size_or};
 use clap::ArgMatches;
 use mtrace_replay::{Bounds, PartBounds};
 use std::alloc::Global;
@@ -18,7 +18,7 @@ const NO_SIZE: &str =
 
 /// The text where a bound of a program stands beside a heap by size, or there are too many heaps.
 const NO_BOUNDS: &str =
-    "error: --part takes no option beside it, and stands at most 8 times\n\nFor more information, try '--help'.\n";
+    "error: --part takes no option beside it but --front, and stands at most 8 times\n\nFor more information, try '--help'.\n";
 
 /// The text where what a heap by size serves can't be read.
 const NO_PART: &str =
@@ -30,6 +30,7 @@ fn bounds_of(matches: &ArgMatches<'_>) -> Option<Bounds>
 {
     let bytes = size_of(matches, "bytes");
     let align = size_of(matches, "align");
+    let front = size_or(matches, "front", 0);
     let blocks = option_number(matches, "blocks")?;
     let largest = size_of(matches, "largest")?;
     Some(Bounds {
@@ -37,6 +38,7 @@ fn bounds_of(matches: &ArgMatches<'_>) -> Option<Bounds>
         largest,
         bytes,
         align,
+        front,
     })
 }
 
@@ -113,8 +115,9 @@ fn asked_size_parts(
     if texts.len() > 8 {
         return Err(ToolFault::usage(alloc, NO_BOUNDS));
     }
+    let front = size_or(matches, "front", 0);
     let parts = parts_of(alloc, texts)?;
-    Ok(Command::SizeParts { parts })
+    Ok(Command::SizeParts { front, parts })
 }
 
 /// What the matches of the subcommand that tells what is enough without a log ask for.

@@ -20,7 +20,7 @@ struct NumberOption {
 /// The commands with the options of a heap.
 const OF_A_HEAP: &str = "leaks, peak, walk, sites, timeline and save";
 
-static OPTIONS: [NumberOption; 11] = [
+static OPTIONS: [NumberOption; 12] = [
     NumberOption {
         name: "--pool",
         shown: "--pool <BYTES>",
@@ -56,6 +56,12 @@ static OPTIONS: [NumberOption; 11] = [
         shown: "--heaps <K>",
         commands: "fit",
         takes: Some(("a whole number from 1 to 8", "4")),
+    },
+    NumberOption {
+        name: "--front",
+        shown: "--front <BYTES>",
+        commands: "fit and size",
+        takes: Some(("a whole number from 0 to 1073741808", "8")),
     },
     NumberOption {
         name: "--every",

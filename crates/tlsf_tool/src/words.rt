@@ -9,7 +9,7 @@ ghost use Rattle.tlsf_tool.specs.Asks.{MatchesGive, WordsGive};
 use crate::asked::{Command, HeapReport, ImageReport, Rereading, ToolFault};
 use crate::command_line::tlsf_command;
 use crate::option_values::{
-    NO_COMMAND, NO_MEMORY, has_setting, heap_of, log_of, option_number, size_of, word_of,
+    NO_COMMAND, NO_MEMORY, has_setting, heap_of, log_of, option_number, size_of, size_or, word_of,
 };
 use crate::size_words::asked_size;
 use crate::word_faults::told_text;
@@ -40,7 +40,7 @@ const NO_EVERY: &str =
 
 /// The text where the step between sizes stands beside the number of heaps.
 const NO_STEP: &str =
-    "error: --heaps takes no option beside it: --step is of one heap\n\nFor more information, try '--help'.\n";
+    "error: --heaps takes no --step beside it, which is of one heap\n\nFor more information, try '--help'.\n";
 
 /// What the matches of the subcommand that tells who holds the memory ask for.
 fn asked_sites(alloc: Global, matches: &ArgMatches<'_>) -> Result<Command, ToolFault>
@@ -95,8 +95,9 @@ fn asked_parts(alloc: Global, heaps: u32, matches: &ArgMatches<'_>) -> Result<Co
     if let Some(_step) = size_of(matches, "step") {
         return Err(ToolFault::usage(alloc, NO_STEP));
     }
+    let front = size_or(matches, "front", 0);
     let log = word_of(alloc, matches, "LOG")?;
-    Ok(Command::Parts { heaps, log })
+    Ok(Command::Parts { front, heaps, log })
 }
 
 /// What the matches of the subcommand that tries sizes ask for.
@@ -106,9 +107,10 @@ fn asked_fit(alloc: Global, matches: &ArgMatches<'_>) -> Result<Command, ToolFau
     if let Some(heaps) = option_number(matches, "heaps") {
         return asked_parts(alloc, heaps, matches);
     }
+    let front = size_or(matches, "front", 0);
     let step = size_of(matches, "step");
     let log = word_of(alloc, matches, "LOG")?;
-    let what = Rereading::Fit(step);
+    let what = Rereading::Fit { front, step };
     Ok(Command::Reread { what, log })
 }
 

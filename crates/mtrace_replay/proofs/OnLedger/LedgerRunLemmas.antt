@@ -17,11 +17,11 @@ use Rattle.mtrace_replay.specs.Entry.{Entry}
 use Rattle.mtrace_replay.specs.Sites.{Site, AreSites}
 use Rattle.mtrace_replay.specs.Totals.{asked_bytes_in, first_moments}
 use Rattle.mtrace_replay.proofs.History.TotalsLemmas.{measure_is_one}
-use Rattle.mtrace_replay.specs.Moment.{ReadLine, Given, half}
-use Rattle.mtrace_replay.specs.History.{pending, entries_of}
+use Rattle.mtrace_replay.specs.Moment.{ReadLine, Given, Moment, half}
+use Rattle.mtrace_replay.specs.History.{notes, pending, entries_of}
 use Rattle.mtrace_replay.specs.Texts.{diagnostics_text, leaks_report, both_sections, total_size}
 use Rattle.mtrace_replay.specs.LedgerReplay.{unplaced, ledger_moments, ledger_history, ledger_noted, LedgerReplayed, LedgerStandsFor, totals_of}
-use Rattle.mtrace_replay.specs.RunLedger.{AreLedgerTotals, TellsLedgerSites, TellsLedger, ReportsLedger, LedgerEnds, EndsLedger}
+use Rattle.mtrace_replay.specs.RunLedger.{AreLedgerTotals, TellsLedgerSites, TellsLedger, ReportsLedger, LedgerEndsBy, EndsLedger}
 use Rattle.mtrace_replay.specs.Following.{Notes, HasReadThese, has_some, HasFollowed, StopsWanting, ReadEnds}
 use Rattle.mtrace_replay.specs.Reporting.{StopsAtWrite}
 use Rattle.mtrace_replay.proofs.Running.RunLemmas.{begins_report, reports_all}
@@ -33,15 +33,15 @@ unfolding ledger_moments
 no_notes = refl
 
 -- the lines weren't all followed, and the run ended so
-pub ledger_stops : (report : LedgerReport) (Stands : List ReadLine → Type 0) (Lacks : Type 0) (fault : RunFault) (reader_old reader_new : ReaderState) (writer_old writer_new : WriterState)
-    → ReadEnds Stands ledger_noted (Notes ledger_noted) Lacks (Err fault) reader_old reader_new writer_old writer_new → LedgerEnds report (Err fault) reader_old reader_new writer_old writer_new
-ledger_stops report Stands Lacks fault.Read reader_old reader_new writer_old writer_new ends = ends
-ledger_stops report Stands Lacks fault.Write reader_old reader_new writer_old writer_new ends =
+pub ledger_stops : (moments : List ReadLine → List Moment) (Tells : List ReadLine → List ℕ → Type 0) (Stands : List ReadLine → Type 0) (Lacks : Type 0) (fault : RunFault) (reader_old reader_new : ReaderState) (writer_old writer_new : WriterState)
+    → ReadEnds Stands (λ past. notes (moments past)) (Notes (λ past. notes (moments past))) Lacks (Err fault) reader_old reader_new writer_old writer_new → LedgerEndsBy moments Tells (Err fault) reader_old reader_new writer_old writer_new
+ledger_stops moments Tells Stands Lacks fault.Read reader_old reader_new writer_old writer_new ends = ends
+ledger_stops moments Tells Stands Lacks fault.Write reader_old reader_new writer_old writer_new ends =
     let stops = ends.write_fault in
     record { write_fault = record { lines = stops.lines; unused = stops.unused; begun = inl (stops.read, subst (λ (text : List ℕ). Begins writer_old writer_new text) stops.told stops.begun) }; writer_failed = ends.writer_failed; reader_not_failed = ends.reader_not_failed }
-ledger_stops report Stands Lacks fault.OutOfMemory reader_old reader_new writer_old writer_new ends = ends.0
-ledger_stops report Stands Lacks fault.BadSettings reader_old reader_new writer_old writer_new ends = ends
-ledger_stops report Stands Lacks fault.Image reader_old reader_new writer_old writer_new ends = ends
+ledger_stops moments Tells Stands Lacks fault.OutOfMemory reader_old reader_new writer_old writer_new ends = ends.0
+ledger_stops moments Tells Stands Lacks fault.BadSettings reader_old reader_new writer_old writer_new ends = ends
+ledger_stops moments Tells Stands Lacks fault.Image reader_old reader_new writer_old writer_new ends = ends
 
 module _ (replay : LedgerReplayed) (lines : List ReadLine) (stands : LedgerStandsFor replay (reverse lines)) where
   abbrev given_of : List Given

@@ -96,16 +96,16 @@ fitted-no verdicts size =
     rw (least-no verdicts size, safe-no verdicts size, refused-no verdicts size, length-append verdicts (serving size false)) refl
 
 -- one size more
-pub one_tried : (records many : ℕ) (whole : Bytes) (step first number count : ℕ) (verdicts : List Verdict) (verdict : Verdict) → first + count ≡ number
-    → AreVerdicts records many whole (map (λ i. i * step) (range_with_len first count)) verdicts
-    → verdict.size ≡ number * step → (left : Bytes) × IsTried (one_pool verdict.size records) many verdict.serves whole left
-    → AreVerdicts records many whole (map (λ i. i * step) (range_with_len first (count + 1))) (verdicts ++ verdict ∷ [])
-one_tried records many whole step first number count verdicts verdict sum are size tried = record {
+pub one_tried : (front records many : ℕ) (whole : Bytes) (step first number count : ℕ) (verdicts : List Verdict) (verdict : Verdict) → first + count ≡ number
+    → AreVerdicts front records many whole (map (λ i. i * step) (range_with_len first count)) verdicts
+    → verdict.size ≡ number * step → (left : Bytes) × IsTried front (one_pool verdict.size records) many verdict.serves whole left
+    → AreVerdicts front records many whole (map (λ i. i * step) (range_with_len first (count + 1))) (verdicts ++ verdict ∷ [])
+one_tried front records many whole step first number count verdicts verdict sum are size tried = record {
   sizes_are = map-append (λ (v : Verdict). v.size) verdicts (verdict ∷ [])
       ∙ ap (λ sizes. sizes ++ verdict.size ∷ []) are.sizes_are
       ∙ ap (λ n. map (λ i. i * step) (range_with_len first count) ++ n ∷ []) size
       ∙ sym (map-range_with_len_more (λ i. i * step) first count number sum);
-  each = AllByRecursion-append (λ (v : Verdict). (left : Bytes) × IsTried (one_pool v.size records) many v.serves whole left) verdicts (verdict ∷ []) are.each (tried, tt);
+  each = AllByRecursion-append (λ (v : Verdict). (left : Bytes) × IsTried front (one_pool v.size records) many v.serves whole left) verdicts (verdict ∷ []) are.each (tried, tt);
 }
 
 -- one pool of a whole number of units, and enough records, are no bad settings
@@ -134,11 +134,11 @@ pub some_units : (number step : ℕ) → 0 < number → unit ≤ step → unit �
 some_units number step some units = omega (arith, units, mul-le-mul_right step some)
 
 -- the verdicts of sizes, and of others behind them
-pub more_verdicts : (records many : ℕ) (whole : Bytes) (tried more : List ℕ) (verdicts others : List Verdict) → AreVerdicts records many whole tried verdicts → AreVerdicts records many whole more others
-    → AreVerdicts records many whole (tried ++ more) (verdicts ++ others)
-more_verdicts records many whole tried more verdicts others are too = record {
+pub more_verdicts : (front records many : ℕ) (whole : Bytes) (tried more : List ℕ) (verdicts others : List Verdict) → AreVerdicts front records many whole tried verdicts → AreVerdicts front records many whole more others
+    → AreVerdicts front records many whole (tried ++ more) (verdicts ++ others)
+more_verdicts front records many whole tried more verdicts others are too = record {
   sizes_are = map-append (λ (v : Verdict). v.size) verdicts others ∙ ap (λ sizes. sizes ++ map (λ (v : Verdict). v.size) others) are.sizes_are ∙ ap (λ sizes. tried ++ sizes) too.sizes_are;
-  each = AllByRecursion-append (λ (v : Verdict). (left : Bytes) × IsTried (one_pool v.size records) many v.serves whole left) verdicts others are.each too.each;
+  each = AllByRecursion-append (λ (v : Verdict). (left : Bytes) × IsTried front (one_pool v.size records) many v.serves whole left) verdicts others are.each too.each;
 }
 
 none_mapped : (found : Option Verdict) → option_map (λ (v : Verdict). v.size) found ≡ None → found ≡ None
@@ -167,14 +167,14 @@ no_range step now first times is few =
 abbrev pub sure_of : Needs → Option ℕ
 sure_of needs = sure_pool needs.most needs.most_rounded needs.class_size
 
-module _ (step : Option ℕ) (lines : List ReadLine) (whole : Bytes) (totals : Totals) (summed : AreTotals (started greatest_settings) (history greatest_settings lines) totals)
+module _ (front : ℕ) (step : Option ℕ) (lines : List ReadLine) (whole : Bytes) (totals : Totals) (summed : AreTotals (started greatest_settings) (history greatest_settings lines) totals)
     (needs : Needs) (are : AreNeeds (started greatest_settings) (reverse lines) needs) where
   -- what is told of the sizes, by how many lines the greatest pool refuses
   abbrev Tells : (refused times : ℕ) → List ℕ → Type 0
-  Tells refused times text = TellsSizes refused (step_of step totals.peak_bytes) totals.peak_bytes needs.most totals.lines
+  Tells refused times text = TellsSizes front refused (step_of step totals.peak_bytes) totals.peak_bytes needs.most totals.lines
       (sure_pool needs.most needs.most_rounded (greatest_class (started greatest_settings) (reverse lines))) whole times text
 
-  told : (times : ℕ) (rest : List ℕ) → Tells totals.refused times rest → TellsFit step lines whole times (greatest_line totals ++ most_line needs.most ++ rest)
+  told : (times : ℕ) (rest : List ℕ) → Tells totals.refused times rest → TellsFit front step lines whole times (greatest_line totals ++ most_line needs.most ++ rest)
   told times rest tells = record {
     totals = totals;
     summed = summed;
@@ -188,8 +188,8 @@ module _ (step : Option ℕ) (lines : List ReadLine) (whole : Bytes) (totals : T
   }
 
   -- the text of a log that the greatest pool doesn't serve
-  pub tells_untried : 0 < totals.refused → TellsFit step lines whole 0 (greatest_line totals ++ most_line needs.most ++ untried_lines ++ refused_line totals.refused)
-  tells_untried some = subst (TellsFit step lines whole 0) (sym (append_assoc (greatest_line totals ++ most_line needs.most) untried_lines (refused_line totals.refused)))
+  pub tells_untried : 0 < totals.refused → TellsFit front step lines whole 0 (greatest_line totals ++ most_line needs.most ++ untried_lines ++ refused_line totals.refused)
+  tells_untried some = subst (TellsFit front step lines whole 0) (sym (append_assoc (greatest_line totals ++ most_line needs.most) untried_lines (refused_line totals.refused)))
       (told 0 (untried_lines ++ refused_line totals.refused) (by_refused totals.refused some))
     where
       by_refused : (refused : ℕ) → 0 < refused → Tells refused 0 (untried_lines ++ refused_line refused)
@@ -198,8 +198,8 @@ module _ (step : Option ℕ) (lines : List ReadLine) (whole : Bytes) (totals : T
 
   -- the text of a log that it serves
   pub tells_fitted : totals.refused ≡ 0 → (verdicts : List Verdict)
-      → TriesRanges (enough_records needs.most) totals.lines (step_of step totals.peak_bytes) (first_number (step_of step totals.peak_bytes) totals.peak_bytes) whole verdicts
-      → TellsFit step lines whole (length verdicts) (greatest_line totals ++ most_line needs.most ++ fitted_lines (enough_records needs.most) (fitted verdicts) (sure_of needs))
+      → TriesRanges front (enough_records needs.most) totals.lines (step_of step totals.peak_bytes) (first_number (step_of step totals.peak_bytes) totals.peak_bytes) whole verdicts
+      → TellsFit front step lines whole (length verdicts) (greatest_line totals ++ most_line needs.most ++ fitted_lines (enough_records needs.most) (fitted verdicts) (sure_of needs))
   tells_fitted none verdicts tries =
       let text : Option ℕ → List ℕ = fitted_lines (enough_records needs.most) (fitted verdicts) in
       told (length verdicts) (text (sure_of needs)) (subst (λ refused. Tells refused (length verdicts) (text (sure_of needs))) (sym none)

@@ -1,10 +1,10 @@
 -- What lines need of a pool, with one line more, and at the end of a run.
-use Rattle.std.proofs.Common.{◌≡◌, ◌||◌, ℕ, ◌+◌, ◌≤◌, Bool, Option, None, List, [], ◌∷◌, length, refl, sym, ap, ◌∙◌, subst, arith}
+use Rattle.std.proofs.Common.{◌≡◌, ◌||◌, ℕ, ◌+◌, ◌≤◌, Bool, Option, None, List, [], ◌∷◌, length, reverse, refl, sym, ap, ◌∙◌, subst, arith}
 use Rattle.std.specs.Prelude.{Some, sum_by, max, nat_lt, if◌then◌else◌}
 use Rattle.tlsf_heap.specs.Pools.{most_records}
 use Rattle.tlsf_class.specs.Classes.{unit}
 use Rattle.mtrace_log.specs.Shown.{ReaderState, WriterState}
-use Rattle.mtrace_log.specs.Output.{Wrote}
+use Rattle.mtrace_log.specs.Output.{Wrote, Begins}
 use Rattle.mtrace_replay.specs.declared.heap.settings.Settings.{Settings}
 use Rattle.mtrace_replay.specs.declared.runs.needs.Needs.{Needs}
 use Rattle.mtrace_replay.specs.declared.runs.needs.NeedsReplay.{NeedsReplay}
@@ -13,18 +13,22 @@ use Rattle.mtrace_replay.specs.declared.runs.status.Status.{Status}
 use Rattle.mtrace_replay.specs.declared.runs.status.Status.TheVariants.{Clean, Found}
 use Rattle.mtrace_replay.specs.Started.{started}
 use Rattle.mtrace_replay.specs.Moment.{ReadLine, Given, Moment, half}
-use Rattle.mtrace_replay.specs.History.{next_moment, moments, held, pending, content_after}
+use Rattle.mtrace_replay.specs.History.{next_moment, moments, notes, held, pending, content_after}
 use Rattle.mtrace_replay.specs.Totals.{blocks_in, asked_bytes_in, rounded_bytes_in, is_served, Measures, IsMost}
 use Rattle.mtrace_replay.specs.Asked.{bytes_asked, class_asked, greater_class}
-use Rattle.mtrace_replay.specs.Replay.{Replayed, StandsFor, entries, heap_notes}
-use Rattle.mtrace_replay.specs.Following.{Notes, has_some, HasFollowed}
+use Rattle.mtrace_replay.specs.Replay.{Replayed, StandsFor, entries}
+use Rattle.mtrace_replay.specs.declared.runs.fronted.Fronted.{Fronted}
+use Rattle.mtrace_replay.specs.Fronted.{fronted as fronted_lines, fronted_moments, fronted_rules}
+use Rattle.mtrace_replay.specs.Reporting.{TellsNothing, Reports, StopsAtWrite}
+use Rattle.mtrace_replay.specs.Following.{Notes, HasReadUpTo, has_some, HasFollowed}
 use Rattle.mtrace_replay.specs.Needs.{of_one, bytes_of_block, Exchanges, BehindExchange, AreNeeds, needs_rules, EndsWithNeeds}
 use Rattle.mtrace_replay.proofs.History.TotalsLemmas.{measure_is_one, none_measured, most_none, most_goes_on}
 use Rattle.mtrace_replay.proofs.OnHeap.HeldFew.{rounded_few}
 use Rattle.mtrace_replay.proofs.History.GivenSize.{given_size, given_vacant}
 use Rattle.mtrace_replay.proofs.History.HeldSums.{freed_of, sum-freed, sum-changes, blocks_summed, bytes_summed, rounded_summed}
 use Rattle.mtrace_replay.proofs.History.TotalsStep.{served_more}
-use Rattle.mtrace_replay.proofs.Running.RunLemmas.{end_text, followed_also, ends_at}
+use Rattle.mtrace_replay.proofs.Running.RunLemmas.{end_text, begins_report, reports_all}
+use Rattle.mtrace_replay.proofs.Running.FrontedLemmas.{half_fronted}
 
 -- what no line needs
 pub needs_none : (settings : Settings) → AreNeeds (started settings) [] (record { most = 0; rounded = 0; most_rounded = 0; class_size = Some unit })
@@ -110,22 +114,37 @@ module _ (old new : Replayed) (settings : Settings) (past : List ReadLine) (line
           ∙ ap (λ size. if is_served now then greater_class size (class_asked line) else size) are.class;
     }
 
--- the needs aside, the replay alone followed the lines
-abbrev pub alone : (settings : Settings) (replay : NeedsReplay) (has_diagnostics : Bool) (reader_old reader_new : ReaderState) (writer_old writer_new : WriterState)
-    → HasFollowed (needs_rules.Stands settings replay) (heap_notes settings) (Notes (heap_notes settings)) has_diagnostics reader_old reader_new writer_old writer_new
-    → HasFollowed (λ past. StandsFor replay.replay settings past) (heap_notes settings) (Notes (heap_notes settings)) has_diagnostics reader_old reader_new writer_old writer_new
-alone settings replay has_diagnostics reader_old reader_new writer_old writer_new done =
-    followed_also (needs_rules.Stands settings replay) (λ past. StandsFor replay.replay settings past) (heap_notes settings) (Notes (heap_notes settings)) has_diagnostics reader_old reader_new writer_old writer_new (λ past both. both.0) done
+-- all lines were followed, whose requests have so many bytes more
+module _ (front : ℕ) (settings : Settings) (fronted : Fronted NeedsReplay) (has_diagnostics : Bool) (reader_old reader_new : ReaderState) (writer_old writer_middle writer_new : WriterState)
+    (done : HasFollowed ((fronted_rules needs_rules).Stands (front, settings) fronted) (λ past. notes (fronted_moments front settings past)) (Notes (λ past. notes (fronted_moments front settings past)))
+    has_diagnostics reader_old reader_new writer_old writer_middle) where
+  abbrev pub its : Replayed
+  its = fronted.replay.replay
 
--- all was written of a run without a report
-pub ends_with_needs : (settings : Settings) (replay : NeedsReplay) (end : Replayed) (has_diagnostics : Bool) (status : Status) (reader_old reader_new : ReaderState) (writer_old writer_middle writer_new : WriterState)
-    → HasFollowed (needs_rules.Stands settings replay) (heap_notes settings) (Notes (heap_notes settings)) has_diagnostics reader_old reader_new writer_old writer_middle
-    → Wrote writer_middle writer_new (end_text Nothing replay.replay)
-    → status ≡ (if has_diagnostics || (has_some (half replay.replay.totals.lines replay.replay.pending) || has_some (entries replay.replay)) then Found else Clean)
-    → end ≡ replay.replay → replay.replay.content.records ≡ settings.records → EndsWithNeeds settings status (record { replay = end; needs = replay.needs }) reader_old reader_new writer_old writer_new
-unfolding ends_at
-ends_with_needs settings replay end has_diagnostics status reader_old reader_new writer_old writer_middle writer_new done wrote is kept records = record {
-  ends = ends_at settings replay.replay end has_diagnostics status reader_old reader_new writer_old writer_middle writer_new
-      (alone settings replay has_diagnostics reader_old reader_new writer_old writer_middle done) wrote is kept records;
-  needs = done.stands.1;
-}
+  abbrev last_is : half its.totals.lines its.pending ≡ half (length done.lines) (pending (reverse done.lines))
+  last_is = half_fronted front done.lines its.totals.lines its.pending done.stands.1.0.lines_are done.stands.1.0.pending_is
+
+  -- the writer failed at the end
+  pub needs_write : Begins writer_middle writer_new (end_text Nothing its) → StopsAtWrite HasReadUpTo (fronted_moments front settings) TellsNothing reader_old reader_new writer_old writer_new
+  needs_write begins =
+      begins_report ((fronted_rules needs_rules).Stands (front, settings) fronted) (fronted_moments front settings) TellsNothing has_diagnostics reader_old reader_new writer_old writer_middle writer_new done
+      (half its.totals.lines its.pending) last_is [] refl HasReadUpTo begins
+
+  -- all was written
+  abbrev pub needs_all : (status : Status) → Wrote writer_middle writer_new (end_text Nothing its)
+      → status ≡ (if has_diagnostics || (has_some (half its.totals.lines its.pending) || has_some (entries its)) then Found else Clean)
+      → Reports (fronted_moments front settings) TellsNothing status reader_old reader_new writer_old writer_new
+  needs_all status wrote is =
+      reports_all ((fronted_rules needs_rules).Stands (front, settings) fronted) (fronted_moments front settings) TellsNothing has_diagnostics reader_old reader_new writer_old writer_middle writer_new done
+      (half its.totals.lines its.pending) last_is [] refl its.given done.stands.1.0.held (entries its) refl status wrote is
+
+  -- and what the lines need
+  pub ends_with_needs : (end : Replayed) (status : Status) → Wrote writer_middle writer_new (end_text Nothing its)
+      → status ≡ (if has_diagnostics || (has_some (half its.totals.lines its.pending) || has_some (entries its)) then Found else Clean)
+      → end ≡ its → its.content.records ≡ settings.records → EndsWithNeeds front settings status (record { replay = end; needs = fronted.replay.needs }) reader_old reader_new writer_old writer_new
+  ends_with_needs end status wrote is kept records = record {
+    reports = needs_all status wrote is;
+    stands = subst (λ (r : Replayed). StandsFor r settings (fronted_lines front (reverse done.lines))) (sym kept) done.stands.1.0;
+    records = ap (λ (r : Replayed). r.content.records) kept ∙ records;
+    needs = done.stands.1.1;
+  }

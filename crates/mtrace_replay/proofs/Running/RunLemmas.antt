@@ -25,9 +25,8 @@ use Rattle.mtrace_replay.specs.declared.runs.report.Report.{Report}
 use Rattle.mtrace_replay.specs.declared.runs.report.Report.TheVariants.{Nothing}
 use Rattle.mtrace_replay.specs.Following.{Notes, HasReadUpTo, has_some, noted_text, HasFollowed, StopsWriting, ReadEnds}
 use Rattle.mtrace_replay.specs.Reporting.{all_diagnostics, Reports, StopsAtWrite}
-use Rattle.mtrace_replay.specs.Run.{TellsReport, ReportsOnHeap, Runs, HoldsAtEnd, EndsAt}
+use Rattle.mtrace_replay.specs.Run.{TellsReport, ReportsOnHeap, RunsBy, HoldsAtEnd, EndsAt}
 use Rattle.mtrace_replay.specs.Course.{Course, shown_before, shown_after}
-use Rattle.mtrace_replay.specs.Settings.{are_bad}
 use Rattle.mtrace_replay.specs.declared.runs.status.RunFault.{RunFault}
 use Rattle.mtrace_replay.specs.declared.runs.status.RunFault.TheVariants as fault
 use Rattle.mtrace_replay.proofs.History.Moments.{moments-none, moments-line}
@@ -163,49 +162,47 @@ no_notes settings = ap notes (moments-none (started settings))
 pub notes_more : (settings : Settings) (line : ReadLine) (past : List ReadLine) → heap_notes settings (line ∷ past) ≡ heap_notes settings past ++ added_diagnostics settings line past
 notes_more settings line past = ap notes (moments-line (started settings) line past)
 
--- the writer failed at a line's diagnostics
-pub stops_at_write : (report : Report) (settings : Settings) (Stands : List ReadLine → Type 0) (replay : Replayed) (reader_old reader_new : ReaderState) (writer_old writer_new : WriterState)
-    → ((past : List ReadLine) → Stands past → StandsFor replay settings past) → StopsWriting Stands (Notes (heap_notes settings)) reader_old reader_new writer_old writer_new
-    → StopsAtWrite HasReadUpTo (moments (started settings)) (TellsReport report settings) reader_old reader_new writer_old writer_new
-stops_at_write report settings Stands replay reader_old reader_new writer_old writer_new also stops =
-    let lines = stops.lines in
-    let stands = also (reverse lines) stops.stands in
-    let notes = heap_notes settings (reverse lines) in
-    let last = half (length lines) (pending (reverse lines)) in
-    let told = report_text report (entries replay) replay.totals replay.content in
-    let begun = subst (λ (text : List ℕ). Begins writer_old writer_new text) stops.told stops.begun in
-    record {
-      lines = lines;
-      unused = stops.unused;
-      begun = elim stops.read [
-        | inl reading ↦ inl (reading, begun)
-        | inr all ↦ inr (record {
-          read = all;
-          text = told;
-          tells = report_tells report settings replay lines stands;
-          begun = subst (λ (text : List ℕ). Begins writer_old writer_new text) (sym (text_is notes last told)) (Begins-longer writer_old writer_new (diagnostics_text notes) (diagnostics_text last ++ told) begun);
-        })
-      ];
-    }
+-- the lines weren't all followed, of which a replay would tell this text
+module _ (moments : List ReadLine → List Moment) (Tells : List ReadLine → List ℕ → Type 0) (Stands : List ReadLine → Type 0) (told : List ℕ) (tells : (lines : List ReadLine) → Stands (reverse lines) → Tells lines told) where
+  -- the writer failed at a line's diagnostics
+  stops_at_write : (reader_old reader_new : ReaderState) (writer_old writer_new : WriterState) → StopsWriting Stands (Notes (λ past. notes (moments past))) reader_old reader_new writer_old writer_new
+      → StopsAtWrite HasReadUpTo moments Tells reader_old reader_new writer_old writer_new
+  stops_at_write reader_old reader_new writer_old writer_new stops =
+      let lines = stops.lines in
+      let noted = notes (moments (reverse lines)) in
+      let last = half (length lines) (pending (reverse lines)) in
+      let begun = subst (λ (text : List ℕ). Begins writer_old writer_new text) stops.told stops.begun in
+      record {
+        lines = lines;
+        unused = stops.unused;
+        begun = elim stops.read [
+          | inl reading ↦ inl (reading, begun)
+          | inr all ↦ inr (record {
+            read = all;
+            text = told;
+            tells = tells lines stops.stands;
+            begun = subst (λ (text : List ℕ). Begins writer_old writer_new text) (sym (text_is noted last told)) (Begins-longer writer_old writer_new (diagnostics_text noted) (diagnostics_text last ++ told) begun);
+          })
+        ];
+      }
 
--- the lines weren't all followed, and the run ended so
-pub run_stops : {A B : Type 0} (report : Report) (settings : Settings) (Stands : List ReadLine → Type 0) (replay : Replayed) → ((past : List ReadLine) → Stands past → StandsFor replay settings past)
-    → (stop : RunFault) (reader : Course A ReaderState) (writer : Course B WriterState) → IsErrOf {T = Status} (Err fault.Read) fault.BadSettings ↔ IsTrue (are_bad settings)
-    → ReadEnds Stands (heap_notes settings) (Notes (heap_notes settings)) ⊥ (Err stop) (shown_before reader) (shown_after reader) (shown_before writer) (shown_after writer)
-    → (shown_after reader).whole ≡ (shown_before reader).whole → Runs report settings (Err stop) reader writer
-run_stops report settings Stands replay also fault.Read reader writer bad ends whole = record { ends = ends; bad_settings = bad; whole = whole }
-run_stops report settings Stands replay also fault.Write reader writer bad ends whole = record {
-  ends = record {
-    write_fault = stops_at_write report settings Stands replay (shown_before reader) (shown_after reader) (shown_before writer) (shown_after writer) also ends.write_fault;
-    writer_failed = ends.writer_failed;
-    reader_not_failed = ends.reader_not_failed;
-  };
-  bad_settings = ((λ is. absurd (cc)), (λ is. absurd (let read = bad.1 is in cc)));
-  whole = whole;
-}
-run_stops report settings Stands replay also fault.OutOfMemory reader writer bad ends whole = absurd ends.1
-run_stops report settings Stands replay also fault.BadSettings reader writer bad ends whole = absurd ends
-run_stops report settings Stands replay also fault.Image reader writer bad ends whole = absurd ends
+  -- the run ended so
+  pub run_stops : {A B : Type 0} (is_bad : Bool) (stop : RunFault) (reader : Course A ReaderState) (writer : Course B WriterState) → IsErrOf {T = Status} (Err fault.Read) fault.BadSettings ↔ IsTrue is_bad
+      → ReadEnds Stands (λ past. notes (moments past)) (Notes (λ past. notes (moments past))) ⊥ (Err stop) (shown_before reader) (shown_after reader) (shown_before writer) (shown_after writer)
+      → (shown_after reader).whole ≡ (shown_before reader).whole → RunsBy moments Tells is_bad (Err stop) reader writer
+  run_stops is_bad fault.Read reader writer bad ends whole = record { ends = ends; bad_settings = bad; whole = whole }
+  run_stops is_bad fault.Write reader writer bad ends whole = record {
+    ends = record {
+      write_fault = stops_at_write (shown_before reader) (shown_after reader) (shown_before writer) (shown_after writer) ends.write_fault;
+      writer_failed = ends.writer_failed;
+      reader_not_failed = ends.reader_not_failed;
+    };
+    bad_settings = ((λ is. absurd (cc)), (λ is. absurd (let read = bad.1 is in cc)));
+    whole = whole;
+  }
+  run_stops is_bad fault.OutOfMemory reader writer bad ends whole = absurd ends.1
+  run_stops is_bad fault.BadSettings reader writer bad ends whole = absurd ends
+  run_stops is_bad fault.Image reader writer bad ends whole = absurd ends
 
 module _ (report : Report) (settings : Settings) (replay : Replayed) (has_diagnostics : Bool) (reader_old reader_new : ReaderState) (writer_old writer_middle writer_new : WriterState)
     (done : HasFollowed (λ past. StandsFor replay settings past) (heap_notes settings) (Notes (heap_notes settings)) has_diagnostics reader_old reader_new writer_old writer_middle) where

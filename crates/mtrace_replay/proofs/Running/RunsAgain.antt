@@ -11,14 +11,16 @@ use Rattle.mtrace_replay.specs.declared.runs.status.RunFault.TheVariants.{Read, 
 use Rattle.mtrace_replay.specs.Course.{Course, course, shown_before, shown_after}
 use Rattle.mtrace_replay.specs.Settings.{are_bad}
 use Rattle.mtrace_replay.specs.Moment.{ReadLine}
-use Rattle.mtrace_replay.specs.Run.{RunEnds}
+use Rattle.mtrace_replay.specs.Started.{started}
+use Rattle.mtrace_replay.specs.History.{moments}
+use Rattle.mtrace_replay.specs.Run.{TellsReport, RunEndsBy}
 use Rattle.mtrace_replay.specs.Timeline.{is_bad_stretches}
 use Rattle.mtrace_replay.specs.Reporting.{PutsAndFlushes}
 use Rattle.mtrace_replay.specs.Again.{Follows, RunsAgain}
 
 -- nothing was done
 pub again_undone : {R W : Type 0} (settings : Settings) (After : List ReadLine → Result Status RunFault → Course R ReaderState → Course W WriterState → Type 0)
-    (reads : R → ReaderState) (writes : W → WriterState) (fault : RunFault) (reader : R) (writer : W) → RunEnds Nothing settings (Err fault) (course reads reader reader) (course writes writer writer)
+    (reads : R → ReaderState) (writes : W → WriterState) (fault : RunFault) (reader : R) (writer : W) → RunEndsBy (moments (started settings)) (TellsReport Nothing settings) (Err fault) (course reads reader reader) (course writes writer writer)
     → IsErrOf {T = Status} (Err fault) BadSettings ↔ IsTrue (are_bad settings) → RunsAgain settings After (Err fault) (course reads reader reader) (course writes writer writer)
 again_undone settings After reads writes fault reader writer ends bad = record {
   run = Err fault;

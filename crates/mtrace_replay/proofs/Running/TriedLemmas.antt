@@ -8,24 +8,34 @@ use Rattle.mtrace_log.specs.Trace.{HasNotFailed}
 use Rattle.mtrace_log.specs.declared.call.Call.{Call}
 use Rattle.mtrace_log.specs.declared.call.Call.TheVariants.{Gave, Failed, Began, Ended as ToldEnd}
 use Rattle.mtrace_replay.specs.declared.heap.settings.Settings.{Settings}
-use Rattle.mtrace_replay.specs.Replay.{Replayed, StandsFor}
+use Rattle.mtrace_replay.specs.declared.runs.fronted.Fronted.{Fronted}
+use Rattle.mtrace_replay.specs.Started.{started}
+use Rattle.mtrace_replay.specs.History.{moments}
+use Rattle.mtrace_replay.specs.Totals.{is_refused}
+use Rattle.mtrace_replay.specs.Fronted.{fronted, fronted_rules}
+use Rattle.mtrace_replay.specs.Replay.{Replayed, heap_rules}
 use Rattle.mtrace_log.specs.Shown.{ReaderState}
 use Rattle.mtrace_replay.specs.Again.{HasReadFirst, StopsEarly, FailsAgain}
-use Rattle.mtrace_replay.specs.RunFit.{IsTried, is_beginning, HasBegun}
+use Rattle.mtrace_replay.specs.RunFit.{refusals, IsTried, is_beginning, HasBegun}
 use Rattle.mtrace_replay.specs.Replaying.{IsFollowed}
 use Rattle.mtrace_replay.proofs.Running.AgainLemmas.{read_first, has_begun}
+use Rattle.mtrace_replay.proofs.Running.FrontedLemmas.{fronted_reversed}
 
--- no line is refused
-pub tried_served : (many : ℕ) (settings : Settings) (progress : Progress) (replay : Replayed) (start now : ReaderState) → (so_far : IsFollowed (StandsFor replay settings) progress start now)
-    → length progress.held ≤ most_asked → progress.count ≡ many → replay.totals.refused ≡ 0 → IsTried settings many true start.left now.left
-tried_served many settings progress replay start now so_far few all none =
-    (so_far.lines, subst (λ n. HasReadFirst n start.left now.left so_far.lines) all (read_first (StandsFor replay settings) progress start now so_far few), sym so_far.stands.totals.refused ∙ none)
+module _ (front many : ℕ) (settings : Settings) (progress : Progress) (tried : Fronted Replayed) (start now : ReaderState) (so_far : IsFollowed ((fronted_rules heap_rules).Stands (front, settings) tried) progress start now)
+    (few : length progress.held ≤ most_asked) where
+  was_read : HasReadFirst progress.count start.left now.left so_far.lines
+  was_read = read_first ((fronted_rules heap_rules).Stands (front, settings) tried) progress start now so_far few
 
--- a line is refused
-pub tried_refused : (many : ℕ) (settings : Settings) (progress : Progress) (replay : Replayed) (start now : ReaderState) → IsFollowed (StandsFor replay settings) progress start now
-    → length progress.held ≤ most_asked → progress.count ≤ many → 0 < replay.totals.refused → IsTried settings many false start.left now.left
-tried_refused many settings progress replay start now so_far few within some =
-    (so_far.lines, progress.count, within, read_first (StandsFor replay settings) progress start now so_far few, subst (λ n. 0 < n) so_far.stands.totals.refused some)
+  refused_are : tried.replay.totals.refused ≡ refusals settings (fronted front so_far.lines)
+  refused_are = so_far.stands.1.totals.refused ∙ ap (λ past. count_by is_refused (moments (started settings) past)) (fronted_reversed front so_far.lines)
+
+  -- no line is refused
+  pub tried_served : progress.count ≡ many → tried.replay.totals.refused ≡ 0 → IsTried front settings many true start.left now.left
+  tried_served all none = (so_far.lines, subst (λ n. HasReadFirst n start.left now.left so_far.lines) all was_read, sym refused_are ∙ none)
+
+  -- a line is refused
+  pub tried_refused : progress.count ≤ many → 0 < tried.replay.totals.refused → IsTried front settings many false start.left now.left
+  tried_refused within some = (so_far.lines, progress.count, within, was_read, subst (λ n. 0 < n) refused_are some)
 
 gave_no_failure : (counts : List ℕ) → AllByRecursion (λ call. call ≢ Failed) (map Gave counts)
 gave_no_failure [] = tt

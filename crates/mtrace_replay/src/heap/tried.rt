@@ -7,6 +7,7 @@ ghost use Rattle.mtrace_replay.specs.RunFit.{IsTried, TriesLog};
 ghost use Rattle.mtrace_replay.specs.declared.heap.settings.Settings.{Settings};
 
 use crate::heap::replay::Replay;
+use crate::runs::fronted::Fronted;
 use crate::runs::reading::Reading;
 use mtrace_log::{Failed, Source};
 use tlsf_heap::Heap;
@@ -19,22 +20,22 @@ use tlsf_heap::Heap;
 /// `Failed` where the reader fails, or has fewer lines.
 pub(crate) fn is_served<R: Source>(
     reader: &mut R,
-    replay: &mut Replay<Heap>,
+    tried: &mut Fronted<Replay<Heap>>,
     many: u64,
 ) -> Result<bool, Failed>
-    requires start { replay.old.totals.lines ≡ 0 }
-    requires none { replay.old.totals.refused ≡ 0 }
-    ensures { TriesLog (λ serves. (settings : Settings) → StandsFor replay.old settings [] → IsTried settings many serves (R.shown reader.old).left (R.shown reader.new).left)
-        ((settings : Settings) → StandsFor replay.old settings [] → StopsEarly many (R.shown reader.old) (R.shown reader.new))
-        0 replay.old.content.records result (R.shown reader.old) (R.shown reader.new) replay.new }
+    requires start { tried.old.replay.totals.lines ≡ 0 }
+    requires none { tried.old.replay.totals.refused ≡ 0 }
+    ensures { TriesLog (λ serves. (settings : Settings) → StandsFor tried.old.replay settings [] → IsTried tried.old.front settings many serves (R.shown reader.old).left (R.shown reader.new).left)
+        ((settings : Settings) → StandsFor tried.old.replay settings [] → StopsEarly many (R.shown reader.old) (R.shown reader.new))
+        0 tried.old.replay.content.records result (R.shown reader.old) (R.shown reader.new) tried.new.replay }
 {
     let mut reading = Reading::new();
     for _ in 0..many {
-        match reading.follow_next(reader, replay) {
+        match reading.follow_next(reader, tried) {
             Ok(()) => {}
             Err(_) => return Err(Failed),
         }
-        if replay.totals().refused > 0 {
+        if tried.replay.totals().refused > 0 {
             reading.holds_few();
             return Ok(false);
         }

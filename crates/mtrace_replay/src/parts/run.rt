@@ -17,6 +17,7 @@ use super::replay::CountedReplay;
 use super::span::Span;
 use super::text::{PartOf, put_no_parts, put_parts};
 use crate::runs::flush::flush_behind;
+use crate::runs::fronted::Fronted;
 use crate::runs::status::{RunFault, Status};
 use arrayvec::ArrayVec;
 use mtrace_log::{Sink, Source};
@@ -88,7 +89,8 @@ fn tell_parts<W: Sink>(
 /// Reads a log of mtrace(3) and follows it without a heap, so that each block that is asked for is given. Writes what is wrong with
 /// its lines, each as it comes, and flushes the writer. Then writes which heaps, each for a range of sizes, serve the log: their
 /// blocks are all of one size, and no more of them are held at once. There are at most `heaps` of them, and their bytes are the
-/// least. The writer is flushed once more.
+/// least. Each request has `front` bytes more than the log tells, but at most 2^64 - 1, as in `run_fit`. The writer is flushed once
+/// more.
 ///
 /// Memory is taken for each address that is held, for each location that is named, and at the end for the heaps.
 ///
@@ -103,18 +105,20 @@ pub fn run_fit_heaps<R: Source, W: Sink>(
     seed: RandomState,
     reader: &mut R,
     writer: &mut W,
+    front: u64,
     heaps: u32,
 ) -> Result<Status, RunFault>
-    ensures { RunsParts heaps result (course R.shown reader.old reader.new) (course W.shown writer.old writer.new) }
+    ensures { RunsParts front heaps result (course R.shown reader.old reader.new) (course W.shown writer.old writer.new) }
 {
     if heaps == 0 || heaps > 8 {
         return Err(RunFault::BadSettings);
     }
-    let Ok(mut replay) = CountedReplay::new(alloc, seed) else {
+    let Ok(replay) = CountedReplay::new(alloc, seed) else {
         return Err(RunFault::OutOfMemory);
     };
-    match follow_counted(reader, writer, &mut replay) {
-        Ok(status) => tell_parts(alloc, writer, &replay, heaps, status),
+    let mut fronted = Fronted { replay, front };
+    match follow_counted(reader, writer, &mut fronted) {
+        Ok(status) => tell_parts(alloc, writer, &fronted.replay, heaps, status),
         Err(fault) => Err(fault),
     }
 }

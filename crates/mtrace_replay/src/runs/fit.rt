@@ -21,7 +21,8 @@ use crate::runs::enough::sure_records;
 use crate::runs::fit_text::{fitted_text, untried_text};
 use crate::runs::fitted::Fitted;
 use crate::runs::flush::flush_behind;
-use crate::runs::needs::{Needs, NeedsRun, replay_needs};
+use crate::runs::fronted::Fronted;
+use crate::runs::needs::{Needs, NeedsReplay, NeedsRun, replay_needs};
 use crate::runs::status::{RunFault, Status};
 use crate::runs::watch::Watch;
 use mtrace_log::{Again, Failed, Sink, put_all};
@@ -72,45 +73,45 @@ fn enough_records(most: u64) -> u32
     sure_records(most.min(most_records)).min(most_records) as u32
 }
 
-/// Begins the log again, and tries its first lines, this many, on one pool of this many bytes, with this many records: whether
-/// no line is refused.
+/// What all sizes are tried with: how many bytes more each request has, the records, and how many lines.
+#[derive(Clone, Copy)]
+struct Trial {
+    front: u64,
+    records: u32,
+    many: u64,
+}
+
+/// Begins the log again, and tries its first lines on one pool of this many bytes: whether no line is refused.
 ///
 /// # Errors
 ///
 /// `Failed` where the reader doesn't begin again, fails, or has fewer lines then.
 fn try_size<R: Again>(
     reader: &mut R,
-    replay: &mut Replay<Heap>,
+    tried: &mut Fronted<Replay<Heap>>,
     size: u64,
-    records: u32,
-    many: u64,
+    trial: Trial,
 ) -> Result<bool, Failed>
-    requires good { are_bad (one_pool size records) ≡ false }
-    requires few { records ≤ replay.old.content.records }
-    ensures { TriesLog (λ serves. IsTried (one_pool size records) many serves (R.shown reader.old).whole (R.shown reader.new).left)
-        (FailsAgain many (R.shown reader.old) (R.shown reader.new))
-        1 records result (R.shown reader.old) (R.shown reader.new) replay.new }
+    requires good { are_bad (one_pool size trial.records) ≡ false }
+    requires few { trial.records ≤ tried.old.replay.content.records }
+    ensures { TriesLog (λ serves. IsTried trial.front (one_pool size trial.records) trial.many serves (R.shown reader.old).whole (R.shown reader.new).left)
+        (FailsAgain trial.many (R.shown reader.old) (R.shown reader.new))
+        1 trial.records result (R.shown reader.old) (R.shown reader.new) tried.new.replay }
 {
-    replay.restart(Settings {
+    tried.front = trial.front;
+    tried.replay.restart(Settings {
         pool: size,
         pools: 1,
-        records,
+        records: trial.records,
     });
     reader.begin()?;
-    is_served(reader, replay, many)
-}
-
-/// What all sizes are tried with: the records, and how many lines.
-#[derive(Clone, Copy)]
-struct Trial {
-    records: u32,
-    many: u64,
+    is_served(reader, tried, trial.many)
 }
 
 /// Tries the multiples of the step from one number to another, in rising order, and adds what they tell.
 fn try_range<R: Again>(
     reader: &mut R,
-    replay: &mut Replay<Heap>,
+    tried: &mut Fronted<Replay<Heap>>,
     trial: Trial,
     step: u64,
     first: u64,
@@ -123,19 +124,19 @@ fn try_range<R: Again>(
     requires last_within { last ≤ greatest_size / step }
     requires some_records { 0 < trial.records }
     requires few { trial.records ≤ MOST_RECORDS }
-    requires within { trial.records ≤ replay.old.content.records }
+    requires within { trial.records ≤ tried.old.replay.content.records }
     requires tried { fitted.tried ≤ 2 ^ 61 }
     requires refused { fitted.refused ≤ fitted.tried }
-    ensures tried { ReadsAgain trial.many (λ new times. (new.tried ≡ fitted.tried + times) × ((verdicts : List Verdict) × AreVerdicts trial.records trial.many (R.shown reader.old).whole (multiples step first last) verdicts
+    ensures tried { ReadsAgain trial.many (λ new times. (new.tried ≡ fitted.tried + times) × ((verdicts : List Verdict) × AreVerdicts trial.front trial.records trial.many (R.shown reader.old).whole (multiples step first last) verdicts
         × ((before : List Verdict) → fitted ≡ fitted_by before → new ≡ fitted_by (before ++ verdicts)))) result (R.shown reader.old) (R.shown reader.new) }
     ensures whole { (R.shown reader.new).whole ≡ (R.shown reader.old).whole }
-    ensures within { OnOk result (trial.records ≤ replay.new.content.records) }
+    ensures within { OnOk result (trial.records ≤ tried.new.replay.content.records) }
     ensures few { IfOk result (λ new. new.tried ≤ fitted.tried + (last + 1 - first)) }
     ensures refused { IfOk result (λ new. new.refused ≤ new.tried) }
 {
     for number in first..last + 1 {
         let size = number * step;
-        let serves = try_size(reader, replay, size, trial.records, trial.many)?;
+        let serves = try_size(reader, tried, size, trial)?;
         fitted = fitted.with(size, serves);
     }
     Ok(fitted)
@@ -162,7 +163,7 @@ fn is_range_behind(step: u64, first: u64) -> bool
 /// a step twice as large, up to the greatest pool. How many a range has is told before.
 fn try_sizes<R: Again, T: Watch>(
     reader: &mut R,
-    replay: &mut Replay<Heap>,
+    tried: &mut Fronted<Replay<Heap>>,
     trial: Trial,
     mut step: u64,
     peak: u64,
@@ -172,19 +173,19 @@ fn try_sizes<R: Again, T: Watch>(
     requires in_units { step % UNIT ≡ 0 }
     requires some_records { 0 < trial.records }
     requires few { trial.records ≤ MOST_RECORDS }
-    requires within { trial.records ≤ replay.old.content.records }
-    ensures { ReadsAgain trial.many (λ fitted times. (times ≡ fitted.tried) × ((verdicts : List Verdict) × TriesRanges trial.records trial.many step (first_number step peak) (R.shown reader.old).whole verdicts
+    requires within { trial.records ≤ tried.old.replay.content.records }
+    ensures { ReadsAgain trial.many (λ fitted times. (times ≡ fitted.tried) × ((verdicts : List Verdict) × TriesRanges trial.front trial.records trial.many step (first_number step peak) (R.shown reader.old).whole verdicts
         × (fitted ≡ fitted_by verdicts))) result (R.shown reader.old) (R.shown reader.new) }
 {
     let first = peak.div_ceil(step).max(1);
     let last = last_number(step, first);
     watch.expect((last + 1).saturating_sub(first));
-    let mut fitted = try_range(reader, replay, trial, step, first, last, Fitted::default())?;
+    let mut fitted = try_range(reader, tried, trial, step, first, last, Fitted::default())?;
     while fitted.least.is_none() && is_range_behind(step, first) {
         step *= 2;
         let last = last_number(step, first);
         watch.expect(last.saturating_sub(first));
-        fitted = try_range(reader, replay, trial, step, first + 1, last, fitted)?;
+        fitted = try_range(reader, tried, trial, step, first + 1, last, fitted)?;
     }
     Ok(fitted)
 }
@@ -193,27 +194,28 @@ fn try_sizes<R: Again, T: Watch>(
 /// greatest pool refuses a line.
 fn fit_text<R: Again, T: Watch>(
     reader: &mut R,
-    replay: &mut Replay<Heap>,
+    tried: &mut Fronted<Replay<Heap>>,
     needs: Needs,
     step: Option<u64>,
     watch: &T,
 ) -> Result<LineText, Failed>
     requires good { is_bad_step step ≡ false }
-    requires records { replay.old.content.records ≡ most_records }
-    ensures { ReadsAgain replay.old.totals.lines (λ text times. (lines : List ReadLine) → StandsFor replay.old greatest_settings (reverse lines)
-        → AreNeeds (started greatest_settings) (reverse lines) needs → TellsFit step lines (R.shown reader.old).whole times text.items) result (R.shown reader.old) (R.shown reader.new) }
+    requires records { tried.old.replay.content.records ≡ most_records }
+    ensures { ReadsAgain tried.old.replay.totals.lines (λ text times. (lines : List ReadLine) → StandsFor tried.old.replay greatest_settings (reverse lines)
+        → AreNeeds (started greatest_settings) (reverse lines) needs → TellsFit tried.old.front step lines (R.shown reader.old).whole times text.items) result (R.shown reader.old) (R.shown reader.new) }
 {
-    let totals = replay.totals();
+    let totals = tried.replay.totals();
     if totals.refused > 0 {
         return Ok(untried_text(totals, needs.most));
     }
     let sure = sure_pool(needs.most, needs.most_rounded, needs.class_size);
     let peak = totals.peak_bytes;
     let trial = Trial {
+        front: tried.front,
         records: enough_records(needs.most),
         many: totals.lines,
     };
-    let fitted = try_sizes(reader, replay, trial, step_of(step, peak), peak, watch)?;
+    let fitted = try_sizes(reader, tried, trial, step_of(step, peak), peak, watch)?;
     Ok(fitted_text(totals, needs.most, trial.records, fitted, sure))
 }
 
@@ -221,23 +223,26 @@ fn fit_text<R: Again, T: Watch>(
 fn tell_fit<R: Again, W: Sink, T: Watch>(
     reader: &mut R,
     writer: &mut W,
-    ended: &mut NeedsRun,
+    ended: NeedsRun,
+    front: u64,
     step: Option<u64>,
     watch: &T,
 ) -> Result<Status, RunFault>
     requires good { is_bad_step step ≡ false }
-    requires records { ended.old.replay.replay.content.records ≡ most_records }
-    ensures answer { IfOk result (λ answered. answered ≡ ended.old.status) }
-    ensures told { (lines : List ReadLine) → StandsFor ended.old.replay.replay greatest_settings (reverse lines)
-        → AreNeeds (started greatest_settings) (reverse lines) ended.old.replay.needs
-        → FitFollows step lines result (course R.shown reader.old reader.new) (course W.shown writer.old writer.new) }
+    requires records { ended.replay.replay.content.records ≡ most_records }
+    ensures answer { IfOk result (λ answered. answered ≡ ended.status) }
+    ensures told { (lines : List ReadLine) → StandsFor ended.replay.replay greatest_settings (reverse lines)
+        → AreNeeds (started greatest_settings) (reverse lines) ended.replay.needs
+        → FitFollows front step lines result (course R.shown reader.old reader.new) (course W.shown writer.old writer.new) }
 {
-    let followed = &mut ended.replay;
-    let Ok(text) = fit_text(reader, &mut followed.replay, followed.needs, step, watch) else {
+    let NeedsRun { status, replay } = ended;
+    let NeedsReplay { replay, needs } = replay;
+    let mut tried = Fronted { replay, front };
+    let Ok(text) = fit_text(reader, &mut tried, needs, step, watch) else {
         return Err(RunFault::Read);
     };
     let put = put_all(writer, text.as_slice());
-    flush_behind(writer, put, ended.status)
+    flush_behind(writer, put, status)
 }
 
 /// Reads a log of mtrace(3), and replays it on the greatest pool with the most records. Writes what is wrong with its
@@ -248,7 +253,8 @@ fn tell_fit<R: Again, W: Sink, T: Watch>(
 /// lines as the first. Last comes the size of the pool that is always enough within the log's most blocks, bytes and class. The
 /// writer is flushed once more. What watches the run learns how many sizes are going to be tried.
 ///
-/// Without a step, that is the least multiple of the unit from a 64th of the peak on. Memory is taken at the start alone, for one
+/// Each request has `front` bytes more than the log tells, but at most 2^64 - 1, in each number that is told: so many as a heap keeps in
+/// front of each block. Without a step, that is the least multiple of the unit from a 64th of the peak on. Memory is taken at the start alone, for one
 /// replay, which is made anew for each size.
 ///
 /// # Errors
@@ -261,14 +267,15 @@ pub fn run_fit<R: Again, W: Sink, T: Watch>(
     alloc: Global,
     reader: &mut R,
     writer: &mut W,
+    front: u64,
     step: Option<u64>,
     watch: &T,
 ) -> Result<Status, RunFault>
-    ensures { RunsFit step result (course R.shown reader.old reader.new) (course W.shown writer.old writer.new) }
+    ensures { RunsFit front step result (course R.shown reader.old reader.new) (course W.shown writer.old writer.new) }
 {
     if is_bad_step(step) {
         return Err(RunFault::BadSettings);
     }
-    let mut ended = replay_needs(alloc, reader, writer, greatest())?;
-    tell_fit(reader, writer, &mut ended, step, watch)
+    let ended = replay_needs(alloc, reader, writer, front, greatest())?;
+    tell_fit(reader, writer, ended, front, step, watch)
 }

@@ -5,10 +5,9 @@ ghost use Rattle.tlsf_heap.specs.Sizing.{class_size};
 ghost use Rattle.mtrace_replay.specs.Course.{course};
 ghost use Rattle.mtrace_replay.specs.Moment.{Given, asked_size};
 ghost use Rattle.mtrace_replay.specs.Asked.{greater_class};
-ghost use Rattle.mtrace_replay.specs.Run.{Runs};
 ghost use Rattle.mtrace_replay.specs.Started.{started};
 ghost use Rattle.mtrace_replay.specs.declared.heap.settings.Settings.{Settings};
-ghost use Rattle.mtrace_replay.specs.Needs.{of_one, bytes_of_block, BehindExchange, AreNeeds, status_with, EndsWithNeeds};
+ghost use Rattle.mtrace_replay.specs.Needs.{of_one, bytes_of_block, BehindExchange, AreNeeds, RunsFronted, status_with, EndsWithNeeds};
 
 use crate::heap::replay::{Replay, ReplayFault};
 use crate::heap::settings::Settings;
@@ -16,6 +15,7 @@ use crate::heap::totals::Totals;
 use crate::held::asked::{Asked, rounded_bytes};
 use crate::held::findings::Findings;
 use crate::runs::following::{read_log, tell_found};
+use crate::runs::fronted::Fronted;
 use crate::runs::line_replay::{LineReplay, TellFault};
 use crate::runs::report::Report;
 use crate::runs::run::finish;
@@ -142,15 +142,17 @@ pub(crate) struct NeedsRun {
     pub(crate) replay: NeedsReplay,
 }
 
-/// Reads and replays a log on a heap by the settings, and gathers what it needs. Writes what is wrong with its lines.
+/// Reads and replays a log, whose requests each have so many bytes more, on a heap by the settings, and gathers what it needs. Writes
+/// what is wrong with its lines.
 pub(crate) fn replay_needs<R: Source, W: Sink>(
     alloc: Global,
     reader: &mut R,
     writer: &mut W,
+    front: u64,
     settings: Settings,
 ) -> Result<NeedsRun, RunFault>
-    ensures ran { Runs Report.Nothing settings (status_with result) (course R.shown reader.old reader.new) (course W.shown writer.old writer.new) }
-    ensures last { IfOk result (λ ended. EndsWithNeeds settings ended.status ended.replay
+    ensures ran { RunsFronted front settings (status_with result) (course R.shown reader.old reader.new) (course W.shown writer.old writer.new) }
+    ensures last { IfOk result (λ ended. EndsWithNeeds front settings ended.status ended.replay
         (R.shown reader.old) (R.shown reader.new) (W.shown writer.old) (W.shown writer.new)) }
 {
     let replay = match Replay::<Heap>::create(alloc, settings) {
@@ -158,20 +160,18 @@ pub(crate) fn replay_needs<R: Source, W: Sink>(
         Err(ReplayFault::BadSettings) => return Err(RunFault::BadSettings),
         Err(ReplayFault::OutOfMemory) => return Err(RunFault::OutOfMemory),
     };
-    let mut replay = NeedsReplay {
-        replay,
-        needs: Needs::none(),
+    let needs = Needs::none();
+    let mut fronted = Fronted {
+        replay: NeedsReplay { replay, needs },
+        front,
     };
-    match read_log(reader, writer, &mut replay) {
-        Ok(has_diagnostics) => match finish(
-            writer,
-            &mut replay.replay,
-            has_diagnostics,
-            Report::Nothing,
-        ) {
-            Ok(status) => Ok(NeedsRun { status, replay }),
-            Err(_) => Err(RunFault::Write),
-        },
-        Err(fault) => Err(fault),
+    let has_diagnostics = match read_log(reader, writer, &mut fronted) {
+        Ok(has_diagnostics) => has_diagnostics,
+        Err(fault) => return Err(fault),
+    };
+    let Fronted { mut replay, .. } = fronted;
+    match finish(writer, &mut replay.replay, has_diagnostics, Report::Nothing) {
+        Ok(status) => Ok(NeedsRun { status, replay }),
+        Err(_) => Err(RunFault::Write),
     }
 }

@@ -1,8 +1,10 @@
 //! How much memory is always enough for a program, without a log of it.
 
-ghost use Rattle.std.specs.Prelude.{◌≡◌, ◌<◌};
+ghost use Rattle.std.specs.Prelude.{◌≡◌, ◌≤◌, unwrap_or};
+ghost use Rattle.tlsf_class.specs.Rounding.{round};
 ghost use Rattle.tlsf_heap.specs.Sizing.{class_size, sure_pool};
-ghost use Rattle.mtrace_replay.specs.Size.{align_of, blocks_bytes, one_size, rounded_pool, bounds_text, RunsSize};
+ghost use Rattle.mtrace_replay.specs.Moment.{asked_size};
+ghost use Rattle.mtrace_replay.specs.Size.{align_of, largest_of, front_bytes, blocks_bytes, one_size, rounded_pool, bounds_text, RunsSize};
 
 use crate::held::asked::{asked_size, rounded_bytes};
 use crate::held::line_text::LineText;
@@ -13,7 +15,7 @@ use crate::runs::flush::flush_behind;
 use crate::runs::status::{RunFault, Status};
 use arrayvec::ArrayVec;
 use mtrace_log::{Sink, put_all};
-use tlsf_class::{UNIT, round};
+use tlsf_class::{GREATEST_SIZE, UNIT, round};
 use tlsf_heap::{class_size, is_alignment, sure_pool};
 
 /// What a program keeps to, whatever it asks for and in whatever order.
@@ -27,6 +29,8 @@ pub struct Bounds {
     pub bytes: Option<u64>,
     /// The greatest alignment of a request, in bytes, where there is one.
     pub align: Option<u64>,
+    /// How many bytes more each request has: those that a heap keeps in front of each block.
+    pub front: u64,
 }
 
 /// The alignment of the requests: 1 where none is told.
@@ -36,30 +40,53 @@ fn align_of(bounds: Bounds) -> u64
     bounds.align.unwrap_or(1)
 }
 
-/// The bytes in live blocks, in whole units: those told, or those of as many blocks of the largest size. Bytes above the
-/// greatest size are as told: no pool has as many.
-fn bytes_of(bounds: Bounds) -> u64
-    ensures { result ≡ blocks_bytes bounds.blocks bounds.largest bounds.bytes }
+/// The largest request with its bytes more.
+fn largest_of(bounds: Bounds) -> u64
+    ensures { result ≡ largest_of bounds }
 {
+    bounds.largest.saturating_add(bounds.front)
+}
+
+/// The bytes in live blocks as told, in whole units. Bytes above the greatest size are as told: no pool has as many.
+fn whole_bytes(bytes: u64) -> u64
+    ensures { result ≡ unwrap_or (round (asked_size bytes)) bytes }
+{
+    match round(asked_size(bytes)) {
+        Some(whole) => u64::from(whole),
+        None => bytes,
+    }
+}
+
+/// By how many bytes more a block grows at most.
+fn front_bytes(front: u64) -> u64
+    ensures value { result ≡ front_bytes front }
+    ensures small { result ≤ GREATEST_SIZE }
+{
+    if front == 0 { 0 } else { rounded_bytes(front) }
+}
+
+/// The bytes in live blocks, in whole units: those told, and by how many each block grows, or those of as many blocks of the
+/// largest size.
+fn bytes_of(bounds: Bounds) -> u64
+    ensures { result ≡ blocks_bytes bounds bounds.bytes }
+{
+    let blocks = u64::from(bounds.blocks);
     match bounds.bytes {
-        Some(bytes) => match round(asked_size(bytes)) {
-            Some(whole) => u64::from(whole),
-            None => bytes,
-        },
-        None => u64::from(bounds.blocks) * rounded_bytes(bounds.largest),
+        Some(bytes) => whole_bytes(bytes).saturating_add(blocks * front_bytes(bounds.front)),
+        None => blocks * rounded_bytes(largest_of(bounds)),
     }
 }
 
 /// The class size of the requests.
 fn size_of(bounds: Bounds) -> Option<u32>
-    ensures { result ≡ class_size (align_of bounds) bounds.largest }
+    ensures { result ≡ class_size (align_of bounds) (largest_of bounds) }
 {
-    class_size(align_of(bounds), bounds.largest)
+    class_size(align_of(bounds), largest_of(bounds))
 }
 
 /// The bytes of one pool that is always enough.
 fn sure_of(bounds: Bounds) -> Option<u64>
-    ensures { result ≡ sure_pool bounds.blocks (blocks_bytes bounds.blocks bounds.largest bounds.bytes) (class_size (align_of bounds) bounds.largest) }
+    ensures { result ≡ sure_pool bounds.blocks (blocks_bytes bounds bounds.bytes) (class_size (align_of bounds) (largest_of bounds)) }
 {
     sure_pool(u64::from(bounds.blocks), bytes_of(bounds), size_of(bounds))
 }
@@ -95,7 +122,8 @@ fn bounds_text(bounds: Bounds) -> LineText
     text
 }
 
-/// Writes how many records, and how large a pool, are always enough for a program that keeps to these bounds, and flushes.
+/// Writes how many records, and how large a pool, are always enough for a program that keeps to these bounds, and flushes. Each
+/// request has its bytes more in each of these numbers.
 ///
 /// # Errors
 ///

@@ -22,35 +22,35 @@ pub struct PartBounds {
 }
 
 /// The part for these requests. `None` where there is no such class.
-fn part_for(bounds: PartBounds) -> Option<PartOf>
-    ensures { option_map part_in result ≡ part_for bounds }
+fn part_for(front: u64, bounds: PartBounds) -> Option<PartOf>
+    ensures { option_map part_in result ≡ part_for front bounds }
 {
-    let size = class_size(1, bounds.largest)?;
+    let size = class_size(1, bounds.largest.saturating_add(front))?;
     let blocks = u64::from(bounds.blocks);
     Some(PartOf { blocks, size })
 }
 
 /// The parts for all of them. `None` where one has none.
-fn parts_for(all: &[PartBounds]) -> Option<ArrayVec<PartOf, 8>>
+fn parts_for(front: u64, all: &[PartBounds]) -> Option<ArrayVec<PartOf, 8>>
     requires { length all.now ≤ 8 }
-    ensures { option_map (λ parts. map part_in parts.items) result ≡ parts_for all.now }
+    ensures { option_map (λ parts. map part_in parts.items) result ≡ parts_for front all.now }
 {
     let mut parts = ArrayVec::new();
     for bounds in all {
-        parts.push(part_for(*bounds)?);
+        parts.push(part_for(front, *bounds)?);
     }
     Some(parts)
 }
 
 /// The parts for all of them. `None` where they are bad.
-fn good_parts(all: &[PartBounds]) -> Option<ArrayVec<PartOf, 8>>
+fn good_parts(front: u64, all: &[PartBounds]) -> Option<ArrayVec<PartOf, 8>>
     ensures few { IfSome result (λ parts. length parts.items ≤ 8) }
-    ensures parts { option_map (λ parts. map part_in parts.items) result ≡ (if are_bad_parts all.now then None else parts_for all.now) }
+    ensures parts { option_map (λ parts. map part_in parts.items) result ≡ (if are_bad_parts front all.now then None else parts_for front all.now) }
 {
     if all.is_empty() || all.len() > 8 {
         return None;
     }
-    parts_for(all)
+    parts_for(front, all)
 }
 
 /// Puts the parts and their sums, and flushes.
@@ -65,16 +65,20 @@ fn tell_parts<W: Sink>(writer: &mut W, parts: &[PartOf]) -> Result<Status, RunFa
 }
 
 /// Writes a line for each heap by size, with how large a pool is always enough for it, and the sums over them, and flushes. Each
-/// request is to be rounded up to the largest of its heap.
+/// request has `front` bytes more, and is to be rounded up to the largest of its heap.
 ///
 /// # Errors
 ///
 /// `BadSettings` exactly where there are no heaps, more than 8, or a size without a class: then nothing is written. `Write` where
 /// the writer fails: then a beginning of the text is written.
-pub fn run_size_parts<W: Sink>(writer: &mut W, all: &[PartBounds]) -> Result<Status, RunFault>
-    ensures { RunsSizeParts all.now W.shown result writer.old writer.new }
+pub fn run_size_parts<W: Sink>(
+    writer: &mut W,
+    front: u64,
+    all: &[PartBounds],
+) -> Result<Status, RunFault>
+    ensures { RunsSizeParts front all.now W.shown result writer.old writer.new }
 {
-    match good_parts(all) {
+    match good_parts(front, all) {
         Some(parts) => tell_parts(writer, parts.as_slice()),
         None => Err(RunFault::BadSettings),
     }

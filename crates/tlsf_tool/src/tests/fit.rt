@@ -14,24 +14,33 @@ use std::cell::Cell;
 use std::fmt::Write;
 use std::io;
 
-const ROWS: [Row; 7] = [
+const ROWS: [Row; 8] = [
     Row {
         name: "empty-log",
-        what: Rereading::Fit(None),
+        what: Rereading::Fit {
+            front: 0,
+            step: None,
+        },
         log: b"",
         text: b"peak: 0 bytes at line 0\nheld at most: 0 blocks\nrecords: 3\ntable: 1744 bytes\nleast pool: 16 bytes\nsafe pool: 16 bytes\nsizes tried: 2, 0 refused\nsure pool: 16 bytes\n",
         status: 0,
     },
     Row {
         name: "refused-on-the-greatest",
-        what: Rereading::Fit(None),
+        what: Rereading::Fit {
+            front: 0,
+            step: None,
+        },
         log: b"+ 0x10 0x40000000\n",
         text: b"line 1: 0x10 refused: no fit\npeak: 0 bytes at line 0\nheld at most: 0 blocks\nrecords: -\ntable: -\nleast pool: -\nsafe pool: -\nsizes tried: 0\nsure pool: -\nrefused: 1 lines\n",
         status: 1,
     },
     Row {
         name: "served-and-then-refused",
-        what: Rereading::Fit(Some(16)),
+        what: Rereading::Fit {
+            front: 0,
+            step: Some(16),
+        },
         log: LOG,
         text: b"peak: 1500 bytes at line 11\nheld at most: 3 blocks\nrecords: 9\ntable: 1840 bytes\nleast pool: 1536 bytes\nsafe pool: 2032 bytes\nsizes tried: 95, 14 refused\nsure pool: 4288 bytes\n",
         status: 1,
@@ -39,7 +48,10 @@ const ROWS: [Row; 7] = [
     // A step above the greatest size's half, and a peak above the step: the second multiple is no size.
     Row {
         name: "no-size-within",
-        what: Rereading::Fit(Some(536_870_912)),
+        what: Rereading::Fit {
+            front: 0,
+            step: Some(536_870_912),
+        },
         log: b"+ 0x10 0x20000010\n- 0x10\n",
         text: b"peak: 536870928 bytes at line 1\nheld at most: 1 blocks\nrecords: 5\ntable: 1776 bytes\nleast pool: -\nsafe pool: -\nsizes tried: 0, 0 refused\nsure pool: -\n",
         status: 0,
@@ -47,7 +59,10 @@ const ROWS: [Row; 7] = [
     // The alignment asks for 4,096 bytes, and twice the peak is 32: seven ranges follow, each of one size.
     Row {
         name: "served-far-behind-twice-the-peak",
-        what: Rereading::Fit(None),
+        what: Rereading::Fit {
+            front: 0,
+            step: None,
+        },
         log: b"* 0x10 0x1000 0x10\n",
         text: b"peak: 16 bytes at line 1\nheld at most: 1 blocks\nrecords: 5\ntable: 1776 bytes\nleast pool: 4096 bytes\nsafe pool: 4096 bytes\nsizes tried: 9, 8 refused\nsure pool: 8192 bytes\n",
         status: 1,
@@ -55,15 +70,32 @@ const ROWS: [Row; 7] = [
     // One step reaches the peak.
     Row {
         name: "a-step-as-large-as-the-peak",
-        what: Rereading::Fit(Some(1008)),
+        what: Rereading::Fit {
+            front: 0,
+            step: Some(1008),
+        },
         log: b"+ 0x10 0x3f0\n- 0x10\n",
+        text: b"peak: 1008 bytes at line 1\nheld at most: 1 blocks\nrecords: 5\ntable: 1776 bytes\nleast pool: 1008 bytes\nsafe pool: 1008 bytes\nsizes tried: 2, 0 refused\nsure pool: 3008 bytes\n",
+        status: 0,
+    },
+    // The same log, but for eight bytes more that each request has.
+    Row {
+        name: "a-front-of-eight-bytes",
+        what: Rereading::Fit {
+            front: 8,
+            step: Some(1008),
+        },
+        log: b"+ 0x10 0x3e8\n- 0x10\n",
         text: b"peak: 1008 bytes at line 1\nheld at most: 1 blocks\nrecords: 5\ntable: 1776 bytes\nleast pool: 1008 bytes\nsafe pool: 1008 bytes\nsizes tried: 2, 0 refused\nsure pool: 3008 bytes\n",
         status: 0,
     },
     // The block grows in its place to a size for which there is no class.
     Row {
         name: "no-class-for-a-size",
-        what: Rereading::Fit(Some(1_073_741_808)),
+        what: Rereading::Fit {
+            front: 0,
+            step: Some(1_073_741_808),
+        },
         log: b"+ 0x10 0x10\n< 0x10\n> 0x10 0x3f000010\n",
         text: b"peak: 1056964624 bytes at line 3\nheld at most: 1 blocks\nrecords: 5\ntable: 1776 bytes\nleast pool: 1073741808 bytes\nsafe pool: 1073741808 bytes\nsizes tried: 1, 0 refused\nsure pool: -\n",
         status: 1,
@@ -82,7 +114,10 @@ fn rows_of_fit(rt: HostRuntime) {
 /// A log with a diagnostic, whose two sizes are tried. The reader gives it and tells its end, and then twice begins again
 /// and gives it.
 const CASE: Case = Case {
-    what: Rereading::Fit(None),
+    what: Rereading::Fit {
+        front: 0,
+        step: None,
+    },
     log: b"x\n+ 0x10 0x10\n- 0x10\n",
     notes: b"line 1: not a line\n",
     text: b"line 1: not a line\npeak: 16 bytes at line 2\nheld at most: 1 blocks\nrecords: 5\ntable: 1776 bytes\nleast pool: 16 bytes\nsafe pool: 16 bytes\nsizes tried: 2, 0 refused\nsure pool: 32 bytes\n",
@@ -103,7 +138,11 @@ fn writer_of_fit_fails(rt: HostRuntime) {
 #[test]
 fn bad_steps(rt: HostRuntime) {
     for step in [0, 8, 24, 1_073_741_809, 1_073_741_824] {
-        expect_bad_settings(&rt, rt.alloc(), Rereading::Fit(Some(step)), CASE.log);
+        let what = Rereading::Fit {
+            front: 8,
+            step: Some(step),
+        };
+        expect_bad_settings(&rt, rt.alloc(), what, CASE.log);
     }
 }
 
@@ -113,7 +152,7 @@ fn bad_steps(rt: HostRuntime) {
 fn memory_of_fit(rt: HostRuntime) {
     let mut reader = MemorySource::in_pieces(LOG, 7);
     let mut writer = ToWrite::new(io::sink());
-    let answer = run_fit(rt.alloc(), &mut reader, &mut writer, Some(16), &());
+    let answer = run_fit(rt.alloc(), &mut reader, &mut writer, 0, Some(16), &());
     assert!(rt; answer == Ok(Status::Found));
 }
 
@@ -149,7 +188,7 @@ fn sizes_are_told_before(rt: HostRuntime) {
         };
         let mut reader = MemorySource::in_pieces(log, 4096);
         let mut writer = MemorySink::in_pieces(rt.alloc(), 4096);
-        let answer = run_fit(rt.alloc(), &mut reader, &mut writer, Some(16), &expected);
+        let answer = run_fit(rt.alloc(), &mut reader, &mut writer, 0, Some(16), &expected);
         expect_eq_at(&rt, text, answer, Ok(Status::Found));
         let mut tried: ArrayString<64> = ArrayString::new();
         assert!(rt; write!(tried, "sizes tried: {},", expected.sizes.get()).is_ok());

@@ -157,10 +157,19 @@ const AGAIN: [(&[&str], Rereading); 8] = [
             stretches: 100,
         },
     ),
-    (&["tlsf", "fit"], Rereading::Fit(None)),
     (
-        &["tlsf", "fit", "--step", "4096"],
-        Rereading::Fit(Some(4096)),
+        &["tlsf", "fit"],
+        Rereading::Fit {
+            front: 0,
+            step: None,
+        },
+    ),
+    (
+        &["tlsf", "fit", "--step", "4096", "--front", "8"],
+        Rereading::Fit {
+            front: 8,
+            step: Some(4096),
+        },
     ),
 ];
 

@@ -16,6 +16,7 @@ const LEAST: Bounds = Bounds {
     largest: 1,
     bytes: None,
     align: None,
+    front: 0,
 };
 
 /// Sixty blocks of at most 1,040 bytes.
@@ -31,7 +32,7 @@ struct Row {
     text: &'static [u8],
 }
 
-const ROWS: [Row; 15] = [
+const ROWS: [Row; 17] = [
     Row {
         bounds: LEAST,
         text: b"records: 5\ntable: 1776 bytes\nsure pool: 32 bytes\nrounded pool: 16 bytes\n",
@@ -54,6 +55,19 @@ const ROWS: [Row; 15] = [
             ..SIXTY
         },
         text: b"records: 123\ntable: 3664 bytes\nsure pool: 125856 bytes\nrounded pool: 63360 bytes\n",
+    },
+    // A front of eight bytes takes each block to the next unit, as tlsf_sure_bytes has it.
+    Row {
+        bounds: Bounds { front: 8, ..SIXTY },
+        text: b"records: 123\ntable: 3664 bytes\nsure pool: 126816 bytes\nrounded pool: 63360 bytes\n",
+    },
+    Row {
+        bounds: Bounds {
+            bytes: Some(62_400),
+            front: 8,
+            ..SIXTY
+        },
+        text: b"records: 123\ntable: 3664 bytes\nsure pool: 126816 bytes\nrounded pool: 63360 bytes\n",
     },
     // 1,088 bytes are asked for, which are a class. Gaps in front of blocks may leave too little for one of one size.
     Row {
@@ -245,6 +259,7 @@ const WORDS: [(&[&str], Bounds); 4] = [
             largest: 1_056_964_608,
             bytes: Some(1_073_741_808),
             align: Some(536_870_912),
+            front: 0,
         },
     ),
 ];

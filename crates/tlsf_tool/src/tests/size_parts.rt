@@ -10,9 +10,10 @@ use mtrace_log::memory::{Full, MemorySink};
 use mtrace_replay::PartBounds;
 use std::test::Fail;
 
-/// Heaps by size, with the text that tells what is enough for them.
-const ROWS: [(&[PartBounds], &[u8]); 4] = [
+/// How many bytes more each request has, heaps by size, and the text that tells what is enough for them.
+const ROWS: [(u64, &[PartBounds], &[u8]); 5] = [
     (
+        0,
         &[PartBounds {
             blocks: 1,
             largest: 1,
@@ -20,6 +21,7 @@ const ROWS: [(&[PartBounds], &[u8]); 4] = [
         b"up to 16: 1 blocks, 16 bytes\nsum: 16 bytes\ntables: 1712 bytes\n",
     ),
     (
+        0,
         &[
             PartBounds {
                 blocks: 2_130,
@@ -34,14 +36,25 @@ const ROWS: [(&[PartBounds], &[u8]); 4] = [
     ),
     // 1,060 bytes are 67 units, and the class above begins at 68.
     (
+        0,
         &[PartBounds {
             blocks: 3,
             largest: 1_060,
         }],
         b"up to 1088: 3 blocks, 3264 bytes\nsum: 3264 bytes\ntables: 1744 bytes\n",
     ),
+    // 1,056 bytes are a class, and eight more aren't.
+    (
+        8,
+        &[PartBounds {
+            blocks: 3,
+            largest: 1_056,
+        }],
+        b"up to 1088: 3 blocks, 3264 bytes\nsum: 3264 bytes\ntables: 1744 bytes\n",
+    ),
     // The first has more bytes than any pool.
     (
+        0,
         &[
             PartBounds {
                 blocks: 2,
@@ -58,10 +71,10 @@ const ROWS: [(&[PartBounds], &[u8]); 4] = [
 
 #[test]
 fn rows_of_size_parts(rt: HostRuntime) {
-    for (parts, text) in ROWS {
+    for (front, parts, text) in ROWS {
         let mut writer = MemorySink::in_pieces(rt.alloc(), 4096);
         let mut errors = MemorySink::in_pieces(rt.alloc(), 4096);
-        let status = serve_size_parts(parts, &mut writer, &mut errors);
+        let status = serve_size_parts(front, parts, &mut writer, &mut errors);
         expect_eq_at(&rt, parts, status, 0);
         expect_eq_at(&rt, parts, writer.bytes(), text);
         expect_eq_at(&rt, parts, errors.bytes(), b"".as_slice());
@@ -85,7 +98,7 @@ fn bad_parts(rt: HostRuntime) {
     for parts in bad {
         let mut writer = MemorySink::in_pieces(rt.alloc(), 4096);
         let mut errors = MemorySink::in_pieces(rt.alloc(), 4096);
-        let status = serve_size_parts(parts, &mut writer, &mut errors);
+        let status = serve_size_parts(0, parts, &mut writer, &mut errors);
         expect_eq_at(&rt, parts, status, 2);
         expect_eq_at(&rt, parts, writer.bytes(), b"".as_slice());
         expect_eq_at(
@@ -105,6 +118,7 @@ fn writer_of_size_parts_fails(rt: HostRuntime) {
         let mut writer = MemorySink::with_room(rt.alloc(), 4096, room, Full::Fails);
         let mut errors = MemorySink::in_pieces(rt.alloc(), 4096);
         let status = serve_size_parts(
+            0,
             &[PartBounds {
                 blocks: 1,
                 largest: 1,
@@ -119,10 +133,13 @@ fn writer_of_size_parts_fails(rt: HostRuntime) {
     }
 }
 
-/// Words, with the heaps by size that they tell.
-const WORDS: [(&[&str], &[PartBounds]); 3] = [
+/// Words, with how many bytes more each request has, and the heaps by size that they tell.
+const WORDS: [(&[&str], u64, &[PartBounds]); 3] = [
     (
-        &["tlsf", "size", "--part", "2130x64", "--part", "20x4096"],
+        &[
+            "tlsf", "size", "--part", "2130x64", "--front", "8", "--part", "20x4096",
+        ],
+        8,
         &[
             PartBounds {
                 blocks: 2_130,
@@ -136,6 +153,7 @@ const WORDS: [(&[&str], &[PartBounds]); 3] = [
     ),
     (
         &["tlsf", "size", "--part=65535x1"],
+        0,
         &[PartBounds {
             blocks: 65_535,
             largest: 1,
@@ -143,6 +161,7 @@ const WORDS: [(&[&str], &[PartBounds]); 3] = [
     ),
     (
         &["tlsf", "size", "--part", "1x1056964608"],
+        0,
         &[PartBounds {
             blocks: 1,
             largest: 1_056_964_608,
@@ -153,10 +172,10 @@ const WORDS: [(&[&str], &[PartBounds]); 3] = [
 #[test]
 fn words_of_size_parts(rt: HostRuntime) -> Result<(), Fail> {
     let alloc = rt.alloc();
-    for (words, wanted) in WORDS {
+    for (words, more, wanted) in WORDS {
         let plan = planned(alloc, strings(alloc, words)?.as_slice(), TYPED)?;
         let is_wanted = match &plan.command {
-            Command::SizeParts { parts } => parts.as_slice() == wanted,
+            Command::SizeParts { front, parts } => *front == more && parts.as_slice() == wanted,
             _ => false,
         };
         expect_eq_at(&rt, words, is_wanted, true);

@@ -13,4 +13,5 @@ returns c =
     let with_largest = more_arg _ _ _ _ _ (more_arg _ _ _ _ _ c.subcommand.ensures blocks c.in_ok-arg.ensures) largest c.in_ok-arg-2.ensures in
     let with_sum = more_arg _ _ _ _ _ with_largest sum c.in_ok-arg-3.ensures in
     let with_align = more_arg _ _ _ _ _ with_sum align c.in_ok-arg-4.ensures in
-    IfOk-weaker c.arg-5.result _ _ (λ r. more_arg _ _ _ _ r with_align c.repeated.ensures) c.arg-5.ensures
+    let with_front = more_arg _ _ _ _ _ with_align c.front_option.ensures c.in_ok-arg-5.ensures in
+    IfOk-weaker c.arg-6.result _ _ (λ r. more_arg _ _ _ _ r with_front c.repeated.ensures) c.arg-6.ensures

@@ -3,6 +3,8 @@ use Rattle.mtrace_log.specs.declared.call.Call.TheVariants.{Took, Flushed}
 use Rattle.mtrace_log.proofs.TraceLemmas.{moved_then_append, failed_after}
 use Rattle.mtrace_replay.specs.Prepared.{IsOf}
 use Rattle.mtrace_replay.proofs.Running.RunLemmas.{flush_asked}
+use Rattle.mtrace_replay.specs.LedgerReplay.{ledger_moments}
+use Rattle.mtrace_replay.specs.RunLedger.{TellsLedger}
 use Rattle.mtrace_replay.proofs.OnLedger.LedgerRunLemmas.{no_notes, ledger_stops, ledger_write, ledger_all, ledger_nothing}
 use Rattle.mtrace_replay.proofs.ledger.run.follow_log.Goals as goal
 
@@ -55,6 +57,6 @@ returns-in_default-clause-ran g c =
 -- the lines weren't all followed
 pub returns-in-Err-clause-ran : goal.returns-in-Err-clause-ran
 returns-in-Err-clause-ran g c = record {
-  ends = ledger_stops c.args.report _ _ c.in-Err.fault _ _ _ _ (c.in-Err.ensures.ends tt c.new-replay.ensures no_notes);
+  ends = ledger_stops ledger_moments (TellsLedger c.args.report) _ _ c.in-Err.fault _ _ _ _ (c.in-Err.ensures.ends tt c.new-replay.ensures no_notes);
   whole = c.read_log.ensures.whole;
 }

@@ -15,14 +15,14 @@ returns-then-totals-gt0 g c = record {
   tells = (
     0,
     λ lines stands are.
-        let replay = c.args.replay.now in
+        let replay = c.args.tried.now.replay in
         let needs = c.args.needs in
-        let T : List ℕ → Type 0 = λ text. TellsFit c.args.step lines (g.R.Source.shown c.args.reader.now).whole 0 text in
+        let T : List ℕ → Type 0 = λ text. TellsFit c.args.tried.now.front c.args.step lines (g.R.Source.shown c.args.reader.now).whole 0 text in
         let some : 0 < c.totals-totals.result.refused = c.if-totals-gt0.true in
         let same = c.untried_text.ensures
         ∙ ap (λ (totals : Totals). greatest_line totals ++ most_line needs.most ++ untried_lines ++ refused_line totals.refused) c.totals-totals.ensures.totals in
         subst T (sym same)
-        (tells_untried c.args.step lines (g.R.Source.shown c.args.reader.now).whole replay.totals stands.totals needs are (omega (arith, some, ap (λ (totals : Totals). totals.refused) c.totals-totals.ensures.totals))),
+        (tells_untried c.args.tried.now.front c.args.step lines (g.R.Source.shown c.args.reader.now).whole replay.totals stands.totals needs are (omega (arith, some, ap (λ (totals : Totals). totals.refused) c.totals-totals.ensures.totals))),
     nothing_begun (g.R.Source.shown c.args.reader.now).calls,
   );
 }
@@ -33,15 +33,15 @@ returns g c = record {
   tells = (
     length c.in_ok-fitted.ensures.tells.1.1.0,
     λ lines stands are.
-        let replay = c.args.replay.now in
+        let replay = c.args.tried.now.replay in
         let needs = c.args.needs in
         let whole = (g.R.Source.shown c.args.reader.now).whole in
         let tried = c.in_ok-fitted.ensures.tells.1.1 in
-        let T : List ℕ → Type 0 = λ text. TellsFit c.args.step lines whole (length tried.0) text in
+        let T : List ℕ → Type 0 = λ text. TellsFit c.args.tried.now.front c.args.step lines whole (length tried.0) text in
         let peak_is = ap (λ (totals : Totals). totals.peak_bytes) c.totals-totals.ensures.totals in
         let records_are : c.enough_records.result ≡ enough_records needs.most = c.enough_records.ensures.value in
         let step_is : c.step_of.result ≡ step_of c.args.step replay.totals.peak_bytes = c.step_of.ensures.value ∙ ap (step_of c.args.step) peak_is in
-        let A : ℕ → ℕ → ℕ → ℕ → Type 0 = λ records many step peak. TriesRanges records many step (first_number step peak) whole tried.0 in
+        let A : ℕ → ℕ → ℕ → ℕ → Type 0 = λ records many step peak. TriesRanges c.args.tried.now.front records many step (first_number step peak) whole tried.0 in
         let lines_are = ap (λ (totals : Totals). totals.lines) c.totals-totals.ensures.totals in
         let tries : A (enough_records needs.most) replay.totals.lines (step_of c.args.step replay.totals.peak_bytes) replay.totals.peak_bytes =
         subst (λ records. A records replay.totals.lines (step_of c.args.step replay.totals.peak_bytes) replay.totals.peak_bytes) records_are
@@ -54,7 +54,7 @@ returns g c = record {
         ∙ ap (λ (all : Fitted). greatest_line replay.totals ++ most_line needs.most ++ fitted_lines (enough_records needs.most) all c.sure_pool-sure.result) tried.2
         ∙ ap (λ sure. greatest_line replay.totals ++ most_line needs.most ++ fitted_lines (enough_records needs.most) (fitted tried.0) sure) c.sure_pool-sure.ensures in
         subst T (sym same)
-        (tells_fitted c.args.step lines whole replay.totals stands.totals needs are (omega (arith, c.if-totals-gt0.false, ap (λ (totals : Totals). totals.refused) c.totals-totals.ensures.totals)) tried.0 tries),
+        (tells_fitted c.args.tried.now.front c.args.step lines whole replay.totals stands.totals needs are (omega (arith, c.if-totals-gt0.false, ap (λ (totals : Totals). totals.refused) c.totals-totals.ensures.totals)) tried.0 tries),
     (let told = c.in_ok-fitted.ensures.tells in
         let same : told.0 ≡ length told.1.1.0 = told.1.0 ∙ ap (λ (f : Fitted). f.tried) told.1.1.2 in
         subst (λ times. HasBegun times (g.R.Source.shown c.args.reader.now).calls (g.R.Source.shown c.try_sizes.new.reader).calls) same told.2),

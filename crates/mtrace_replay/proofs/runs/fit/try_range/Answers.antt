@@ -26,9 +26,9 @@ loop-number-preserved g c =
     let so_far = c.loop-number.invariant.so_far in
     let verdict : Verdict = record { size = number * step; serves = c.in_ok-serves.serves } in
     let more : number + 1 - first ≡ number - first + 1 = omega (arith, c.loop-number.auto.number) in
-    let V : ℕ → Type 0 = λ count. AreVerdicts c.args.trial.records c.args.trial.many whole (map (λ i. i * step) (range_with_len first count)) (so_far.0 ++ verdict ∷ []) in
-    let T : Bytes → Type 0 = λ text. IsTried (one_pool (number * step) c.args.trial.records) c.args.trial.many c.in_ok-serves.serves text (g.R.Source.shown c.try_size.new.reader).left in
-    let are = one_tried c.args.trial.records c.args.trial.many whole step first number (number - first) so_far.0 verdict (omega (arith, c.loop-number.auto.number)) so_far.1 refl
+    let V : ℕ → Type 0 = λ count. AreVerdicts c.args.trial.front c.args.trial.records c.args.trial.many whole (map (λ i. i * step) (range_with_len first count)) (so_far.0 ++ verdict ∷ []) in
+    let T : Bytes → Type 0 = λ text. IsTried c.args.trial.front (one_pool (number * step) c.args.trial.records) c.args.trial.many c.in_ok-serves.serves text (g.R.Source.shown c.try_size.new.reader).left in
+    let are = one_tried c.args.trial.front c.args.trial.records c.args.trial.many whole step first number (number - first) so_far.0 verdict (omega (arith, c.loop-number.auto.number)) so_far.1 refl
     ((g.R.Source.shown c.try_size.new.reader).left, subst T c.loop-number.invariant.whole c.in_ok-serves.ensures.tried) in
     let below : number < c.args.last + 1 = c.loop-number-test.true in
     record {

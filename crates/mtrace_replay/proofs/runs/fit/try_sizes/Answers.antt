@@ -27,7 +27,7 @@ pub loop-trial-init : goal.loop-trial-init
 loop-trial-init g c =
     let reads = g.R.Source.shown in
     let tells = c.in_ok-fitted.ensures.tried.tells.1.1 in
-    let V : Bytes → ℕ → Type 0 = λ text last. AreVerdicts c.args.trial.records c.args.trial.many text (multiples c.args.step c.max-first.result last) tells.0 in
+    let V : Bytes → ℕ → Type 0 = λ text last. AreVerdicts c.args.trial.front c.args.trial.records c.args.trial.many text (multiples c.args.step c.max-first.result last) tells.0 in
     record {
       so_far = (
         0,
@@ -75,12 +75,13 @@ loop-trial-preserved g c =
     let first : ℕ = c.max-first.result in
     let told = c.in_ok-fitted-2.ensures.tried.tells in
     let tells = told.1.1 in
+    let front : ℕ = c.args.trial.front in
     let records : ℕ = c.args.trial.records in
     let many : ℕ = c.args.trial.many in
     let start : Bytes = (reads c.try_range.new.reader).whole in
     let twice = doubled_more c.args.step c.loop-trial.step so_far.0 so_far.3 in
     let next : first + 1 ≡ suc first = omega arith in
-    let A : Bytes → ℕ → ℕ → ℕ → Type 0 = λ text step from last. AreVerdicts records many text (multiples step from last) tells.0 in
+    let A : Bytes → ℕ → ℕ → ℕ → Type 0 = λ text step from last. AreVerdicts front records many text (multiples step from last) tells.0 in
     let step : ℕ = doubled c.args.step (suc so_far.0) in
     let are : A start step (suc first) (last_number step first) =
     subst (λ n. A start n (suc first) (last_number n first)) twice
@@ -94,7 +95,7 @@ loop-trial-preserved g c =
         so_far.1 ++ so_far.2,
         tells.0,
         twice,
-        more_verdicts records many start (ranges c.args.step first so_far.0) (range c.args.step first so_far.0) so_far.1 so_far.2 so_far.4 so_far.5,
+        more_verdicts front records many start (ranges c.args.step first so_far.0) (range c.args.step first so_far.0) so_far.1 so_far.2 so_far.4 so_far.5,
         are,
         sym (ap (λ (f : Fitted). f.least) so_far.7) ∙ none,
         tells.2 (so_far.1 ++ so_far.2) so_far.7,
@@ -113,13 +114,13 @@ loop-trial-preserved g c =
     }
 
 -- the ranges that were tried are all where the last has a size that serves, or none is left
-ended : (records many step first peak times : ℕ) (start whole : Bytes) (before last : List Verdict) (told : Fitted) → start ≡ whole → first ≡ first_number step peak
-    → AreVerdicts records many start (ranges step first times) before → AreVerdicts records many start (range step first times) last → least_size before ≡ None
+ended : (front records many step first peak times : ℕ) (start whole : Bytes) (before last : List Verdict) (told : Fitted) → start ≡ whole → first ≡ first_number step peak
+    → AreVerdicts front records many start (ranges step first times) before → AreVerdicts front records many start (range step first times) last → least_size before ≡ None
     → told ≡ fitted (before ++ last) → IsSome told.least ⊎ (range step first (suc times) ≡ [])
-    → (verdicts : List Verdict) × TriesRanges records many step (first_number step peak) whole verdicts × (told ≡ fitted verdicts)
-ended records many step first peak times start whole before last told same from before_are last_are none fitted_is ends = (
+    → (verdicts : List Verdict) × TriesRanges front records many step (first_number step peak) whole verdicts × (told ≡ fitted verdicts)
+ended front records many step first peak times start whole before last told same from before_are last_are none fitted_is ends = (
   before ++ last,
-  subst (λ n. TriesRanges records many step n whole (before ++ last)) from (subst (λ text. TriesRanges records many step first text (before ++ last)) same (record {
+  subst (λ n. TriesRanges front records many step n whole (before ++ last)) from (subst (λ text. TriesRanges front records many step first text (before ++ last)) same (record {
     times = times;
     before = before;
     last = last;
@@ -147,7 +148,7 @@ returns-else-is_range_behind g c =
         first.0 + kept.begun.0,
         (
           omega (arith, kept.begun.1, first.1.0, c.default.ensures.1.1.0),
-          ended c.args.trial.records c.args.trial.many c.args.step c.max-first.result c.args.peak so_far.0 (reads c.try_range.new.reader).whole (reads c.args.reader.now).whole so_far.1 so_far.2 c.loop-trial.fitted
+          ended c.args.trial.front c.args.trial.records c.args.trial.many c.args.step c.max-first.result c.args.peak so_far.0 (reads c.try_range.new.reader).whole (reads c.args.reader.now).whole so_far.1 so_far.2 c.loop-trial.fitted
               c.in_ok-fitted.ensures.whole (c.max-first.ensures ∙ ap (λ n. max n 1) c.div_ceil.ensures) so_far.4 so_far.5 so_far.6 so_far.7 (inr (no_range c.args.step c.loop-trial.step c.max-first.result so_far.0 so_far.3 few)),
         ),
         begun-then first.0 kept.begun.0 (reads c.args.reader.now).calls (reads c.try_range.new.reader).calls (reads c.loop-trial.reader).calls first.2 kept.begun.2,
@@ -166,7 +167,7 @@ returns-after-loop-trial g c =
         first.0 + kept.begun.0,
         (
           omega (arith, kept.begun.1, first.1.0, c.default.ensures.1.1.0),
-          ended c.args.trial.records c.args.trial.many c.args.step c.max-first.result c.args.peak so_far.0 (reads c.try_range.new.reader).whole (reads c.args.reader.now).whole so_far.1 so_far.2 c.loop-trial.fitted
+          ended c.args.trial.front c.args.trial.records c.args.trial.many c.args.step c.max-first.result c.args.peak so_far.0 (reads c.try_range.new.reader).whole (reads c.args.reader.now).whole so_far.1 so_far.2 c.loop-trial.fitted
               c.in_ok-fitted.ensures.whole (c.max-first.ensures ∙ ap (λ n. max n 1) c.div_ceil.ensures) so_far.4 so_far.5 so_far.6 so_far.7 (inl (some_is c.loop-trial.fitted.least (c.is_none.ensures ∙ ap not c.loop-trial-test.false))),
         ),
         begun-then first.0 kept.begun.0 (reads c.args.reader.now).calls (reads c.try_range.new.reader).calls (reads c.loop-trial.reader).calls first.2 kept.begun.2,

@@ -9,7 +9,7 @@ use Rattle.mtrace_replay.proofs.runs.fit.try_sizes.Given as goal
 abbrev pub invariant-loop-trial : goal.invariant-loop-trial
 invariant-loop-trial g l =
     let reads = g.R.Source.shown in
-    let are : List ℕ → List Verdict → Type 0 = λ tried verdicts. AreVerdicts l.trial.records l.trial.many (reads l.initial.reader).whole tried verdicts in
+    let are : List ℕ → List Verdict → Type 0 = λ tried verdicts. AreVerdicts l.trial.front l.trial.records l.trial.many (reads l.initial.reader).whole tried verdicts in
     record {
       so_far : (times : ℕ) × (before : List Verdict) × (last : List Verdict) × (l.step ≡ doubled l.fn.step times)
           × are (ranges l.fn.step l.first times) before × are (range l.fn.step l.first times) last × (least_size before ≡ None) × (l.fitted ≡ fitted (before ++ last));
@@ -19,7 +19,7 @@ invariant-loop-trial g l =
       in_units : l.step % unit ≡ 0;
       whole : (reads l.reader).whole ≡ (reads l.initial.reader).whole;
       begun : (times : ℕ) × (l.fitted.tried ≡ l.initial.fitted.tried + times) × HasBegun times (reads l.initial.reader).calls (reads l.reader).calls;
-      records : l.trial.records ≤ l.replay.content.records;
+      records : l.trial.records ≤ l.tried.replay.content.records;
     }
 
 -- the step becomes twice as large, and no larger than the greatest size

@@ -4,7 +4,11 @@ use Rattle.mtrace_replay.specs.declared.runs.report.Report.{Report}
 use Rattle.mtrace_replay.specs.declared.heap.totals.Totals.{Totals}
 use Rattle.mtrace_log.specs.declared.call.Call.TheVariants.{Took, Flushed}
 use Rattle.mtrace_log.proofs.TraceLemmas.{moved_then_append, failed_after}
-use Rattle.mtrace_replay.proofs.Running.RunLemmas.{end_text, no_notes, run_stops, report_all, ends_at, report_write}
+use Rattle.mtrace_replay.specs.Settings.{are_bad}
+use Rattle.mtrace_replay.specs.Started.{started}
+use Rattle.mtrace_replay.specs.History.{moments}
+use Rattle.mtrace_replay.specs.Run.{TellsReport}
+use Rattle.mtrace_replay.proofs.Running.RunLemmas.{end_text, no_notes, report_tells, run_stops, report_all, ends_at, report_write}
 use Rattle.mtrace_replay.proofs.runs.run.replay_log.Goals as goal
 
 -- memory was never refused
@@ -58,5 +62,5 @@ returns-in-Err-finish-clause-ran g c =
 -- the lines weren't all followed
 pub returns-in-Err-clause-ran : goal.returns-in-Err-clause-ran
 returns-in-Err-clause-ran g c =
-    run_stops c.args.report c.args.settings _ c.read_log.new.replay (λ past stands. stands) c.in-Err.fault _ _ (search rules)
+    run_stops (moments (started c.args.settings)) (TellsReport c.args.report c.args.settings) _ _ (report_tells c.args.report c.args.settings c.read_log.new.replay) (are_bad c.args.settings) c.in-Err.fault _ _ (search rules)
     (c.in-Err.ensures.ends c.args.settings c.in-Ok.ensures.made (no_notes c.args.settings)) c.read_log.ensures.whole

@@ -2,7 +2,7 @@
 use Rattle.std.proofs.Common.{◌++◌, ◌*◌, ◌+◌, ap, ◌∙◌, append_assoc}
 use Rattle.std.specs.Prelude.{codes}
 use Rattle.tlsf_heap.specs.Sizing.{class_size, sure_pool}
-use Rattle.mtrace_replay.specs.Size.{align_of, blocks_bytes}
+use Rattle.mtrace_replay.specs.Size.{align_of, largest_of, blocks_bytes}
 use Rattle.mtrace_replay.specs.Texts.{record_lines, size_line}
 use Rattle.mtrace_replay.proofs.runs.size.bounds_text.Goals as goal
 
@@ -10,7 +10,7 @@ pub returns : goal.returns
 returns c =
     let b = c.args.bounds in
     let sure = size_line (codes "sure pool: ") c.sure_of.result in
-    let sure_is = sure_pool b.blocks (blocks_bytes b.blocks b.largest b.bytes) (class_size (align_of b) b.largest) in
+    let sure_is = sure_pool b.blocks (blocks_bytes b b.bytes) (class_size (align_of b) (largest_of b)) in
     let rounded = size_line (codes "rounded pool: ") c.rounded_of.result in
     c.push_size_line-2.ensures.bytes
     ∙ ap (λ text. text ++ rounded) c.push_size_line.ensures.bytes

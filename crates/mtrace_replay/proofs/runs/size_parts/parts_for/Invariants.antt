@@ -7,6 +7,6 @@ use Rattle.mtrace_replay.proofs.runs.size_parts.parts_for.Given as goal
 -- the parts so far, and then those for the rest, are those for all
 abbrev pub invariant-loop-bounds : goal.invariant-loop-bounds
 invariant-loop-bounds l = record {
-  so_far : parts_for l.all ≡ and_rest (map part_in l.parts.items) (drop l.bounds-index l.all);
+  so_far : parts_for l.front l.all ≡ and_rest l.front (map part_in l.parts.items) (drop l.bounds-index l.all);
   count : length l.parts.items ≡ l.bounds-index;
 }
