@@ -1,4 +1,4 @@
--- The lines of a log whose requests each have so many bytes more, as a heap has that keeps some in front of each block.
+-- The lines of a log over a heap that keeps bytes in front of each block: each request is larger by this front.
 use Rattle.std.specs.Prelude.{◌≡◌, ℕ, ◌+◌, min, List, map, Ok}
 use Rattle.mtrace_log.specs.Progress.{greatest_number}
 use Rattle.mtrace_log.specs.declared.event.Event.TheVariants.{Alloc, New, Aligned}
@@ -10,22 +10,22 @@ use Rattle.mtrace_replay.specs.History.{moments}
 use Rattle.mtrace_replay.specs.LedgerReplay.{ledger_moments}
 use Rattle.mtrace_replay.specs.LineReplay.{LineRules}
 
--- a size with so many bytes more, but no more than the greatest number
+-- the sum of a size and the front, at most the greatest number
 abbrev pub with_front : (front size : ℕ) → ℕ
 with_front front size = min (size + front) greatest_number
 
--- the line, asking for so many bytes more, where it asks for a block
+-- the line, with the front added to its size where it asks for a block
 abbrev pub fronted_line : (front : ℕ) → ReadLine → ReadLine
 fronted_line front (Ok (Alloc at address size)) = Ok (Alloc at address (with_front front size))
 fronted_line front (Ok (Aligned at address align size)) = Ok (Aligned at address align (with_front front size))
 fronted_line front (Ok (New at address size)) = Ok (New at address (with_front front size))
 fronted_line front line = line
 
--- all these lines, each so
+-- all lines with the front
 abbrev pub fronted : (front : ℕ) → List ReadLine → List ReadLine
 fronted front lines = map (fronted_line front) lines
 
--- the moments on a heap by the settings of lines, the latest first, each with so many bytes more
+-- the moments on a heap by the settings of lines with the front, the latest first
 abbrev pub fronted_moments : (front : ℕ) → Settings → List ReadLine → List Moment
 fronted_moments front settings past = moments (started settings) (fronted front past)
 
@@ -33,8 +33,8 @@ fronted_moments front settings past = moments (started settings) (fronted front 
 abbrev pub fronted_ledger_moments : (front : ℕ) → List ReadLine → List Moment
 fronted_ledger_moments front past = ledger_moments (fronted front past)
 
--- What a replay says of itself that takes each request for so many bytes more, by what another says. It begins on that number, and
--- on what the other does.
+-- What a replay says of itself that adds the front to each request and hands it to another replay. It begins on the front, and on
+-- what the other begins on.
 abbrev pub fronted_rules : {P : Type 0} → LineRules P → LineRules (Fronted P)
 fronted_rules rules = record {
   Start = ℕ × rules.Start;

@@ -65,11 +65,11 @@ needs_rules = record {
   Lacks = ⊥;
 }
 
--- what a run without a report leaves of a log whose requests each have so many bytes more
+-- what a run without a report leaves of a log whose requests are larger by the front
 abbrev pub RunsFronted : {R W : Type 0} → (front : ℕ) → Settings → Result Status RunFault → Course R ReaderState → Course W WriterState → Type 0
 RunsFronted front settings = RunsBy (fronted_moments front settings) TellsNothing (are_bad settings)
 
--- such a run, the replay in the end, and what the lines need
+-- a run without a report of that log, the replay in the end, and what the lines need
 pub record EndsWithNeeds (front : ℕ) (settings : Settings) (status : Status) (replay : NeedsReplay) (reader_old reader_new : ReaderState) (writer_old writer_new : WriterState) : Type 0 where
   pub reports : Reports (fronted_moments front settings) TellsNothing status reader_old reader_new writer_old writer_new
   pub stands : StandsFor replay.replay settings (fronted front (reverse reports.lines))

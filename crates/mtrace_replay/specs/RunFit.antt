@@ -29,14 +29,14 @@ use Rattle.mtrace_replay.specs.Again.{HasReadFirst, FailsAgain, Follows, RunsFir
 abbrev pub refusals : Settings → List ReadLine → ℕ
 refusals settings lines = count_by is_refused (history settings lines)
 
--- This many lines of a log were tried on a heap by the settings, each request with so many bytes more. All of them were read, and
+-- This many lines of a log were tried on a heap by the settings, each request larger by the front. All of them were read, and
 -- none is refused; or one or more of those that were read are refused.
 abbrev pub IsTried : (front : ℕ) → Settings → (many : ℕ) → (serves : Bool) → (whole left : Bytes) → Type 0
 IsTried front settings many true whole left = (lines : List ReadLine) × HasReadFirst many whole left lines × (refusals settings (fronted front lines) ≡ 0)
 IsTried front settings many false whole left =
     (lines : List ReadLine) × (read : ℕ) × (read ≤ many) × HasReadFirst read whole left lines × (0 < refusals settings (fronted front lines))
 
--- this many lines of the log were so tried on one pool of each size, with this many records, and these are the verdicts
+-- this many lines of the log were tried on one pool of each size, with this many records, and these are the verdicts
 pub record AreVerdicts (front records many : ℕ) (whole : Bytes) (tried : List ℕ) (verdicts : List Verdict) : Type 0 where
   pub sizes_are : map (λ verdict. verdict.size) verdicts ≡ tried
   pub each : AllByRecursion (λ verdict. (left : Bytes) × IsTried front (one_pool verdict.size records) many verdict.serves whole left) verdicts
@@ -60,7 +60,7 @@ TellsSizes front zero step peak most many sure whole times text =
     × (text ≡ fitted_lines (enough_records most) (fitted verdicts) sure)
 TellsSizes front (suc more) step peak most many sure whole times text = (times ≡ 0) × (text ≡ untried_lines ++ refused_line (suc more))
 
--- The text of how large a pool a log needs, which began again this many times, by its lines, whose requests have so many bytes more.
+-- The text of how large a pool a log needs, which began again this many times, by its lines with the front.
 -- It has the peak and the most addresses held, on the greatest pool, and what is told of the sizes. The pool that is always enough is
 -- told by the most addresses, the most bytes in their blocks, and the greatest class size that a served line asks for.
 pub record TellsFit (front : ℕ) (step : Option ℕ) (lines : List ReadLine) (whole : Bytes) (times : ℕ) (text : List ℕ) : Type 0 where
@@ -115,7 +115,7 @@ abbrev pub FitFollows : {R W : Type 0} → (front : ℕ) (step : Option ℕ) (li
 FitFollows front step lines result reader writer =
     (times : ℕ) × Follows (λ left_new. TellsFit front step lines (shown_before reader).whole times) (λ old new. HasBegun times old.calls new.calls) (FailsLater (length lines)) result reader writer
 
--- What a run leaves that tells how large a pool a log needs whose requests each have so many bytes more. `BadSettings` comes exactly
+-- What a run leaves that tells how large a pool a log needs whose requests are larger by the front. `BadSettings` comes exactly
 -- where the step is bad, and then nothing is done. Else there is first a run without a report on the greatest pool, and then the log is
 -- read again.
 pub record RunsFit {R W : Type 0} (front : ℕ) (step : Option ℕ) (result : Result Status RunFault) (reader : Course R ReaderState) (writer : Course W WriterState) : Type 0 where

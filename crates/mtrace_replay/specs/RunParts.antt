@@ -36,11 +36,11 @@ PartsFollow heaps lines (Err _) writer_old writer_new = ⊥
 abbrev pub PartsFollowAlone : {R W : Type 0} → (heaps : ℕ) (lines : List ReadLine) (result : Result Status RunFault) (reader : Course R ReaderState) (writer : Course W WriterState) → Type 0
 PartsFollowAlone heaps lines result reader writer = (reader.new ≡ reader.old) × PartsFollow heaps lines result (shown_before writer) (shown_after writer)
 
--- what a run without a heap and without a report leaves of a log whose requests each have so many bytes more
+-- what a run without a heap and without a report leaves of a log whose requests are larger by the front
 abbrev pub RunsLedgerFronted : {R W : Type 0} → (front : ℕ) → Result Status RunFault → Course R ReaderState → Course W WriterState → Type 0
 RunsLedgerFronted front run reader writer = RunsLedgerBy (fronted_ledger_moments front) TellsNothing run (shown_before reader) (shown_after reader) (shown_before writer) (shown_after writer)
 
--- What a run leaves that tells at most `heaps` heaps by size that serve a log whose requests each have so many bytes more. Where there
+-- What a run leaves that tells at most `heaps` heaps by size that serve a log whose requests are larger by the front. Where there
 -- are no heaps, or more than eight, nothing is done; nor where memory is refused before the first line.
 pub record RunsParts {R W : Type 0} (front heaps : ℕ) (result : Result Status RunFault) (reader : Course R ReaderState) (writer : Course W WriterState) : Type 0 where
   pub bad_heaps : is_bad_heaps heaps ≡ true → (result ≡ Err BadSettings) × NothingDone reader writer

@@ -12,7 +12,7 @@ use Rattle.mtrace_replay.specs.Texts.{size_line}
 use Rattle.mtrace_replay.specs.Fronted.{with_front}
 use Rattle.mtrace_replay.specs.Parts.{Part, pool_bytes, records_bytes, sum_over, part_line}
 
--- the part for requests of at most these bytes, and so many more: its blocks have the class size; none where there is no such class
+-- the part for requests of at most these bytes and the front: its blocks have the class size; none where there is no such class
 abbrev pub part_for : (front : ℕ) → PartBounds → Option Part
 part_for front bounds = option_map (λ size. record { blocks = bounds.blocks; size = size }) (class_size 1 (with_front front bounds.largest))
 

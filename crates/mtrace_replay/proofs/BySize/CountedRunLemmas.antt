@@ -20,7 +20,7 @@ use Rattle.mtrace_replay.proofs.OnLedger.LedgerRunLemmas.{ledger_end}
 use Rattle.mtrace_replay.proofs.Running.FrontedLemmas.{half_fronted}
 use Rattle.mtrace_replay.proofs.Running.RunLemmas.{begins_report, reports_all}
 
--- all lines were followed, whose requests have so many bytes more
+-- all lines were followed, each request larger by the front
 module _ (front : ℕ) (fronted : Fronted CountedReplay) (has_diagnostics : Bool) (reader_old reader_new : ReaderState) (writer_old writer_middle writer_new : WriterState)
     (done : HasFollowed ((fronted_rules counted_rules).Stands (front, tt) fronted) (λ past. notes (fronted_ledger_moments front past)) (Notes (λ past. notes (fronted_ledger_moments front past)))
     has_diagnostics reader_old reader_new writer_old writer_middle) where

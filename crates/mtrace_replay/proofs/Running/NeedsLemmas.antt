@@ -114,7 +114,7 @@ module _ (old new : Replayed) (settings : Settings) (past : List ReadLine) (line
           ∙ ap (λ size. if is_served now then greater_class size (class_asked line) else size) are.class;
     }
 
--- all lines were followed, whose requests have so many bytes more
+-- all lines were followed, each request larger by the front
 module _ (front : ℕ) (settings : Settings) (fronted : Fronted NeedsReplay) (has_diagnostics : Bool) (reader_old reader_new : ReaderState) (writer_old writer_middle writer_new : WriterState)
     (done : HasFollowed ((fronted_rules needs_rules).Stands (front, settings) fronted) (λ past. notes (fronted_moments front settings past)) (Notes (λ past. notes (fronted_moments front settings past)))
     has_diagnostics reader_old reader_new writer_old writer_middle) where

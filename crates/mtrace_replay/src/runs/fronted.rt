@@ -1,4 +1,4 @@
-//! A replay of a log whose requests each have so many bytes more, as a heap has that keeps some in front of each block.
+//! A replay of a log over a heap that keeps bytes in front of each block: each request is larger by this front.
 
 ghost use Rattle.std.specs.Prelude.{◌≡◌};
 ghost use Rattle.mtrace_replay.specs.Fronted.{fronted_line};
@@ -8,7 +8,7 @@ use crate::runs::line_replay::{LineReplay, TellFault};
 use mtrace_log::{Event, LentLocation, LineFault, Sink};
 use std::alloc::AllocError;
 
-/// What a line says, where its request has so many bytes more. A size is at most 2^64 - 1.
+/// What a line says, with `front` bytes added to the size of its request, which is at most 2^64 - 1.
 #[inline(always)]
 fn with_front(
     event: Result<Event<LentLocation<'_>>, LineFault>,
@@ -45,7 +45,7 @@ fn with_front(
     }
 }
 
-/// A replay that takes each request for so many bytes more.
+/// A replay that adds the front to each request, and hands it to another replay.
 #[derive(Drop)]
 pub(crate) struct Fronted<P> {
     pub(crate) replay: P,

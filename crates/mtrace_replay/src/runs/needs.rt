@@ -142,7 +142,7 @@ pub(crate) struct NeedsRun {
     pub(crate) replay: NeedsReplay,
 }
 
-/// Reads and replays a log, whose requests each have so many bytes more, on a heap by the settings, and gathers what it needs. Writes
+/// Reads and replays a log, each request larger by `front` bytes, on a heap by the settings, and gathers what it needs. Writes
 /// what is wrong with its lines.
 pub(crate) fn replay_needs<R: Source, W: Sink>(
     alloc: Global,
