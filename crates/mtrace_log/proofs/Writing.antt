@@ -4,7 +4,7 @@ use Rattle.std.specs.Prelude.{Result, Ok, Err, IsErrAnd}
 use Rattle.std.specs.Result.{is_err}
 use Rattle.std.specs.Io.KnownBytes.{append_known}
 use Rattle.std.proofs.lemmas.List.{append-nil}
-use Rattle.mtrace_log.specs.Output.{Wrote, Begins, PutsAll, PutsPart, Puts}
+use Rattle.mtrace_log.specs.Output.{Wrote, Begins, PutsAll, PutsBeginning, Puts}
 use Rattle.mtrace_log.specs.Shown.{WriterState}
 use Rattle.mtrace_log.specs.declared.call.Call.TheVariants.{Took, Failed}
 use Rattle.mtrace_log.proofs.TraceLemmas.{moved_append, moved_then_append}
@@ -26,24 +26,24 @@ Wrote-append old middle new first second w v = v ∙ ap (λ known. append_known 
 -- a text that begins behind one that was written begins as a whole
 pub Begins-after : (old middle new : WriterState) (first second : List ℕ) → Wrote old middle first → Begins middle new second → Begins old new (first ++ second)
 Begins-after old middle new first second w b = record {
-  part = first ++ b.part;
+  beginning = first ++ b.beginning;
   rest = b.rest;
-  whole = ap (λ text. first ++ text) b.whole ∙ sym (append_assoc first b.part b.rest);
-  wrote = Wrote-append old middle new first b.part w b.wrote;
+  whole = ap (λ text. first ++ text) b.whole ∙ sym (append_assoc first b.beginning b.rest);
+  wrote = Wrote-append old middle new first b.beginning w b.wrote;
 }
 
 -- a beginning of a text is one of a longer text
 pub Begins-longer : (old new : WriterState) (text more : List ℕ) → Begins old new text → Begins old new (text ++ more)
 Begins-longer old new text more b = record {
-  part = b.part;
+  beginning = b.beginning;
   rest = b.rest ++ more;
-  whole = ap (λ t. t ++ more) b.whole ∙ append_assoc b.part b.rest more;
+  whole = ap (λ t. t ++ more) b.whole ∙ append_assoc b.beginning b.rest more;
   wrote = b.wrote;
 }
 
 -- all of a text is a beginning of it
 pub Begins-all : (old new : WriterState) (text : List ℕ) → Wrote old new text → Begins old new text
-Begins-all old new text w = record { part = text; rest = []; whole = sym (append-nil text); wrote = w }
+Begins-all old new text w = record { beginning = text; rest = []; whole = sym (append-nil text); wrote = w }
 
 -- a text is put, and then another
 pub puts_on : (old middle new : WriterState) (first second : List ℕ)
@@ -55,7 +55,7 @@ puts_on old middle new first second one other = record {
 
 -- a text is put, and then another is begun
 pub fails_on : (old middle new : WriterState) (first second : List ℕ)
-    → PutsAll first old middle → PutsPart second middle new → PutsPart (first ++ second) old new
+    → PutsAll first old middle → PutsBeginning second middle new → PutsBeginning (first ++ second) old new
 fails_on old middle new first second one other = record {
   begun = Begins-after old middle new first second one.wrote other.begun;
   failed = moved_then_append Took Failed old.calls middle.calls new.calls one.took other.failed;
@@ -63,7 +63,7 @@ fails_on old middle new first second one other = record {
 
 -- a text is begun that goes on
 pub fails_early : (old new : WriterState) (text more : List ℕ)
-    → PutsPart text old new → PutsPart (text ++ more) old new
+    → PutsBeginning text old new → PutsBeginning (text ++ more) old new
 fails_early old new text more one = record { begun = Begins-longer old new text more one.begun; failed = one.failed }
 
 -- a text is put, and then a call puts another
@@ -80,42 +80,42 @@ puts_done (Err failure) text old new is put = absurd (cc)
 
 -- the exit of a call that failed to put a text
 pub puts_exit : {T E : Type 0} (result : Result T E) (Q : E → Type 0) → IsErrAnd result Q → (text : List ℕ) (old new : WriterState)
-    → PutsPart text old new → Puts result text old new
-puts_exit (Ok done) Q failed text old new part = absurd failed
-puts_exit (Err failure) Q failed text old new part = part
+    → PutsBeginning text old new → Puts result text old new
+puts_exit (Ok done) Q failed text old new beginning = absurd failed
+puts_exit (Err failure) Q failed text old new beginning = beginning
 
 -- a beginning of the text is put, and the rest is left
 pub record IsPutting (text rest : List ℕ) (old new : WriterState) : Type 0 where
-  pub part : List ℕ
-  pub whole : text ≡ part ++ rest
-  pub put : PutsAll part old new
+  pub beginning : List ℕ
+  pub whole : text ≡ beginning ++ rest
+  pub put : PutsAll beginning old new
 
 -- the next piece of what is left is put
 pub putting_more : (old middle new : WriterState) (text rest piece later : List ℕ)
     → IsPutting text rest old middle → rest ≡ piece ++ later → PutsAll piece middle new → IsPutting text later old new
 putting_more old middle new text rest piece later so_far is next = record {
-  part = so_far.part ++ piece;
-  whole = so_far.whole ∙ ap (λ t. so_far.part ++ t) is ∙ sym (append_assoc so_far.part piece later);
-  put = puts_on old middle new so_far.part piece so_far.put next;
+  beginning = so_far.beginning ++ piece;
+  whole = so_far.whole ∙ ap (λ t. so_far.beginning ++ t) is ∙ sym (append_assoc so_far.beginning piece later);
+  put = puts_on old middle new so_far.beginning piece so_far.put next;
 }
 
 -- the next piece is begun
 pub putting_fails : (old middle new : WriterState) (text rest piece later : List ℕ)
-    → IsPutting text rest old middle → rest ≡ piece ++ later → PutsPart piece middle new → PutsPart text old new
+    → IsPutting text rest old middle → rest ≡ piece ++ later → PutsBeginning piece middle new → PutsBeginning text old new
 putting_fails old middle new text rest piece later so_far is next =
-    let P : List ℕ → Type 0 = λ t. PutsPart t old new in
-    subst P (sym (so_far.whole ∙ ap (λ t. so_far.part ++ t) is)) (fails_on old middle new so_far.part (piece ++ later) so_far.put (fails_early middle new piece later next))
+    let P : List ℕ → Type 0 = λ t. PutsBeginning t old new in
+    subst P (sym (so_far.whole ∙ ap (λ t. so_far.beginning ++ t) is)) (fails_on old middle new so_far.beginning (piece ++ later) so_far.put (fails_early middle new piece later next))
 
 -- nothing is left
 pub putting_ends : (old new : WriterState) (text rest : List ℕ)
     → IsPutting text rest old new → rest ≡ [] → PutsAll text old new
 putting_ends old new text rest so_far none =
     let P : List ℕ → Type 0 = λ t. PutsAll t old new in
-    subst P (sym (so_far.whole ∙ ap (λ t. so_far.part ++ t) none ∙ append-nil so_far.part)) so_far.put
+    subst P (sym (so_far.whole ∙ ap (λ t. so_far.beginning ++ t) none ∙ append-nil so_far.beginning)) so_far.put
 
 -- a call puts what is left
 pub putting_last : {T E : Type 0} (result : Result T E) (old middle new : WriterState) (text rest : List ℕ)
     → IsPutting text rest old middle → Puts result rest middle new → Puts result text old new
 putting_last result old middle new text rest so_far put =
     let P : List ℕ → Type 0 = λ t. Puts result t old new in
-    subst P (sym so_far.whole) (puts_then result old middle new so_far.part rest so_far.put put)
+    subst P (sym so_far.whole) (puts_then result old middle new so_far.beginning rest so_far.put put)

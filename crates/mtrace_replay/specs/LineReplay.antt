@@ -1,7 +1,7 @@
 -- What every replay of a log's lines says of itself.
 use Rattle.std.specs.Prelude.{◌≡◌, ℕ, Bool, true, false, List, [], ◌∷◌, ◌++◌, Result, Ok, Err, OnOk, OnErr}
 use Rattle.mtrace_log.specs.Shown.{WriterState}
-use Rattle.mtrace_log.specs.Output.{PutsAll, PutsPart}
+use Rattle.mtrace_log.specs.Output.{PutsAll, PutsBeginning}
 use Rattle.mtrace_replay.specs.declared.held.diagnostic.Diagnostic.{Diagnostic}
 use Rattle.mtrace_replay.specs.declared.runs.line_replay.TellFault.{TellFault}
 use Rattle.mtrace_replay.specs.declared.runs.line_replay.TellFault.TheVariants.{Write, OutOfMemory}
@@ -61,7 +61,7 @@ pub record TellsAll (Adds : List ℕ → Type 0) (more : Bool) (its left : List 
 pub record TellsPart (Adds : List ℕ → Type 0) (old new : WriterState) : Type 0 where
   pub text : List ℕ
   pub adds : Adds text
-  pub put : PutsPart text old new
+  pub put : PutsBeginning text old new
 
 -- how the telling of a line ended: where memory was refused nothing was put
 abbrev pub TellsLine : (Adds : List ℕ → Type 0) (Lacks : Type 0) → Result Bool TellFault → (its left : List Diagnostic) (old new : WriterState) → Type 0

@@ -1,7 +1,7 @@
 -- What the calls leave that tell what has changed behind the lines of a log.
 use Rattle.std.specs.Prelude.{◌≡◌, ◌⊎◌, ◌≤◌, ℕ, List, reverse, take, [], Result, Ok, Err, IfOk, IfErr}
 use Rattle.std.specs.List.{All}
-use Rattle.mtrace_log.specs.Output.{PutsAll, PutsPart, Wrote}
+use Rattle.mtrace_log.specs.Output.{PutsAll, PutsBeginning, Wrote}
 use Rattle.mtrace_log.specs.Progress.{greatest_number}
 use Rattle.mtrace_log.specs.Shown.{Bytes, ReaderState, WriterState}
 use Rattle.mtrace_log.specs.Trace.{HasNotFailed, FlushWasAsked}
@@ -20,7 +20,7 @@ use Rattle.mtrace_replay.specs.declared.runs.status.Status.{Status}
 -- memory is refused.
 abbrev pub PutsChanges : MarkedReplayed → Result (Unit {0}) RunFault → (old new : WriterState) → Type 0
 PutsChanges replay (Ok done) old new = (text : List ℕ) × IsToldOf replay text × PutsAll text old new
-PutsChanges replay (Err Write) old new = (text : List ℕ) × IsToldOf replay text × PutsPart text old new
+PutsChanges replay (Err Write) old new = (text : List ℕ) × IsToldOf replay text × PutsBeginning text old new
 PutsChanges replay (Err OutOfMemory) old new = new ≡ old
 PutsChanges replay (Err _) old new = ⊥
 
@@ -48,7 +48,7 @@ ReadsChanges numbers (Err OutOfMemory) reader_old reader_new writer_old writer_n
     (text : List ℕ) × FirstChanges numbers reader_old.left text × PutsAll text writer_old writer_new
     × HasNotFailed reader_old.calls reader_new.calls
 ReadsChanges numbers (Err Write) reader_old reader_new writer_old writer_new =
-    (text : List ℕ) × FirstChanges numbers reader_old.left text × PutsPart text writer_old writer_new
+    (text : List ℕ) × FirstChanges numbers reader_old.left text × PutsBeginning text writer_old writer_new
     × HasNotFailed reader_old.calls reader_new.calls
 ReadsChanges numbers (Err _) reader_old reader_new writer_old writer_new = ⊥
 
@@ -68,7 +68,7 @@ TellsAgain numbers (Err OutOfMemory) reader_old reader_new writer_old writer_new
     (text : List ℕ) × IsPutAgain numbers reader_old.whole text × PutsAll text writer_old writer_new
     × IsUntouchedOrBegan reader_old reader_new
 TellsAgain numbers (Err Write) reader_old reader_new writer_old writer_new =
-    (text : List ℕ) × IsPutAgain numbers reader_old.whole text × PutsPart text writer_old writer_new
+    (text : List ℕ) × IsPutAgain numbers reader_old.whole text × PutsBeginning text writer_old writer_new
     × IsUntouchedOrBegan reader_old reader_new
 TellsAgain numbers (Err _) reader_old reader_new writer_old writer_new = ⊥
 

@@ -1,4 +1,4 @@
--- Lemmas on images: cells whose parts break no rule stand, and those that stand break none.
+-- Lemmas on images: cells whose sections break no rule stand, and those that stand break none.
 pub mod ReadNodes
 pub mod Represented
 pub mod Standing
@@ -14,7 +14,7 @@ pub mod FilledHeads
 pub mod Storable
 pub mod Appending
 pub mod ChainLemmas
-pub mod HasPartsLemmas
+pub mod HasSectionsLemmas
 pub mod Counting
 pub mod Distinct
 pub mod ImageBack

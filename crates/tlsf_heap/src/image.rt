@@ -2,25 +2,25 @@
 
 ghost use Rattle.std.specs.Prelude.{◌≡◌, ◌+◌, ◌%◌, ◌<◌, ◌≤◌, IfErr, IfOk, None, Some, length};
 ghost use Rattle.tlsf_class.specs.Classes.{unit};
-ghost use Rattle.tlsf_heap.specs.Images.Image.{parts_in, record_start, record_in};
+ghost use Rattle.tlsf_heap.specs.Images.Image.{sections_in, record_start, record_in};
 ghost use Rattle.tlsf_heap.specs.Images.Rules.{first_broken, IsReadable};
 
 mod bitmaps;
 mod bytes;
 mod chains;
-mod has_parts;
+mod has_sections;
 mod header;
 mod links;
 mod lists;
 mod pools;
 mod rule;
 mod rules;
-mod store_parts;
+mod store_sections;
 mod whole;
 mod writing;
 
 use bytes::{four_at, two_at};
-pub use has_parts::HasParts;
+pub use has_sections::HasSections;
 use header::{
     COUNT_AT, HEAD_BYTES, HEADS_AT, POOLS_AT, RECORD_BYTES, RECORDS_AT, has_length, has_magic,
     has_pools, has_states, has_unused_pools, pool_in,
@@ -122,12 +122,12 @@ fn record_in(bytes: &[u8], slot: Slot) -> Record
     }
 }
 
-impl<'a> HasParts for Image<'a> {
+impl<'a> HasSections for Image<'a> {
     ghost use Rattle.std.specs.Prelude.{◌≡◌, ◌<◌, ◌≤◌, length};
     ghost use Rattle.tlsf_store.specs.Cells.{empty_cells};
-    ghost use Rattle.tlsf_heap.specs.Images.Image.{parts_in};
+    ghost use Rattle.tlsf_heap.specs.Images.Image.{sections_in};
 
-    ghost parts = { λ image. parts_in image };
+    ghost sections = { λ image. sections_in image };
 
     ghost cells = { λ image. empty_cells 0 };
 

@@ -37,7 +37,7 @@ pub use crate::answer::Answer;
 pub use crate::cursor::Cursor;
 pub use crate::heap::Heap;
 pub use crate::heaped::Heaped;
-pub use crate::image::{HasParts, Image, Rule, first_broken, is_whole, put_image};
+pub use crate::image::{HasSections, Image, Rule, first_broken, is_whole, put_image};
 pub use crate::image_fault::ImageFault;
 pub use crate::memalign::is_alignment;
 pub use crate::plain_heap::PlainHeap;

@@ -5,22 +5,22 @@ ghost use Rattle.tlsf_class.specs.Classes.{classes};
 ghost use Rattle.tlsf_store.specs.declared.errors.StoreError.TheVariants.{OutOfMemory};
 ghost use Rattle.tlsf_store.specs.Records.{vacant_count};
 ghost use Rattle.tlsf_store.specs.Cells.{most_pools};
-ghost use Rattle.tlsf_heap.specs.Inner.Loading.{CanBeStored, with_records, with_pools, HasHeadsBelow, HoldsParts};
+ghost use Rattle.tlsf_heap.specs.Inner.Loading.{CanBeStored, with_records, with_pools, HasHeadsBelow, HoldsSections};
 
 use crate::bitmaps::set_class_bit;
-use crate::image::HasParts;
+use crate::image::HasSections;
 use std::alloc::Global;
 use tlsf_class::{CLASSES, Class};
 use tlsf_store::{MOST_POOLS, Slot, State, Store, StoreError};
 
 /// Writes the records of a table over those of a store, none of which is vacant. At most three touches each.
-fn fill_records<T: HasParts>(store: &mut Store, table: &mut T)
+fn fill_records<T: HasSections>(store: &mut Store, table: &mut T)
     requires none { vacant_count store.old.cells.records ≡ 0 }
-    requires count { length store.old.cells.records ≡ length (T.parts table.old).records }
-    requires stored { CanBeStored (T.parts table.old) }
-    ensures cells { store.new.cells ≡ with_records (T.parts table.old).records store.old.cells }
-    ensures same { T.parts table.new ≡ T.parts table.old }
-    ensures touches { store.new.touches ≤ store.old.touches + 3 * length (T.parts table.old).records }
+    requires count { length store.old.cells.records ≡ length (T.sections table.old).records }
+    requires stored { CanBeStored (T.sections table.old) }
+    ensures cells { store.new.cells ≡ with_records (T.sections table.old).records store.old.cells }
+    ensures same { T.sections table.new ≡ T.sections table.old }
+    ensures touches { store.new.touches ≤ store.old.touches + 3 * length (T.sections table.old).records }
 {
     for number in 0..table.count() {
         let slot = Slot(number as u16);
@@ -33,13 +33,13 @@ fn fill_records<T: HasParts>(store: &mut Store, table: &mut T)
 }
 
 /// Makes the heads of a table those of a store without heads, and sets their bits. At most five touches a class.
-fn fill_heads<T: HasParts>(store: &mut Store, table: &mut T)
-    requires empty { HasHeadsBelow (T.parts table.old).heads store.old.cells 0 store.old.cells }
-    requires count { length store.old.cells.records ≡ length (T.parts table.old).records }
-    requires stored { CanBeStored (T.parts table.old) }
-    ensures heads { store.new.cells.heads ≡ (T.parts table.old).heads }
-    ensures filled { HasHeadsBelow (T.parts table.old).heads store.old.cells classes store.new.cells }
-    ensures same { T.parts table.new ≡ T.parts table.old }
+fn fill_heads<T: HasSections>(store: &mut Store, table: &mut T)
+    requires empty { HasHeadsBelow (T.sections table.old).heads store.old.cells 0 store.old.cells }
+    requires count { length store.old.cells.records ≡ length (T.sections table.old).records }
+    requires stored { CanBeStored (T.sections table.old) }
+    ensures heads { store.new.cells.heads ≡ (T.sections table.old).heads }
+    ensures filled { HasHeadsBelow (T.sections table.old).heads store.old.cells classes store.new.cells }
+    ensures same { T.sections table.new ≡ T.sections table.old }
     ensures touches { store.new.touches ≤ store.old.touches + 5 * classes }
 {
     for number in 0..CLASSES {
@@ -52,11 +52,11 @@ fn fill_heads<T: HasParts>(store: &mut Store, table: &mut T)
 }
 
 /// Makes the pools of a table those of a store. A touch a pool.
-fn fill_pools<T: HasParts>(store: &mut Store, table: &mut T)
+fn fill_pools<T: HasSections>(store: &mut Store, table: &mut T)
     requires pools { length store.old.cells.pools ≡ most_pools }
-    requires count { length store.old.cells.records ≡ length (T.parts table.old).records }
-    ensures cells { store.new.cells ≡ with_pools (T.parts table.old).pools store.old.cells }
-    ensures same { T.parts table.new ≡ T.parts table.old }
+    requires count { length store.old.cells.records ≡ length (T.sections table.old).records }
+    ensures cells { store.new.cells ≡ with_pools (T.sections table.old).pools store.old.cells }
+    ensures same { T.sections table.new ≡ T.sections table.old }
     ensures touches { store.new.touches ≡ store.old.touches + most_pools }
 {
     for number in 0..MOST_POOLS as u32 {
@@ -66,11 +66,11 @@ fn fill_pools<T: HasParts>(store: &mut Store, table: &mut T)
 
 /// A store that holds what a table does. It takes memory once, for its own table. At most five touches a record and a class, and
 /// ten more.
-pub(crate) fn stored<T: HasParts>(alloc: Global, table: &mut T) -> Result<Store, StoreError>
-    requires stored { CanBeStored (T.parts table.old) }
-    ensures held { IfOk result (λ store. HoldsParts (T.parts table.old) store.cells) }
-    ensures bound { IfOk result (λ store. store.touches ≤ 5 * length (T.parts table.old).records + 5 * classes + 10) }
-    ensures same { T.parts table.new ≡ T.parts table.old }
+pub(crate) fn stored<T: HasSections>(alloc: Global, table: &mut T) -> Result<Store, StoreError>
+    requires stored { CanBeStored (T.sections table.old) }
+    ensures held { IfOk result (λ store. HoldsSections (T.sections table.old) store.cells) }
+    ensures bound { IfOk result (λ store. store.touches ≤ 5 * length (T.sections table.old).records + 5 * classes + 10) }
+    ensures same { T.sections table.new ≡ T.sections table.old }
     ensures memory { IfErr result (λ error. error ≡ OutOfMemory) }
 {
     let mut store = Store::create(alloc, table.count())?;

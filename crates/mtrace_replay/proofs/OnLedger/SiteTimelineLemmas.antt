@@ -4,7 +4,7 @@ use Rattle.std.proofs.Math.ListN.{get_or}
 use Rattle.std.proofs.Math.Seq.{take-suc}
 use Rattle.std.proofs.lemmas.List.{length-map, length-reverse, reverse-append, take-append-le, take_all}
 use Rattle.std.specs.List.{AllByRecursion}
-use Rattle.mtrace_log.specs.Output.{PutsAll, PutsPart}
+use Rattle.mtrace_log.specs.Output.{PutsAll, PutsBeginning}
 use Rattle.mtrace_log.specs.Progress.{Progress, most_asked}
 use Rattle.mtrace_log.specs.Shown.{ReaderState, WriterState}
 use Rattle.mtrace_log.specs.Trace.{HasNotFailed}
@@ -116,7 +116,7 @@ module _ (numbers : List ℕ) (index : ℕ) (inside : index < length numbers) (r
   }
 
   -- the writer failed there
-  pub telling_fails : (writer_new : WriterState) → length new.held ≤ most_asked → greatest (take (suc index) numbers) ≡ new.count → PutsPart its writer_middle writer_new → HasNotFailed start.calls after.calls
+  pub telling_fails : (writer_new : WriterState) → length new.held ≤ most_asked → greatest (take (suc index) numbers) ≡ new.count → PutsBeginning its writer_middle writer_new → HasNotFailed start.calls after.calls
       → ReadsChanges numbers (Err Write) start after writer_old writer_new
   telling_fails writer_new few last part given =
       let has = told_on (MarkedStandsFor read) (λ past stands. stands) in (

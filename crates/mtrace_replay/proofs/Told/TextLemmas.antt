@@ -3,7 +3,7 @@ use Rattle.std.proofs.Common.{◌≡◌, ◌≢◌, ℕ, suc, ◌+◌, ◌<◌, 
 use Rattle.std.proofs.Math.ListN.{get_or}
 use Rattle.std.proofs.Math.Seq.{drop-cons}
 use Rattle.std.specs.Prelude.{Result, IsErrAnd}
-use Rattle.mtrace_log.specs.Output.{PutsAll, PutsPart, Puts}
+use Rattle.mtrace_log.specs.Output.{PutsAll, PutsBeginning, Puts}
 use Rattle.mtrace_log.specs.Shown.{WriterState}
 use Rattle.mtrace_log.proofs.Writing.{IsPutting, putting_more, putting_fails, puts_exit}
 use Rattle.mtrace_log.specs.Bytes.{newline}
@@ -42,8 +42,8 @@ module _ {X : Type 0} (text : X → List ℕ) (items all : List X) (index : ℕ)
       let P : List ℕ → Type 0 = λ bytes. PutsAll bytes middle new in
       putting_more old middle new (flat_map text all) (flat_map text (drop index all)) (text item) (flat_map text (drop (index + 1) all)) so_far (texts-next text items all index item same below is) (subst P told next)
 
-  pub text_fails : {T E : Type 0} (result : Result T E) (Q : E → Type 0) → IsErrAnd result Q → PutsPart bytes middle new → Puts result (flat_map text all) old new
+  pub text_fails : {T E : Type 0} (result : Result T E) (Q : E → Type 0) → IsErrAnd result Q → PutsBeginning bytes middle new → Puts result (flat_map text all) old new
   text_fails result Q failed next =
-      let P : List ℕ → Type 0 = λ bytes. PutsPart bytes middle new in
+      let P : List ℕ → Type 0 = λ bytes. PutsBeginning bytes middle new in
       puts_exit result Q failed (flat_map text all) old new
       (putting_fails old middle new (flat_map text all) (flat_map text (drop index all)) (text item) (flat_map text (drop (index + 1) all)) so_far (texts-next text items all index item same below is) (subst P told next))

@@ -11,13 +11,13 @@ use Rattle.tlsf_store.specs.declared.pools.Pool.{Pool as StoredPool}
 use Rattle.tlsf_store.specs.Records.{blank, record_at}
 use Rattle.tlsf_store.specs.Cells.{Cells, most_pools}
 use Rattle.tlsf_heap.specs.declared.image.rule.Rule.TheVariants.{Magic, Length, Pools, UnusedPools, States}
-use Rattle.tlsf_heap.specs.Images.Image.{two_at, count_at, pools_at, size_word, pool_in as pool_of_bytes, head_in, record_in, Parts, parts_in}
-use Rattle.tlsf_heap.specs.Images.Rules.{has_magic, has_length, has_pools, has_unused_pools, has_states, are_pools, first_unmet, rules_of_parts, first_broken}
+use Rattle.tlsf_heap.specs.Images.Image.{two_at, count_at, pools_at, size_word, pool_in as pool_of_bytes, head_in, record_in, Sections, sections_in}
+use Rattle.tlsf_heap.specs.Images.Rules.{has_magic, has_length, has_pools, has_unused_pools, has_states, are_pools, first_unmet, rules_of_sections, first_broken}
 use Rattle.tlsf_heap.proofs.Images.UnbrokenRules.{holds_first}
 use Rattle.tlsf_heap.specs.Images.Described.{described}
 use Rattle.tlsf_heap.specs.Inner.Entries.{entries_of, padded}
 use Rattle.tlsf_heap.specs.Inner.Following.{content_from, content_of, Stands}
-use Rattle.tlsf_heap.specs.Inner.Loading.{HoldsParts}
+use Rattle.tlsf_heap.specs.Inner.Loading.{HoldsSections}
 use Rattle.tlsf_heap.proofs.Images.Standing.{imaged_stand}
 use Rattle.tlsf_heap.proofs.Inner.EntryLists.{entries_of-none}
 use Rattle.tlsf_heap.proofs.Images.ImageLemmas.{records_count}
@@ -60,43 +60,43 @@ record_units bytes slot = elim (cases_Bool (eqb (size_word bytes slot % unit) 0)
 ]
 
 module _ (bytes : List ℕ) where
-  pub in_units : (slot : ℕ) → (record_at (parts_in bytes).records slot).size % unit ≡ 0
+  pub in_units : (slot : ℕ) → (record_at (sections_in bytes).records slot).size % unit ≡ 0
   in_units slot = elim (cases_lt slot (two_at count_at bytes)) [
     | inl below ↦
         let same : 0 + slot ≡ slot = omega arith in
         ap (λ (r : Record). r.size % unit) (get_or-map-range_with_len (record_in bytes) 0 (two_at count_at bytes) slot slot blank below same) ∙ record_units bytes slot
-    | inr past ↦ ap (λ (r : Record). r.size % unit) (get_or_past (parts_in bytes).records slot blank (omega (arith, past, records_count bytes)))
+    | inr past ↦ ap (λ (r : Record). r.size % unit) (get_or_past (sections_in bytes).records slot blank (omega (arith, past, records_count bytes)))
   ]
 
   module _ (sound : first_broken bytes ≡ None) where
-    magic_holds : (has_magic bytes ≡ true) × (first_unmet ((Length, has_length bytes) ∷ (Pools, has_pools bytes) ∷ (UnusedPools, has_unused_pools bytes) ∷ (States, has_states bytes) ∷ rules_of_parts (parts_in bytes)) ≡ None)
+    magic_holds : (has_magic bytes ≡ true) × (first_unmet ((Length, has_length bytes) ∷ (Pools, has_pools bytes) ∷ (UnusedPools, has_unused_pools bytes) ∷ (States, has_states bytes) ∷ rules_of_sections (sections_in bytes)) ≡ None)
     magic_holds = holds_first (has_magic bytes) Magic _ sound
 
-    length_holds : (has_length bytes ≡ true) × (first_unmet ((Pools, has_pools bytes) ∷ (UnusedPools, has_unused_pools bytes) ∷ (States, has_states bytes) ∷ rules_of_parts (parts_in bytes)) ≡ None)
+    length_holds : (has_length bytes ≡ true) × (first_unmet ((Pools, has_pools bytes) ∷ (UnusedPools, has_unused_pools bytes) ∷ (States, has_states bytes) ∷ rules_of_sections (sections_in bytes)) ≡ None)
     length_holds = holds_first (has_length bytes) Length _ magic_holds.1
 
-    pools_hold : (has_pools bytes ≡ true) × (first_unmet ((UnusedPools, has_unused_pools bytes) ∷ (States, has_states bytes) ∷ rules_of_parts (parts_in bytes)) ≡ None)
+    pools_hold : (has_pools bytes ≡ true) × (first_unmet ((UnusedPools, has_unused_pools bytes) ∷ (States, has_states bytes) ∷ rules_of_sections (sections_in bytes)) ≡ None)
     pools_hold = holds_first (has_pools bytes) Pools _ length_holds.1
 
-    pub parts_hold : first_unmet (rules_of_parts (parts_in bytes)) ≡ None
-    parts_hold = (holds_first (has_states bytes) States _ (holds_first (has_unused_pools bytes) UnusedPools _ pools_hold.1).1).1
+    pub sections_hold : first_unmet (rules_of_sections (sections_in bytes)) ≡ None
+    sections_hold = (holds_first (has_states bytes) States _ (holds_first (has_unused_pools bytes) UnusedPools _ pools_hold.1).1).1
 
-    pub ordered : are_pools (length (parts_in bytes).records) 0 (entries_of (parts_in bytes).pools) ≡ true
-    ordered = ap (λ count. are_pools count 0 (entries_of (parts_in bytes).pools)) (records_count bytes) ∙ (and_parts (are_pools (two_at count_at bytes) 0 (entries_of (parts_in bytes).pools)) _ pools_hold.0).0
+    pub ordered : are_pools (length (sections_in bytes).records) 0 (entries_of (sections_in bytes).pools) ≡ true
+    ordered = ap (λ count. are_pools count 0 (entries_of (sections_in bytes).pools)) (records_count bytes) ∙ (and_parts (are_pools (two_at count_at bytes) 0 (entries_of (sections_in bytes).pools)) _ pools_hold.0).0
 
-    module _ (cells : Cells) (loaded : HoldsParts (parts_in bytes) cells) where
-      pools : cells.pools ≡ (parts_in bytes).pools
-      pools = ap (λ (p : Parts). p.pools) loaded.held
+    module _ (cells : Cells) (loaded : HoldsSections (sections_in bytes) cells) where
+      pools : cells.pools ≡ (sections_in bytes).pools
+      pools = ap (λ (p : Sections). p.pools) loaded.held
 
-      heads : cells.heads ≡ (parts_in bytes).heads
-      heads = ap (λ (p : Parts). p.heads) loaded.held
+      heads : cells.heads ≡ (sections_in bytes).heads
+      heads = ap (λ (p : Sections). p.heads) loaded.held
 
-      records : cells.records ≡ (parts_in bytes).records
-      records = ap (λ (p : Parts). p.records) loaded.held
+      records : cells.records ≡ (sections_in bytes).records
+      records = ap (λ (p : Sections). p.records) loaded.held
 
       pub loaded_stand : Stands cells
       loaded_stand = imaged_stand cells (record {
-        unbroken = ap (λ p. first_unmet (rules_of_parts p)) loaded.held ∙ parts_hold;
+        unbroken = ap (λ p. first_unmet (rules_of_sections p)) loaded.held ∙ sections_hold;
         ordered = (λ i. are_pools (length (records i)) 0 (entries_of (pools i))) ∙ ordered;
         packed = pools ∙ packed_from (pool_of_bytes bytes) (two_at pools_at bytes) 0 most_pools ∙ ap (λ ps. padded (entries_of ps)) (sym pools);
         pools_count = ap length pools ∙ length-map-range_with_len (entry (pool_of_bytes bytes) (two_at pools_at bytes)) 0 most_pools;

@@ -7,7 +7,7 @@ use Rattle.std.proofs.lemmas.Bool.{cases_Bool, cases_lt, and_parts, and_from, eq
 use Rattle.tlsf_class.specs.Classes.{class}
 use Rattle.tlsf_store.specs.Cells.{head_at}
 use Rattle.tlsf_store.specs.Records.{is_free_state}
-use Rattle.tlsf_heap.specs.Images.Image.{Parts}
+use Rattle.tlsf_heap.specs.Images.Image.{Sections}
 use Rattle.tlsf_heap.specs.Images.Links.{ends_within, is_linked}
 use Rattle.tlsf_heap.specs.Images.Rules.{at, are_pools, chain_of, has_links, has_chains, has_cover, is_among, has_all_on_chains, slots_in_list, is_list, are_lists, has_lists, has_all_on_lists}
 use Rattle.tlsf_heap.proofs.Images.Counting.{one_if, times-append, any_counts}
@@ -45,60 +45,60 @@ as_often n false most needs gives = elim (cases_lt 0 n) [
   | inr none ↦ omega (arith, none)
 ]
 
-module _ (parts : Parts) where
-  pub on_chain_once : has_links parts ≡ true → has_chains parts ≡ true → has_cover parts ≡ true → are_pools (length parts.records) 0 (entries_of parts.pools) ≡ true → has_all_on_chains parts ≡ true
-      → (slot : ℕ) → times slot (flat_map (chain_of parts) (entries_of parts.pools)) ≡ one_if (is_block parts slot)
+module _ (sections : Sections) where
+  pub on_chain_once : has_links sections ≡ true → has_chains sections ≡ true → has_cover sections ≡ true → are_pools (length sections.records) 0 (entries_of sections.pools) ≡ true → has_all_on_chains sections ≡ true
+      → (slot : ℕ) → times slot (flat_map (chain_of sections) (entries_of sections.pools)) ≡ one_if (is_block sections slot)
   on_chain_once linked chains covered ordered all slot =
-      let pools = entries_of parts.pools in
-      let slots = flat_map (chain_of parts) pools in
-      as_often (times slot slots) (is_block parts slot) (chains_once parts linked (length parts.records) 0 pools ordered chains covered slot) (on_chain_used parts pools chains slot)
+      let pools = entries_of sections.pools in
+      let slots = flat_map (chain_of sections) pools in
+      as_often (times slot slots) (is_block sections slot) (chains_once sections linked (length sections.records) 0 pools ordered chains covered slot) (on_chain_used sections pools chains slot)
       (λ used.
-      let here = all_below (λ slot. not (is_block parts slot) || list_any (λ pool. is_among slot (chain_of parts pool)) pools) (length parts.records) all slot (used_below parts slot used) in
-      any_counts (λ other. eqb other slot) slots (among_any (chain_of parts) pools slot ∙ not_or (is_block parts slot) _ here used))
+      let here = all_below (λ slot. not (is_block sections slot) || list_any (λ pool. is_among slot (chain_of sections pool)) pools) (length sections.records) all slot (used_below sections slot used) in
+      any_counts (λ other. eqb other slot) slots (among_any (chain_of sections) pools slot ∙ not_or (is_block sections slot) _ here used))
 
   -- the list of each class is one, also of those that there aren't
-  pub list_at : (from number : ℕ) (heads : List (Option ℕ)) → are_lists parts from heads ≡ true → is_list parts (from + number) (slice_index_or heads number None) ≡ true
-  list_at from number [] lists = linked_end (is_listed_slot parts (from + number)) (λ slot. (at parts slot).next_free) (λ slot. (at parts slot).prev_free) (length parts.records) None
+  pub list_at : (from number : ℕ) (heads : List (Option ℕ)) → are_lists sections from heads ≡ true → is_list sections (from + number) (slice_index_or heads number None) ≡ true
+  list_at from number [] lists = linked_end (is_listed_slot sections (from + number)) (λ slot. (at sections slot).next_free) (λ slot. (at sections slot).prev_free) (length sections.records) None
   list_at from zero (first ∷ heads) lists =
-      let P : ℕ → Type 0 = λ number. is_list parts number first ≡ true in
+      let P : ℕ → Type 0 = λ number. is_list sections number first ≡ true in
       let same : from ≡ from + 0 = omega arith in
-      subst P same (first_list parts from first heads lists)
+      subst P same (first_list sections from first heads lists)
   list_at from (suc number) (first ∷ heads) lists =
-      let P : ℕ → Type 0 = λ k. is_list parts k (slice_index_or heads number None) ≡ true in
+      let P : ℕ → Type 0 = λ k. is_list sections k (slice_index_or heads number None) ≡ true in
       let same : (from + 1) + number ≡ from + suc number = omega arith in
-      subst P same (list_at (from + 1) number heads (other_lists parts from first heads lists))
+      subst P same (list_at (from + 1) number heads (other_lists sections from first heads lists))
 
   -- a listed block stands in the list of its class
-  in_own_list : (from number slot : ℕ) (heads : List (Option ℕ)) → are_lists parts from heads ≡ true → from + number ≡ class (at parts slot).size → 1 ≤ times slot (flat_map (slots_in_list parts) heads)
-      → 1 ≤ times slot (slots_in_list parts (slice_index_or heads number None))
+  in_own_list : (from number slot : ℕ) (heads : List (Option ℕ)) → are_lists sections from heads ≡ true → from + number ≡ class (at sections slot).size → 1 ≤ times slot (flat_map (slots_in_list sections) heads)
+      → 1 ≤ times slot (slots_in_list sections (slice_index_or heads number None))
   in_own_list from number slot [] lists is some = absurd (omega (arith, some))
-  in_own_list from zero slot (first ∷ heads) lists is some = elim (cases_lt 0 (times slot (slots_in_list parts first))) [
+  in_own_list from zero slot (first ∷ heads) lists is some = elim (cases_lt 0 (times slot (slots_in_list sections first))) [
     | inl here ↦ omega (arith, here)
     | inr none ↦
-        let more : 1 ≤ times slot (flat_map (slots_in_list parts) heads) = omega (arith, some, none, times-append slot (slots_in_list parts first) (flat_map (slots_in_list parts) heads)) in
-        absurd (omega (arith, is, (listed_from parts (from + 1) heads (other_lists parts from first heads lists) slot more).1))
+        let more : 1 ≤ times slot (flat_map (slots_in_list sections) heads) = omega (arith, some, none, times-append slot (slots_in_list sections first) (flat_map (slots_in_list sections) heads)) in
+        absurd (omega (arith, is, (listed_from sections (from + 1) heads (other_lists sections from first heads lists) slot more).1))
   ]
-  in_own_list from (suc number) slot (first ∷ heads) lists is some = elim (cases_lt 0 (times slot (slots_in_list parts first))) [
-    | inl here ↦ absurd (omega (arith, is, (listed_here parts from first (first_list parts from first heads lists) slot (omega (arith, here))).1))
+  in_own_list from (suc number) slot (first ∷ heads) lists is some = elim (cases_lt 0 (times slot (slots_in_list sections first))) [
+    | inl here ↦ absurd (omega (arith, is, (listed_here sections from first (first_list sections from first heads lists) slot (omega (arith, here))).1))
     | inr none ↦
-        in_own_list (from + 1) number slot heads (other_lists parts from first heads lists) (omega (arith, is)) (omega (arith, some, none, times-append slot (slots_in_list parts first) (flat_map (slots_in_list parts) heads)))
+        in_own_list (from + 1) number slot heads (other_lists sections from first heads lists) (omega (arith, is)) (omega (arith, some, none, times-append slot (slots_in_list sections first) (flat_map (slots_in_list sections) heads)))
   ]
 
-  module _ (lists : has_lists parts ≡ true) where
-    pub list_of_class : (number : ℕ) → is_list parts number (head_at parts.heads number) ≡ true
+  module _ (lists : has_lists sections ≡ true) where
+    pub list_of_class : (number : ℕ) → is_list sections number (head_at sections.heads number) ≡ true
     list_of_class number =
-        let P : ℕ → Type 0 = λ k. is_list parts k (head_at parts.heads number) ≡ true in
+        let P : ℕ → Type 0 = λ k. is_list sections k (head_at sections.heads number) ≡ true in
         let same : 0 + number ≡ number = omega arith in
-        subst P same (list_at 0 number parts.heads lists)
+        subst P same (list_at 0 number sections.heads lists)
 
-    pub in_list_once : has_all_on_lists parts ≡ true → (number slot : ℕ) → times slot (slots_in_list parts (head_at parts.heads number)) ≡ one_if (is_listed_slot parts number slot)
+    pub in_list_once : has_all_on_lists sections ≡ true → (number slot : ℕ) → times slot (slots_in_list sections (head_at sections.heads number)) ≡ one_if (is_listed_slot sections number slot)
     in_list_once all number slot =
-        let first = head_at parts.heads number in
+        let first = head_at sections.heads number in
         let list = list_of_class number in
-        as_often (times slot (slots_in_list parts first)) (is_listed_slot parts number slot) (list_once parts number first list slot)
-        (λ some. let free = listed_here parts number first list slot some in and_from _ _ free.0 (eq-eqb _ _ free.1))
+        as_often (times slot (slots_in_list sections first)) (is_listed_slot sections number slot) (list_once sections number first list slot)
+        (λ some. let free = listed_here sections number first list slot some in and_from _ _ free.0 (eq-eqb _ _ free.1))
         (λ listed.
-        let both = and_parts (is_free_state (at parts slot).state) (eqb (class (at parts slot).size) number) listed in
-        let here = all_below (λ slot. not (is_free_state (at parts slot).state) || list_any (λ first. is_among slot (slots_in_list parts first)) parts.heads) (length parts.records) all slot (used_below parts slot (free_is_used (at parts slot).state both.0)) in
-        let some = any_counts (λ other. eqb other slot) (flat_map (slots_in_list parts) parts.heads) (among_any (slots_in_list parts) parts.heads slot ∙ not_or (is_free_state (at parts slot).state) _ here both.0) in
-        in_own_list 0 number slot parts.heads lists (omega (arith, eqb-true (class (at parts slot).size) number both.1)) some)
+        let both = and_parts (is_free_state (at sections slot).state) (eqb (class (at sections slot).size) number) listed in
+        let here = all_below (λ slot. not (is_free_state (at sections slot).state) || list_any (λ first. is_among slot (slots_in_list sections first)) sections.heads) (length sections.records) all slot (used_below sections slot (free_is_used (at sections slot).state both.0)) in
+        let some = any_counts (λ other. eqb other slot) (flat_map (slots_in_list sections) sections.heads) (among_any (slots_in_list sections) sections.heads slot ∙ not_or (is_free_state (at sections slot).state) _ here both.0) in
+        in_own_list 0 number slot sections.heads lists (omega (arith, eqb-true (class (at sections slot).size) number both.1)) some)

@@ -6,7 +6,7 @@ use Rattle.std.proofs.lemmas.Bool.{and_from}
 use Rattle.tlsf_store.specs.declared.pools.Pool.{Pool}
 use Rattle.tlsf_store.specs.Cells.{Cells, most_pools}
 use Rattle.tlsf_heap.specs.Images.Rules.{are_packed, has_ordered_pools, has_packed_pools}
-use Rattle.tlsf_heap.specs.Images.Described.{told_parts}
+use Rattle.tlsf_heap.specs.Images.Described.{told_sections}
 use Rattle.tlsf_heap.specs.Inner.Nodes.{Area}
 use Rattle.tlsf_heap.specs.Inner.Following.{Stands}
 use Rattle.tlsf_heap.proofs.Images.Saved.{told_ordered}
@@ -26,7 +26,7 @@ packed [] (suc n) = none_left n
 packed (entry ∷ entries) n = packed entries n
 
 -- those of cells that stand
-pub stand_packed : (cells : Cells) → Stands cells → has_packed_pools (told_parts cells) ≡ true
+pub stand_packed : (cells : Cells) → Stands cells → has_packed_pools (told_sections cells) ≡ true
 stand_packed cells stands =
     let entries : List Pool = map (λ (area : Area). area.entry) stands.layout.areas in
-    and_from (are_packed cells.pools) (has_ordered_pools (told_parts cells)) (ap are_packed stands.represented.entries ∙ packed entries (most_pools - length entries)) (told_ordered cells stands)
+    and_from (are_packed cells.pools) (has_ordered_pools (told_sections cells)) (ap are_packed stands.represented.entries ∙ packed entries (most_pools - length entries)) (told_ordered cells stands)

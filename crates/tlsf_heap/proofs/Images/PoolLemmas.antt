@@ -5,7 +5,7 @@ use Rattle.std.specs.List.{list_all, range_with_len}
 use Rattle.std.proofs.lemmas.Bool.{lt-ltb, le-ltb, and_right}
 use Rattle.tlsf_store.specs.declared.pools.Pool.{Pool}
 use Rattle.tlsf_store.specs.Cells.{most_pools}
-use Rattle.tlsf_heap.specs.Images.Image.{two_at, count_at, pools_at, entry_at, are_zero, pool_in, parts_in}
+use Rattle.tlsf_heap.specs.Images.Image.{two_at, count_at, pools_at, entry_at, are_zero, pool_in, sections_in}
 use Rattle.tlsf_heap.specs.Images.Rules.{is_pool, are_pools, has_pools}
 use Rattle.tlsf_heap.specs.Inner.Entries.{entries_of}
 
@@ -27,7 +27,7 @@ module _ (bytes : List ℕ) where
       subst P (sym more) (rw (lt-ltb from count (omega (arith, all))) (ap (λ pools. pool_in bytes from ∷ pools) (those_present count some (from + 1) behind (omega (arith, all)))))
 
   -- the pools of an image
-  pub pools_present : two_at pools_at bytes ≤ most_pools → entries_of (parts_in bytes).pools ≡ map (pool_in bytes) (range_with_len 0 (two_at pools_at bytes))
+  pub pools_present : two_at pools_at bytes ≤ most_pools → entries_of (sections_in bytes).pools ≡ map (pool_in bytes) (range_with_len 0 (two_at pools_at bytes))
   pools_present few =
       let count = two_at pools_at bytes in
       let P : ℕ → Type 0 = λ n. entries_of (map (entry_if count) (range_with_len 0 n)) ≡ map (pool_in bytes) (range_with_len 0 count) in

@@ -10,13 +10,13 @@ use Rattle.tlsf_store.specs.declared.records.Record.{Record}
 use Rattle.tlsf_store.specs.declared.pools.Pool.{Pool as StoredPool}
 use Rattle.tlsf_store.specs.Records.{record_at, is_free_state}
 use Rattle.tlsf_store.specs.Cells.{Cells}
-use Rattle.tlsf_heap.specs.Images.Image.{Parts}
+use Rattle.tlsf_heap.specs.Images.Image.{Sections}
 use Rattle.tlsf_heap.specs.Images.Links.{follow, ends_within, is_linked}
 use Rattle.tlsf_heap.specs.Images.Rules.{at, is_used, is_chain, chain_of, slots_in_list}
 use Rattle.tlsf_heap.specs.Good.{times}
 use Rattle.tlsf_heap.proofs.Images.Totals.{all_first, all_rest}
 use Rattle.tlsf_heap.proofs.Images.Once.{linked_step, linked_ends}
-use Rattle.tlsf_heap.specs.Images.Described.{parts_of}
+use Rattle.tlsf_heap.specs.Images.Described.{sections_of}
 use Rattle.tlsf_heap.specs.Inner.Entries.{entries_of}
 use Rattle.tlsf_heap.specs.Inner.Nodes.{NodeState, InUse, Listed, Node, Area, Layout, nodes_of, has_slot, is_listed_state, owner_of}
 use Rattle.tlsf_heap.specs.Inner.Represents.{in_pool, pool_views, record_state, first_slot, AreLinked, IsChain}
@@ -35,15 +35,15 @@ node_at records slot =
     record { slot = slot; place = r.place; size = r.size; state = node_state_in r.state }
 
 -- the area of a pool
-abbrev pub area_from : Parts → StoredPool → Area
-area_from parts pool = record { entry = pool; nodes = map (node_at parts.records) (chain_of parts pool) }
+abbrev pub area_from : Sections → StoredPool → Area
+area_from sections pool = record { entry = pool; nodes = map (node_at sections.records) (chain_of sections pool) }
 
 -- the layout that cells have by their links
 abbrev pub layout_of : Cells → Layout
 layout_of cells = record {
   count = length cells.records;
-  areas = map (area_from (parts_of cells)) (entries_of cells.pools);
-  lists = map (λ first. map (node_at cells.records) (slots_in_list (parts_of cells) first)) cells.heads;
+  areas = map (area_from (sections_of cells)) (entries_of cells.pools);
+  lists = map (λ first. map (node_at cells.records) (slots_in_list (sections_of cells) first)) cells.heads;
   taken = [];
 }
 
@@ -85,30 +85,30 @@ module _ (records : List Record) where
   pub count_slots : (slot : ℕ) (slots : List ℕ) → count_by (has_slot slot) (map (node_at records) slots) ≡ times slot slots
   count_slots slot slots = count-map (has_slot slot) (node_at records) slots
 
-module _ (parts : Parts) where
-  pub nodes_of_areas : (pools : List StoredPool) → nodes_of (map (area_from parts) pools) ≡ map (node_at parts.records) (flat_map (chain_of parts) pools)
+module _ (sections : Sections) where
+  pub nodes_of_areas : (pools : List StoredPool) → nodes_of (map (area_from sections) pools) ≡ map (node_at sections.records) (flat_map (chain_of sections) pools)
   nodes_of_areas [] = refl
   nodes_of_areas (pool ∷ pools) =
-      ap (λ nodes. map (node_at parts.records) (chain_of parts pool) ++ nodes) (nodes_of_areas pools)
-      ∙ sym (map-append (node_at parts.records) (chain_of parts pool) (flat_map (chain_of parts) pools))
+      ap (λ nodes. map (node_at sections.records) (chain_of sections pool) ++ nodes) (nodes_of_areas pools)
+      ∙ sym (map-append (node_at sections.records) (chain_of sections pool) (flat_map (chain_of sections) pools))
 
-  chain_says : (slot : ℕ) → is_used (at parts slot).state ≡ true → pool_views parts.records slot ≡ in_pool (at parts slot).prev (node_at parts.records slot) (at parts slot).next
-  chain_says slot used = let r = at parts slot in λ i. record { place = r.place; size = r.size; state = sym (state_back r.state used) i; prev = r.prev; next = r.next }
+  chain_says : (slot : ℕ) → is_used (at sections slot).state ≡ true → pool_views sections.records slot ≡ in_pool (at sections slot).prev (node_at sections.records slot) (at sections slot).next
+  chain_says slot used = let r = at sections slot in λ i. record { place = r.place; size = r.size; state = sym (state_back r.state used) i; prev = r.prev; next = r.next }
 
   -- the chain of each pool is one of nodes
-  pub chains_are : (pools : List StoredPool) → list_all (is_chain parts) pools ≡ true → AllByRecursion (IsChain (pool_views parts.records)) (map (area_from parts) pools)
+  pub chains_are : (pools : List StoredPool) → list_all (is_chain sections) pools ≡ true → AllByRecursion (IsChain (pool_views sections.records)) (map (area_from sections) pools)
   chains_are [] all = tt
   chains_are (pool ∷ pools) all = (
     record {
-      begins = first_followed parts.records (length parts.records) (λ slot. (at parts slot).next) (Some pool.first)
-          (linked_ends (λ slot. is_used (at parts slot).state) (λ slot. (at parts slot).next) (λ slot. (at parts slot).prev) (length parts.records) None (Some pool.first) (all_first (is_chain parts) pool pools all));
-      linked = linked_followed parts.records in_pool (pool_views parts.records) (λ slot. is_used (at parts slot).state) (λ slot. (at parts slot).next) (λ slot. (at parts slot).prev) chain_says (length parts.records) None (Some pool.first)
-          (all_first (is_chain parts) pool pools all);
+      begins = first_followed sections.records (length sections.records) (λ slot. (at sections slot).next) (Some pool.first)
+          (linked_ends (λ slot. is_used (at sections slot).state) (λ slot. (at sections slot).next) (λ slot. (at sections slot).prev) (length sections.records) None (Some pool.first) (all_first (is_chain sections) pool pools all));
+      linked = linked_followed sections.records in_pool (pool_views sections.records) (λ slot. is_used (at sections slot).state) (λ slot. (at sections slot).next) (λ slot. (at sections slot).prev) chain_says (length sections.records) None (Some pool.first)
+          (all_first (is_chain sections) pool pools all);
     },
-    chains_are pools (all_rest (is_chain parts) pool pools all),
+    chains_are pools (all_rest (is_chain sections) pool pools all),
   )
 
-  pub entries_are : (pools : List (Option StoredPool)) → map (λ (area : Area). area.entry) (map (area_from parts) (entries_of pools)) ≡ entries_of pools
+  pub entries_are : (pools : List (Option StoredPool)) → map (λ (area : Area). area.entry) (map (area_from sections) (entries_of pools)) ≡ entries_of pools
   entries_are [] = refl
   entries_are (None ∷ pools) = entries_are pools
   entries_are (Some pool ∷ pools) = ap (λ entries. pool ∷ entries) (entries_are pools)

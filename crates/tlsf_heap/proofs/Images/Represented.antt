@@ -1,4 +1,4 @@
--- Cells whose parts break no rule represent the layout that they have by their links.
+-- Cells whose sections break no rule represent the layout that they have by their links.
 use Rattle.std.proofs.Common.{◌≡◌, ℕ, ◌+◌, ◌≤◌, ◌%◌, Bool, true, false, cond, ◌&&◌, eqb, List, [], ◌∷◌, length, map, refl, sym, ap, ◌∙◌, subst, arith, count_by, filter, Option, None, inl, inr}
 use Rattle.std.specs.List.{flat_map}
 use Rattle.std.proofs.lemmas.Bool.{cases_Bool, cases_lt, eqb-true, and_parts, and_right}
@@ -9,15 +9,15 @@ use Rattle.tlsf_store.specs.declared.records.State.{State}
 use Rattle.tlsf_store.specs.declared.records.State.TheVariants.{Vacant, Free, Live}
 use Rattle.tlsf_store.specs.Cells.{Cells, head_at, most_pools}
 use Rattle.tlsf_store.specs.Records.{is_free_state, record_at}
-use Rattle.tlsf_heap.specs.Images.Image.{Parts}
-use Rattle.tlsf_heap.specs.Images.Rules.{are_pools, first_unmet, rules_of_parts, at, is_used, chain_of, are_lists, slots_in_list}
+use Rattle.tlsf_heap.specs.Images.Image.{Sections}
+use Rattle.tlsf_heap.specs.Images.Rules.{are_pools, first_unmet, rules_of_sections, at, is_used, chain_of, are_lists, slots_in_list}
 use Rattle.tlsf_heap.proofs.Images.LinkLemmas.{follow_none}
 use Rattle.tlsf_heap.proofs.Images.Counting.{one_if, same_length}
 use Rattle.tlsf_heap.specs.Good.{times}
 use Rattle.tlsf_heap.proofs.Images.Totals.{is_block, used_below, is_listed_slot, first_list, other_lists}
 use Rattle.tlsf_heap.proofs.Images.Once.{linked_ends, on_chain_once, list_of_class, in_list_once}
 use Rattle.tlsf_heap.proofs.Images.UnbrokenRules.{IsUnbroken, unbroken}
-use Rattle.tlsf_heap.specs.Images.Described.{parts_of}
+use Rattle.tlsf_heap.specs.Images.Described.{sections_of}
 use Rattle.tlsf_heap.specs.Images.Bitmaps.{AreBitmapsOf}
 use Rattle.tlsf_heap.specs.Inner.Entries.{padded, entries_of}
 use Rattle.tlsf_heap.specs.Inner.Nodes.{Node, nodes_of, nodes_in, has_slot, is_listed_in}
@@ -26,9 +26,9 @@ use Rattle.tlsf_heap.proofs.Counts.{count-cons, count-filter, count_same, count-
 use Rattle.tlsf_heap.proofs.Images.ReadNodes.{node_at, layout_of, node_state_listed, first_followed, linked_followed, count_slots, nodes_of_areas, chains_are, entries_are}
 use Rattle.tlsf_heap.proofs.Images.ChainLemmas.{free_is_used}
 
--- their parts break no rule, and the bitmaps are those of the heads
+-- their sections break no rule, and the bitmaps are those of the heads
 pub record AreImaged (cells : Cells) : Type 0 where
-  pub unbroken : first_unmet (rules_of_parts (parts_of cells)) ≡ None
+  pub unbroken : first_unmet (rules_of_sections (sections_of cells)) ≡ None
   pub ordered : are_pools (length cells.records) 0 (entries_of cells.pools) ≡ true
   pub packed : cells.pools ≡ padded (entries_of cells.pools)
   pub pools_count : length cells.pools ≡ most_pools
@@ -68,55 +68,55 @@ one_each false true block used = refl
 one_each false false block used = refl
 
 module _ (cells : Cells) where
-  abbrev parts : Parts
-  parts = parts_of cells
+  abbrev sections : Sections
+  sections = sections_of cells
 
   abbrev node : ℕ → Node
   node slot = node_at cells.records slot
 
   abbrev listed : ℕ → List ℕ
-  listed number = slots_in_list parts (head_at cells.heads number)
+  listed number = slots_in_list sections (head_at cells.heads number)
 
   abbrev chained : List ℕ
-  chained = flat_map (chain_of parts) (entries_of cells.pools)
+  chained = flat_map (chain_of sections) (entries_of cells.pools)
 
   -- the nodes of a class's list
   pub list_is : (number : ℕ) → nodes_in number (layout_of cells).lists ≡ map node (listed number)
   list_is number = elim (cases_lt number (length cells.heads)) [
-    | inl below ↦ get_or-map (λ first. map node (slots_in_list parts first)) cells.heads number None [] below
+    | inl below ↦ get_or-map (λ first. map node (slots_in_list sections first)) cells.heads number None [] below
     | inr past ↦
-        get_or_past (map (λ first. map node (slots_in_list parts first)) cells.heads) number [] (omega (arith, past, length-map cells.heads (λ first. map node (slots_in_list parts first))))
-        ∙ sym (ap (λ first. map node (slots_in_list parts first)) (get_or_past cells.heads number None past) ∙ ap (map node) (follow_none (length cells.records) (λ slot. (at parts slot).next_free)))
+        get_or_past (map (λ first. map node (slots_in_list sections first)) cells.heads) number [] (omega (arith, past, length-map cells.heads (λ first. map node (slots_in_list sections first))))
+        ∙ sym (ap (λ first. map node (slots_in_list sections first)) (get_or_past cells.heads number None past) ∙ ap (map node) (follow_none (length cells.records) (λ slot. (at sections slot).next_free)))
   ]
 
-  heads_from : (from : ℕ) (heads : List (Option ℕ)) → are_lists parts from heads ≡ true → heads ≡ map first_slot (map (λ first. map node (slots_in_list parts first)) heads)
+  heads_from : (from : ℕ) (heads : List (Option ℕ)) → are_lists sections from heads ≡ true → heads ≡ map first_slot (map (λ first. map node (slots_in_list sections first)) heads)
   heads_from from [] lists = refl
   heads_from from (first ∷ heads) lists =
-      let ends = linked_ends (is_listed_slot parts from) (λ slot. (at parts slot).next_free) (λ slot. (at parts slot).prev_free) (length cells.records) None first (first_list parts from first heads lists) in
-      let here = first_followed cells.records (length cells.records) (λ slot. (at parts slot).next_free) first ends in
-      ap (λ o. o ∷ heads) (sym here) ∙ ap (λ more. first_slot (map node (slots_in_list parts first)) ∷ more) (heads_from (from + 1) heads (other_lists parts from first heads lists))
+      let ends = linked_ends (is_listed_slot sections from) (λ slot. (at sections slot).next_free) (λ slot. (at sections slot).prev_free) (length cells.records) None first (first_list sections from first heads lists) in
+      let here = first_followed cells.records (length cells.records) (λ slot. (at sections slot).next_free) first ends in
+      ap (λ o. o ∷ heads) (sym here) ∙ ap (λ more. first_slot (map node (slots_in_list sections first)) ∷ more) (heads_from (from + 1) heads (other_lists sections from first heads lists))
 
-  listed_used : (number slot : ℕ) → is_listed_slot parts number slot ≡ true → is_block parts slot ≡ true
-  listed_used number slot listed = free_is_used (at parts slot).state (and_parts (is_free_state (at parts slot).state) (eqb (class (at parts slot).size) number) listed).0
+  listed_used : (number slot : ℕ) → is_listed_slot sections number slot ≡ true → is_block sections slot ≡ true
+  listed_used number slot listed = free_is_used (at sections slot).state (and_parts (is_free_state (at sections slot).state) (eqb (class (at sections slot).size) number) listed).0
 
   module _ (imaged : AreImaged cells) where
-    rules : IsUnbroken parts
-    rules = unbroken parts imaged.unbroken
+    rules : IsUnbroken sections
+    rules = unbroken sections imaged.unbroken
 
-    on_chain : (slot : ℕ) → times slot chained ≡ one_if (is_block parts slot)
-    on_chain slot = on_chain_once parts rules.links rules.chains rules.cover imaged.ordered rules.on_chains slot
+    on_chain : (slot : ℕ) → times slot chained ≡ one_if (is_block sections slot)
+    on_chain slot = on_chain_once sections rules.links rules.chains rules.cover imaged.ordered rules.on_chains slot
 
-    in_list_of : (number slot : ℕ) → times slot (listed number) ≡ one_if (is_listed_slot parts number slot)
-    in_list_of number slot = in_list_once parts rules.lists rules.on_lists number slot
+    in_list_of : (number slot : ℕ) → times slot (listed number) ≡ one_if (is_listed_slot sections number slot)
+    in_list_of number slot = in_list_once sections rules.lists rules.on_lists number slot
 
-    pub once : (slot : ℕ) → count_by (has_slot slot) (nodes_of (layout_of cells).areas) + 0 ≡ uses_in (at parts slot).state
+    pub once : (slot : ℕ) → count_by (has_slot slot) (nodes_of (layout_of cells).areas) + 0 ≡ uses_in (at sections slot).state
     once slot =
         omega (
           arith,
-          ap (count_by (has_slot slot)) (nodes_of_areas parts (entries_of cells.pools)),
+          ap (count_by (has_slot slot)) (nodes_of_areas sections (entries_of cells.pools)),
           count_slots cells.records slot chained,
           on_chain slot,
-          uses_one (at parts slot).state,
+          uses_one (at sections slot).state,
         )
 
     pub agreed : (number : ℕ) (test : Node → Bool) → count_by test (nodes_in number (layout_of cells).lists) ≡ count_by (λ n. is_listed_in number n && test n) (nodes_of (layout_of cells).areas)
@@ -124,43 +124,43 @@ module _ (cells : Cells) where
         let both : Node → Bool = λ n. is_listed_in number n && test n in
         let in_list_passes : ℕ → Bool = λ slot. test (node slot) in
         let on_chain_passes : ℕ → Bool = λ slot. both (node slot) in
-        let left : (slot : ℕ) → times slot (filter in_list_passes (listed number)) ≡ cond (in_list_passes slot) (one_if (is_listed_slot parts number slot)) 0 =
+        let left : (slot : ℕ) → times slot (filter in_list_passes (listed number)) ≡ cond (in_list_passes slot) (one_if (is_listed_slot sections number slot)) 0 =
         λ slot. times-filter in_list_passes slot (listed number) ∙ ap (λ n. cond (in_list_passes slot) n 0) (in_list_of number slot) in
-        let right : (slot : ℕ) → times slot (filter on_chain_passes chained) ≡ cond (is_listed_slot parts number slot && in_list_passes slot) (one_if (is_block parts slot)) 0 =
+        let right : (slot : ℕ) → times slot (filter on_chain_passes chained) ≡ cond (is_listed_slot sections number slot && in_list_passes slot) (one_if (is_block sections slot)) 0 =
         λ slot. times-filter on_chain_passes slot chained
         ∙ ap (λ n. cond (on_chain_passes slot) n 0) (on_chain slot)
-        ∙ ap (λ b. cond ((b && eqb (class (at parts slot).size) number) && in_list_passes slot) (one_if (is_block parts slot)) 0) (node_state_listed (at parts slot).state) in
+        ∙ ap (λ b. cond ((b && eqb (class (at sections slot).size) number) && in_list_passes slot) (one_if (is_block sections slot)) 0) (node_state_listed (at sections slot).state) in
         let none : (slot : ℕ) → length cells.records ≤ slot → times slot (filter in_list_passes (listed number)) ≡ 0 = λ slot past. left slot ∙ nothing number slot (in_list_passes slot) past in
         ap (count_by test) (list_is number)
         ∙ count-map test node (listed number)
         ∙ sym (length-filter in_list_passes (listed number))
         ∙ same_length (filter in_list_passes (listed number)) (filter on_chain_passes chained) (length cells.records)
-        (λ slot. left slot ∙ one_each (in_list_passes slot) (is_listed_slot parts number slot) (is_block parts slot) (listed_used number slot) ∙ sym (right slot)) none
+        (λ slot. left slot ∙ one_each (in_list_passes slot) (is_listed_slot sections number slot) (is_block sections slot) (listed_used number slot) ∙ sym (right slot)) none
         ∙ length-filter on_chain_passes chained
         ∙ sym (count-map both node chained)
-        ∙ sym (ap (count_by both) (nodes_of_areas parts (entries_of cells.pools)))
+        ∙ sym (ap (count_by both) (nodes_of_areas sections (entries_of cells.pools)))
       where
-        nothing : (number slot : ℕ) (passes : Bool) → length cells.records ≤ slot → cond passes (one_if (is_listed_slot parts number slot)) 0 ≡ 0
+        nothing : (number slot : ℕ) (passes : Bool) → length cells.records ≤ slot → cond passes (one_if (is_listed_slot sections number slot)) 0 ≡ 0
         nothing number slot false past = refl
-        nothing number slot true past = elim (cases_Bool (is_listed_slot parts number slot)) [
-          | inl here ↦ absurd (omega (arith, past, used_below parts slot (listed_used number slot here)))
+        nothing number slot true past = elim (cases_Bool (is_listed_slot sections number slot)) [
+          | inl here ↦ absurd (omega (arith, past, used_below sections slot (listed_used number slot here)))
           | inr apart ↦ ap one_if apart
         ]
 
     pub represents : Represents cells (layout_of cells)
     represents = record {
       count = refl;
-      entries = imaged.packed ∙ ap padded (sym (entries_are parts cells.pools));
-      chains = record { chains = chains_are parts (entries_of cells.pools) rules.chains; once = once };
+      entries = imaged.packed ∙ ap padded (sym (entries_are sections cells.pools));
+      chains = record { chains = chains_are sections (entries_of cells.pools) rules.chains; once = once };
       index = record {
         heads_are = heads_from 0 cells.heads rules.lists;
-        lists_count = length-map cells.heads (λ first. map node (slots_in_list parts first)) ∙ imaged.heads_count;
+        lists_count = length-map cells.heads (λ first. map node (slots_in_list sections first)) ∙ imaged.heads_count;
         words_count = imaged.words_count;
         linked = λ number.
             let P : List Node → Type 0 = λ nodes. AreLinked in_list (list_views cells.records) None nodes in
             subst P (sym (list_is number)) (
-            linked_followed cells.records in_list (list_views cells.records) (is_listed_slot parts number) (λ slot. (at parts slot).next_free) (λ slot. (at parts slot).prev_free) (λ slot is. refl) (length cells.records) None
-            (head_at cells.heads number) (list_of_class parts rules.lists number)
+            linked_followed cells.records in_list (list_views cells.records) (is_listed_slot sections number) (λ slot. (at sections slot).next_free) (λ slot. (at sections slot).prev_free) (λ slot is. refl) (length cells.records) None
+            (head_at cells.heads number) (list_of_class sections rules.lists number)
             );
         bitmaps = imaged.bitmaps;
       };

@@ -11,7 +11,7 @@ use Rattle.tlsf_class.specs.Classes.{class}
 use Rattle.tlsf_store.specs.declared.pools.Pool.{Pool}
 use Rattle.tlsf_store.specs.declared.records.Record.{Record}
 use Rattle.tlsf_store.specs.Records.{blank, record_at, is_free_state}
-use Rattle.tlsf_heap.specs.Images.Image.{Parts}
+use Rattle.tlsf_heap.specs.Images.Image.{Sections}
 use Rattle.tlsf_heap.specs.Images.Rules.{at, is_used, is_pool, are_pools, is_chain, chain_of, has_record_links, has_links, has_chains, covers, has_cover, is_among, has_all_on_chains, slots_in_list, is_list, are_lists, has_lists, has_all_on_lists}
 use Rattle.tlsf_heap.proofs.Images.Counting.{one_if, times-cons, times-append, any_counts, counts_any, sum_below-same, sum_below-apart, items_sum, places_sum}
 use Rattle.tlsf_heap.specs.Good.{times}
@@ -128,71 +128,71 @@ module _ {X : Type 0} (slots : X → List ℕ) (key : ℕ → ℕ) where
         ]
       ]
 
-module _ (parts : Parts) where
+module _ (sections : Sections) where
   abbrev pub is_block : ℕ → Bool
-  is_block slot = is_used (at parts slot).state
+  is_block slot = is_used (at sections slot).state
 
-  pub used_below : (slot : ℕ) → is_block slot ≡ true → slot < length parts.records
-  used_below slot used = elim (cases_lt slot (length parts.records)) [
+  pub used_below : (slot : ℕ) → is_block slot ≡ true → slot < length sections.records
+  used_below slot used = elim (cases_lt slot (length sections.records)) [
     | inl below ↦ below
-    | inr past ↦ let P : Record → Type 0 = λ r. is_used r.state ≡ true in absurd (both_ways false refl (subst P (get_or_past parts.records slot blank past) used))
+    | inr past ↦ let P : Record → Type 0 = λ r. is_used r.state ≡ true in absurd (both_ways false refl (subst P (get_or_past sections.records slot blank past) used))
   ]
 
   -- a block has bytes
-  pub has_bytes : has_links parts ≡ true → (slot : ℕ) → is_block slot ≡ true → 0 < (at parts slot).size
+  pub has_bytes : has_links sections ≡ true → (slot : ℕ) → is_block slot ≡ true → 0 < (at sections slot).size
   has_bytes linked slot used =
-      let all = AllPass-from_list_all (has_record_links (length parts.records)) parts.records (and_parts _ _ linked).1 slot blank (used_below slot used) in
-      ltb-true 0 (at parts slot).size (and_parts _ _ (not_or (is_block slot) _ all used)).0
+      let all = AllPass-from_list_all (has_record_links (length sections.records)) sections.records (and_parts _ _ linked).1 slot blank (used_below slot used) in
+      ltb-true 0 (at sections slot).size (and_parts _ _ (not_or (is_block slot) _ all used)).0
 
-  pub chain_used : (pool : Pool) → is_chain parts pool ≡ true → list_all is_block (chain_of parts pool) ≡ true
+  pub chain_used : (pool : Pool) → is_chain sections pool ≡ true → list_all is_block (chain_of sections pool) ≡ true
   chain_used pool chain = (and_parts _ _ (and_parts _ _ chain).1).0
 
-  module _ (from to slot : ℕ) (slots : List ℕ) (covered : covers parts from to (slot ∷ slots) ≡ true) where
-    pub begins_at : (at parts slot).place ≡ from
-    begins_at = eqb-true (at parts slot).place from (and_parts (eqb (at parts slot).place from) (covers parts (from + (at parts slot).size) to slots) covered).0
+  module _ (from to slot : ℕ) (slots : List ℕ) (covered : covers sections from to (slot ∷ slots) ≡ true) where
+    pub begins_at : (at sections slot).place ≡ from
+    begins_at = eqb-true (at sections slot).place from (and_parts (eqb (at sections slot).place from) (covers sections (from + (at sections slot).size) to slots) covered).0
 
-    pub covered_rest : covers parts (from + (at parts slot).size) to slots ≡ true
-    covered_rest = (and_parts (eqb (at parts slot).place from) (covers parts (from + (at parts slot).size) to slots) covered).1
+    pub covered_rest : covers sections (from + (at sections slot).size) to slots ≡ true
+    covered_rest = (and_parts (eqb (at sections slot).place from) (covers sections (from + (at sections slot).size) to slots) covered).1
 
-  pub covered_up : (slots : List ℕ) (from to : ℕ) → covers parts from to slots ≡ true → from ≤ to
+  pub covered_up : (slots : List ℕ) (from to : ℕ) → covers sections from to slots ≡ true → from ≤ to
   covered_up [] from to covered = omega (arith, eqb-true from to covered)
-  covered_up (slot ∷ slots) from to covered = omega (arith, covered_up slots (from + (at parts slot).size) to (covered_rest from to slot slots covered))
+  covered_up (slot ∷ slots) from to covered = omega (arith, covered_up slots (from + (at sections slot).size) to (covered_rest from to slot slots covered))
 
   abbrev pub covers_pool : Pool → Bool
-  covers_pool pool = covers parts pool.base (pool.base + pool.bytes) (chain_of parts pool)
+  covers_pool pool = covers sections pool.base (pool.base + pool.bytes) (chain_of sections pool)
 
   abbrev slots_of : List Pool → List ℕ
-  slots_of pools = flat_map (chain_of parts) pools
+  slots_of pools = flat_map (chain_of sections) pools
 
   begins_above : (count from : ℕ) (pool : Pool) (pools : List Pool) → are_pools count from (pool ∷ pools) ≡ true → from ≤ pool.base
   begins_above count from pool pools ordered = leb-true from pool.base (and_parts _ _ (and_parts _ _ (and_parts (is_pool count from pool) (are_pools count (pool.base + pool.bytes) pools) ordered).0).1).0
 
-  module _ (linked : has_links parts ≡ true) where
+  module _ (linked : has_links sections ≡ true) where
     -- the blocks that cover a range stand in it
-    pub stands_within : (slots : List ℕ) (from to : ℕ) → list_all is_block slots ≡ true → covers parts from to slots ≡ true → (slot : ℕ) → 1 ≤ times slot slots → (from ≤ (at parts slot).place) × ((at parts slot).place < to)
+    pub stands_within : (slots : List ℕ) (from to : ℕ) → list_all is_block slots ≡ true → covers sections from to slots ≡ true → (slot : ℕ) → 1 ≤ times slot slots → (from ≤ (at sections slot).place) × ((at sections slot).place < to)
     stands_within [] from to used covered slot some = absurd (omega (arith, some))
     stands_within (first ∷ slots) from to used covered slot some =
-        let r = at parts first in
+        let r = at sections first in
         let begins = begins_at from to first slots covered in
         let rest = covered_rest from to first slots covered in
         let bytes = has_bytes linked first (all_first is_block first slots used) in
         elim (cases_Bool (eqb first slot)) [
           | inl same ↦
-              let P : ℕ → Type 0 = λ s. (from ≤ (at parts s).place) × ((at parts s).place < to) in
+              let P : ℕ → Type 0 = λ s. (from ≤ (at sections s).place) × ((at sections s).place < to) in
               subst P (eqb-true first slot same) (
                 let e : from ≤ r.place = omega (arith, begins) in e,
                 let e : r.place < to = omega (arith, begins, bytes, covered_up slots (from + r.size) to rest) in e,
               )
           | inr apart ↦
               let behind = stands_within slots (from + r.size) to (all_rest is_block first slots used) rest slot (omega (arith, some, times-cons slot first slots, ap one_if apart)) in
-              (let e : from ≤ (at parts slot).place = omega (arith, behind.0) in e, behind.1)
+              (let e : from ≤ (at sections slot).place = omega (arith, behind.0) in e, behind.1)
         ]
 
     -- each of them once
-    covers_once : (slots : List ℕ) (from to : ℕ) → list_all is_block slots ≡ true → covers parts from to slots ≡ true → (slot : ℕ) → times slot slots ≤ 1
+    covers_once : (slots : List ℕ) (from to : ℕ) → list_all is_block slots ≡ true → covers sections from to slots ≡ true → (slot : ℕ) → times slot slots ≤ 1
     covers_once [] from to used covered slot = omega arith
     covers_once (first ∷ slots) from to used covered slot =
-        let r = at parts first in
+        let r = at sections first in
         let rest = covered_rest from to first slots covered in
         let used_rest = all_rest is_block first slots used in
         let once = covers_once slots (from + r.size) to used_rest rest slot in
@@ -202,81 +202,81 @@ module _ (parts : Parts) where
             | inr none ↦ omega (arith, none, times-cons slot first slots, ap one_if same)
             | inl some ↦
                 let behind = (stands_within slots (from + r.size) to used_rest rest slot (omega (arith, some))).0 in
-                let place : r.place ≡ (at parts slot).place = ap (λ s. (at parts s).place) (eqb-true first slot same) in
+                let place : r.place ≡ (at sections slot).place = ap (λ s. (at sections s).place) (eqb-true first slot same) in
                 absurd (omega (arith, behind, place, begins_at from to first slots covered, has_bytes linked first (all_first is_block first slots used)))
           ]
         ]
 
-    chains_banded : (count from : ℕ) (pools : List Pool) → are_pools count from pools ≡ true → list_all (is_chain parts) pools ≡ true → list_all covers_pool pools ≡ true → AreBanded (chain_of parts) (λ slot. (at parts slot).place) from pools
+    chains_banded : (count from : ℕ) (pools : List Pool) → are_pools count from pools ≡ true → list_all (is_chain sections) pools ≡ true → list_all covers_pool pools ≡ true → AreBanded (chain_of sections) (λ slot. (at sections slot).place) from pools
     chains_banded count from [] ordered chains covered = tt
     chains_banded count from (pool ∷ pools) ordered chains covered =
         let end : ℕ = pool.base + pool.bytes in
         let begins = begins_above count from pool pools ordered in
-        let used = chain_used pool (all_first (is_chain parts) pool pools chains) in
+        let used = chain_used pool (all_first (is_chain sections) pool pools chains) in
         let here = all_first covers_pool pool pools covered in (
           end,
-          covers_once (chain_of parts pool) pool.base end used here,
-          λ slot some. (let within = stands_within (chain_of parts pool) pool.base end used here slot some in (omega (arith, begins, within.0), within.1)),
+          covers_once (chain_of sections pool) pool.base end used here,
+          λ slot some. (let within = stands_within (chain_of sections pool) pool.base end used here slot some in (omega (arith, begins, within.0), within.1)),
           omega (arith, begins),
-          chains_banded count end pools (and_parts (is_pool count from pool) (are_pools count end pools) ordered).1 (all_rest (is_chain parts) pool pools chains) (all_rest covers_pool pool pools covered),
+          chains_banded count end pools (and_parts (is_pool count from pool) (are_pools count end pools) ordered).1 (all_rest (is_chain sections) pool pools chains) (all_rest covers_pool pool pools covered),
         )
 
     -- each block on the chains of pools in order stands there once
-    pub chains_once : (count from : ℕ) (pools : List Pool) → are_pools count from pools ≡ true → list_all (is_chain parts) pools ≡ true → list_all covers_pool pools ≡ true → (slot : ℕ) → times slot (slots_of pools) ≤ 1
-    chains_once count from pools ordered chains covered = banded_once (chain_of parts) (λ slot. (at parts slot).place) from pools (chains_banded count from pools ordered chains covered)
+    pub chains_once : (count from : ℕ) (pools : List Pool) → are_pools count from pools ≡ true → list_all (is_chain sections) pools ≡ true → list_all covers_pool pools ≡ true → (slot : ℕ) → times slot (slots_of pools) ≤ 1
+    chains_once count from pools ordered chains covered = banded_once (chain_of sections) (λ slot. (at sections slot).place) from pools (chains_banded count from pools ordered chains covered)
 
-  pub on_chain_used : (pools : List Pool) → list_all (is_chain parts) pools ≡ true → (slot : ℕ) → 1 ≤ times slot (flat_map (chain_of parts) pools) → is_block slot ≡ true
+  pub on_chain_used : (pools : List Pool) → list_all (is_chain sections) pools ≡ true → (slot : ℕ) → 1 ≤ times slot (flat_map (chain_of sections) pools) → is_block slot ≡ true
   on_chain_used [] chains slot some = absurd (omega (arith, some))
-  on_chain_used (pool ∷ pools) chains slot some = elim (cases_lt 0 (times slot (chain_of parts pool))) [
-    | inl here ↦ all_among is_block (chain_of parts pool) (chain_used pool (all_first (is_chain parts) pool pools chains)) slot (omega (arith, here))
-    | inr none ↦ on_chain_used pools (all_rest (is_chain parts) pool pools chains) slot (omega (arith, some, none, times-append slot (chain_of parts pool) (flat_map (chain_of parts) pools)))
+  on_chain_used (pool ∷ pools) chains slot some = elim (cases_lt 0 (times slot (chain_of sections pool))) [
+    | inl here ↦ all_among is_block (chain_of sections pool) (chain_used pool (all_first (is_chain sections) pool pools chains)) slot (omega (arith, here))
+    | inr none ↦ on_chain_used pools (all_rest (is_chain sections) pool pools chains) slot (omega (arith, some, none, times-append slot (chain_of sections pool) (flat_map (chain_of sections) pools)))
   ]
 
   -- as many blocks stand on the chains as there are exactly where each is on a chain
-  pub chains_counted : has_links parts ≡ true → has_chains parts ≡ true → has_cover parts ≡ true → are_pools (length parts.records) 0 (entries_of parts.pools) ≡ true
-      → (length (flat_map (chain_of parts) (entries_of parts.pools)) == count_by (λ r. is_used r.state) parts.records) ≡ has_all_on_chains parts
+  pub chains_counted : has_links sections ≡ true → has_chains sections ≡ true → has_cover sections ≡ true → are_pools (length sections.records) 0 (entries_of sections.pools) ≡ true
+      → (length (flat_map (chain_of sections) (entries_of sections.pools)) == count_by (λ r. is_used r.state) sections.records) ≡ has_all_on_chains sections
   chains_counted linked chains covered ordered =
-      let pools = entries_of parts.pools in
-      counted parts.records (λ r. is_used r.state) (flat_map (chain_of parts) pools) refl (chains_once linked (length parts.records) 0 pools ordered chains covered) (on_chain_used pools chains)
-      ∙ ap (λ test. list_all test (range_with_len 0 (length parts.records))) (λ i slot. not (is_block slot) || among_any (chain_of parts) pools slot i)
+      let pools = entries_of sections.pools in
+      counted sections.records (λ r. is_used r.state) (flat_map (chain_of sections) pools) refl (chains_once linked (length sections.records) 0 pools ordered chains covered) (on_chain_used pools chains)
+      ∙ ap (λ test. list_all test (range_with_len 0 (length sections.records))) (λ i slot. not (is_block slot) || among_any (chain_of sections) pools slot i)
 
   -- ---- lists
 
   abbrev pub is_listed_slot : ℕ → ℕ → Bool
-  is_listed_slot number slot = is_free_state (at parts slot).state && (class (at parts slot).size == number)
+  is_listed_slot number slot = is_free_state (at sections slot).state && (class (at sections slot).size == number)
 
-  pub list_free : (number : ℕ) (first : Option ℕ) → is_list parts number first ≡ true → list_all (is_listed_slot number) (slots_in_list parts first) ≡ true
+  pub list_free : (number : ℕ) (first : Option ℕ) → is_list sections number first ≡ true → list_all (is_listed_slot number) (slots_in_list sections first) ≡ true
   list_free number first list = (and_parts _ _ (and_parts _ _ list).1).0
 
-  pub list_once : (number : ℕ) (first : Option ℕ) → is_list parts number first ≡ true → (slot : ℕ) → times slot (slots_in_list parts first) ≤ 1
-  list_once number first list slot = stands_once (λ slot. (at parts slot).prev_free) (slots_in_list parts first) (and_parts _ _ (and_parts _ _ list).1).1 slot
+  pub list_once : (number : ℕ) (first : Option ℕ) → is_list sections number first ≡ true → (slot : ℕ) → times slot (slots_in_list sections first) ≤ 1
+  list_once number first list slot = stands_once (λ slot. (at sections slot).prev_free) (slots_in_list sections first) (and_parts _ _ (and_parts _ _ list).1).1 slot
 
   -- a block in a list is free, and of its class
-  pub listed_here : (number : ℕ) (first : Option ℕ) → is_list parts number first ≡ true → (slot : ℕ) → 1 ≤ times slot (slots_in_list parts first) → (is_free_state (at parts slot).state ≡ true) × (class (at parts slot).size ≡ number)
+  pub listed_here : (number : ℕ) (first : Option ℕ) → is_list sections number first ≡ true → (slot : ℕ) → 1 ≤ times slot (slots_in_list sections first) → (is_free_state (at sections slot).state ≡ true) × (class (at sections slot).size ≡ number)
   listed_here number first list slot some =
-      let both = and_parts (is_free_state (at parts slot).state) (eqb (class (at parts slot).size) number) (all_among (is_listed_slot number) (slots_in_list parts first) (list_free number first list) slot some) in
-      (both.0, eqb-true (class (at parts slot).size) number both.1)
+      let both = and_parts (is_free_state (at sections slot).state) (eqb (class (at sections slot).size) number) (all_among (is_listed_slot number) (slots_in_list sections first) (list_free number first list) slot some) in
+      (both.0, eqb-true (class (at sections slot).size) number both.1)
 
-  module _ (number : ℕ) (first : Option ℕ) (heads : List (Option ℕ)) (lists : are_lists parts number (first ∷ heads) ≡ true) where
-    pub first_list : is_list parts number first ≡ true
-    first_list = (and_parts (is_list parts number first) (are_lists parts (number + 1) heads) lists).0
+  module _ (number : ℕ) (first : Option ℕ) (heads : List (Option ℕ)) (lists : are_lists sections number (first ∷ heads) ≡ true) where
+    pub first_list : is_list sections number first ≡ true
+    first_list = (and_parts (is_list sections number first) (are_lists sections (number + 1) heads) lists).0
 
-    pub other_lists : are_lists parts (number + 1) heads ≡ true
-    other_lists = (and_parts (is_list parts number first) (are_lists parts (number + 1) heads) lists).1
+    pub other_lists : are_lists sections (number + 1) heads ≡ true
+    other_lists = (and_parts (is_list sections number first) (are_lists sections (number + 1) heads) lists).1
 
   -- a slot in the lists from a class on is of a free block, of that class or a higher one
-  pub listed_from : (number : ℕ) (heads : List (Option ℕ)) → are_lists parts number heads ≡ true → (slot : ℕ) → 1 ≤ times slot (flat_map (slots_in_list parts) heads) → (is_free_state (at parts slot).state ≡ true) × (number ≤ class (at parts slot).size)
+  pub listed_from : (number : ℕ) (heads : List (Option ℕ)) → are_lists sections number heads ≡ true → (slot : ℕ) → 1 ≤ times slot (flat_map (slots_in_list sections) heads) → (is_free_state (at sections slot).state ≡ true) × (number ≤ class (at sections slot).size)
   listed_from number [] lists slot some = absurd (omega (arith, some))
-  listed_from number (first ∷ heads) lists slot some = elim (cases_lt 0 (times slot (slots_in_list parts first))) [
+  listed_from number (first ∷ heads) lists slot some = elim (cases_lt 0 (times slot (slots_in_list sections first))) [
     | inl here ↦
         let free = listed_here number first (first_list number first heads lists) slot (omega (arith, here)) in
-        (free.0, let e : number ≤ class (at parts slot).size = omega (arith, free.1) in e)
+        (free.0, let e : number ≤ class (at sections slot).size = omega (arith, free.1) in e)
     | inr none ↦
-        let free = listed_from (number + 1) heads (other_lists number first heads lists) slot (omega (arith, some, none, times-append slot (slots_in_list parts first) (flat_map (slots_in_list parts) heads))) in
-        (free.0, let e : number ≤ class (at parts slot).size = omega (arith, free.1) in e)
+        let free = listed_from (number + 1) heads (other_lists number first heads lists) slot (omega (arith, some, none, times-append slot (slots_in_list sections first) (flat_map (slots_in_list sections) heads))) in
+        (free.0, let e : number ≤ class (at sections slot).size = omega (arith, free.1) in e)
   ]
 
-  lists_banded : (number : ℕ) (heads : List (Option ℕ)) → are_lists parts number heads ≡ true → AreBanded (slots_in_list parts) (λ slot. class (at parts slot).size) number heads
+  lists_banded : (number : ℕ) (heads : List (Option ℕ)) → are_lists sections number heads ≡ true → AreBanded (slots_in_list sections) (λ slot. class (at sections slot).size) number heads
   lists_banded number [] lists = tt
   lists_banded number (first ∷ heads) lists =
       let list = first_list number first heads lists in (
@@ -288,7 +288,7 @@ module _ (parts : Parts) where
       )
 
   -- as many blocks stand in the lists as are free exactly where each of these is in a list
-  pub lists_counted : has_lists parts ≡ true → (length (flat_map (slots_in_list parts) parts.heads) == count_by (λ r. is_free_state r.state) parts.records) ≡ has_all_on_lists parts
+  pub lists_counted : has_lists sections ≡ true → (length (flat_map (slots_in_list sections) sections.heads) == count_by (λ r. is_free_state r.state) sections.records) ≡ has_all_on_lists sections
   lists_counted lists =
-      counted parts.records (λ r. is_free_state r.state) (flat_map (slots_in_list parts) parts.heads) refl (banded_once (slots_in_list parts) (λ slot. class (at parts slot).size) 0 parts.heads (lists_banded 0 parts.heads lists)) (λ slot some. (listed_from 0 parts.heads lists slot some).0)
-      ∙ ap (λ test. list_all test (range_with_len 0 (length parts.records))) (λ i slot. not (is_free_state (at parts slot).state) || among_any (slots_in_list parts) parts.heads slot i)
+      counted sections.records (λ r. is_free_state r.state) (flat_map (slots_in_list sections) sections.heads) refl (banded_once (slots_in_list sections) (λ slot. class (at sections slot).size) 0 sections.heads (lists_banded 0 sections.heads lists)) (λ slot some. (listed_from 0 sections.heads lists slot some).0)
+      ∙ ap (λ test. list_all test (range_with_len 0 (length sections.records))) (λ i slot. not (is_free_state (at sections slot).state) || among_any (slots_in_list sections) sections.heads slot i)

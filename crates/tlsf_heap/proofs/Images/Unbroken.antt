@@ -14,7 +14,7 @@ use Rattle.tlsf_store.specs.declared.records.State.TheVariants.{Vacant, Free, Li
 use Rattle.tlsf_store.specs.declared.pools.Pool.{Pool as StoredPool}
 use Rattle.tlsf_store.specs.Records.{blank, IsBelow, is_free_state}
 use Rattle.tlsf_store.specs.Cells.{Cells}
-use Rattle.tlsf_heap.specs.Images.Image.{Parts}
+use Rattle.tlsf_heap.specs.Images.Image.{Sections}
 use Rattle.tlsf_store.specs.Ranges.{end_of_places, can_be_pool}
 use Rattle.tlsf_heap.specs.Images.Links.{follow, is_linked}
 use Rattle.tlsf_heap.specs.Images.Rules.{at, is_below, is_used, has_links_in, has_record_links, is_pool, are_pools, is_chain, chain_of, covers, is_among, are_merged, is_list, are_lists, slots_in_list}
@@ -22,7 +22,7 @@ use Rattle.tlsf_heap.proofs.Images.LinkLemmas.{linked_on, linked_end}
 use Rattle.tlsf_heap.proofs.Images.Counting.{counts_any}
 use Rattle.tlsf_heap.proofs.Images.Totals.{from_all_below, among_any}
 use Rattle.tlsf_heap.proofs.Images.UnbrokenRules.{IsUnbroken}
-use Rattle.tlsf_heap.specs.Images.Described.{parts_of}
+use Rattle.tlsf_heap.specs.Images.Described.{sections_of}
 use Rattle.tlsf_heap.specs.Content.{is_free}
 use Rattle.tlsf_heap.specs.Good.{Covers, NoFreeNeighbours, IsGoodPool, AreGoodPools}
 use Rattle.tlsf_heap.specs.Inner.Entries.{entries_of}
@@ -83,26 +83,26 @@ below_is count None below = refl
 below_is count (Some slot) below = lt-ltb slot count below
 
 -- lists from a class on, each by its number
-lists_from : (parts : Parts) (from : ℕ) (heads : List (Option ℕ)) → ((number : ℕ) → number < length heads → is_list parts (from + number) (slice_index_or heads number None) ≡ true) → are_lists parts from heads ≡ true
-lists_from parts from [] all = refl
-lists_from parts from (first ∷ heads) all =
-    let P : ℕ → Type 0 = λ number. is_list parts number first ≡ true in
+lists_from : (sections : Sections) (from : ℕ) (heads : List (Option ℕ)) → ((number : ℕ) → number < length heads → is_list sections (from + number) (slice_index_or heads number None) ≡ true) → are_lists sections from heads ≡ true
+lists_from sections from [] all = refl
+lists_from sections from (first ∷ heads) all =
+    let P : ℕ → Type 0 = λ number. is_list sections number first ≡ true in
     let same : from + 0 ≡ from = omega arith in
-    and_from (is_list parts from first) (are_lists parts (from + 1) heads) (subst P same (all 0 (omega arith)))
-    (lists_from parts (from + 1) heads (λ number below.
-    let Q : ℕ → Type 0 = λ k. is_list parts k (slice_index_or heads number None) ≡ true in
+    and_from (is_list sections from first) (are_lists sections (from + 1) heads) (subst P same (all 0 (omega arith)))
+    (lists_from sections (from + 1) heads (λ number below.
+    let Q : ℕ → Type 0 = λ k. is_list sections k (slice_index_or heads number None) ≡ true in
     let next : from + suc number ≡ (from + 1) + number = omega arith in
     subst Q next (all (suc number) (omega (arith, below)))))
 
 module _ (cells : Cells) (stands : Stands cells) where
-  abbrev parts : Parts
-  parts = parts_of cells
+  abbrev sections : Sections
+  sections = sections_of cells
 
   abbrev areas : List Area
   areas = stands.layout.areas
 
   abbrev used : ℕ → Bool
-  used slot = is_used (at parts slot).state
+  used slot = is_used (at sections slot).state
 
   abbrev pools_of : List Area → List StoredPool
   pools_of some = map (λ area. area.entry) some
@@ -116,7 +116,7 @@ module _ (cells : Cells) (stands : Stands cells) where
   none_vacant : (before : Option ℕ) (nodes : List Node) → AreLinked in_pool (pool_views cells.records) before nodes → count_by (λ node. not (used node.slot)) nodes ≡ 0
   none_vacant before [] linked = refl
   none_vacant before (node ∷ nodes) linked =
-      let state : (at parts node.slot).state ≡ record_state node.state = ap (λ (v : InPool). v.state) linked.0 in
+      let state : (at sections node.slot).state ≡ record_state node.state = ap (λ (v : InPool). v.state) linked.0 in
       omega (arith, count-cons (λ (other : Node). not (used other.slot)) node nodes, ap (λ s. one_if (not (is_used s))) state, ap (λ b. one_if (not b)) (used_node_state node.state), none_vacant (Some node.slot) nodes linked.1)
 
   -- what is known of an area: its nodes are linked, and not too many, and it stands for a good pool
@@ -140,42 +140,42 @@ module _ (cells : Cells) (stands : Stands cells) where
       from_known [] each = refl
       from_known (area ∷ some) each = and_from (test area.entry) (list_all test (pools_of some)) (passes area each.0) (from_known some each.1)
 
-  chain_is : (area : Area) → IsKnown area → chain_of parts area.entry ≡ slots area.nodes
+  chain_is : (area : Area) → IsKnown area → chain_of sections area.entry ≡ slots area.nodes
   chain_is area is =
-      ap (follow (length cells.records) (λ slot. (at parts slot).next)) (sym is.0.begins)
+      ap (follow (length cells.records) (λ slot. (at sections slot).next)) (sym is.0.begins)
       ∙ follow_linked in_pool (pool_views cells.records) (λ v. v.next) (λ prev node after. refl) (length cells.records) None area.nodes is.1 is.0.linked
 
-  chain_linked : (area : Area) → IsKnown area → is_chain parts area.entry ≡ true
+  chain_linked : (area : Area) → IsKnown area → is_chain sections area.entry ≡ true
   chain_linked area is =
-      let P : Option ℕ → Type 0 = λ first. is_linked used (λ slot. (at parts slot).next) (λ slot. (at parts slot).prev) (length cells.records) None first ≡ true in
+      let P : Option ℕ → Type 0 = λ first. is_linked used (λ slot. (at sections slot).next) (λ slot. (at sections slot).prev) (length cells.records) None first ≡ true in
       subst P is.0.begins (
       linked_slots in_pool (pool_views cells.records) (λ v. v.next) (λ v. v.prev) (λ prev node after. refl) (λ prev node after. refl) used (length cells.records) None area.nodes is.1 is.0.linked
       (none_vacant None area.nodes is.0.linked)
       )
 
-  slots_of : (some : List Area) → AllByRecursion IsKnown some → flat_map (chain_of parts) (pools_of some) ≡ slots (nodes_of some)
+  slots_of : (some : List Area) → AllByRecursion IsKnown some → flat_map (chain_of sections) (pools_of some) ≡ slots (nodes_of some)
   slots_of [] each = refl
   slots_of (area ∷ some) each =
-      ap (λ here. here ++ flat_map (chain_of parts) (pools_of some)) (chain_is area each.0)
+      ap (λ here. here ++ flat_map (chain_of sections) (pools_of some)) (chain_is area each.0)
       ∙ ap (λ more. slots area.nodes ++ more) (slots_of some each.1)
       ∙ sym (map-append (λ (node : Node). node.slot) area.nodes (nodes_of some))
 
-  covered : (before : Option ℕ) (nodes : List Node) (from to : ℕ) → AreLinked in_pool (pool_views cells.records) before nodes → Covers from to (map block_of nodes) → covers parts from to (slots nodes) ≡ true
+  covered : (before : Option ℕ) (nodes : List Node) (from to : ℕ) → AreLinked in_pool (pool_views cells.records) before nodes → Covers from to (map block_of nodes) → covers sections from to (slots nodes) ≡ true
   covered before [] from to linked is = eq-eqb from to is
   covered before (node ∷ nodes) from to linked is =
-      let place : (at parts node.slot).place ≡ from = ap (λ (v : InPool). v.place) linked.0 ∙ is.0 in
-      let size : (at parts node.slot).size ≡ node.size = ap (λ (v : InPool). v.size) linked.0 in
-      and_from (eqb (at parts node.slot).place from) (covers parts (from + (at parts node.slot).size) to (slots nodes)) (eq-eqb _ _ place)
-      (ap (λ n. covers parts (from + n) to (slots nodes)) size ∙ covered (Some node.slot) nodes (from + node.size) to linked.1 is.3)
+      let place : (at sections node.slot).place ≡ from = ap (λ (v : InPool). v.place) linked.0 ∙ is.0 in
+      let size : (at sections node.slot).size ≡ node.size = ap (λ (v : InPool). v.size) linked.0 in
+      and_from (eqb (at sections node.slot).place from) (covers sections (from + (at sections node.slot).size) to (slots nodes)) (eq-eqb _ _ place)
+      (ap (λ n. covers sections (from + n) to (slots nodes)) size ∙ covered (Some node.slot) nodes (from + node.size) to linked.1 is.3)
 
-  merged : (before : Option ℕ) (after : Bool) (nodes : List Node) → AreLinked in_pool (pool_views cells.records) before nodes → NoFreeNeighbours after (map block_of nodes) → are_merged parts after (slots nodes) ≡ true
+  merged : (before : Option ℕ) (after : Bool) (nodes : List Node) → AreLinked in_pool (pool_views cells.records) before nodes → NoFreeNeighbours after (map block_of nodes) → are_merged sections after (slots nodes) ≡ true
   merged before after [] linked is = refl
   merged before after (node ∷ nodes) linked is =
-      let free : is_free (block_of node) ≡ is_free_state (at parts node.slot).state = free_node_state node.state node.slot ∙ ap is_free_state (sym (ap (λ (v : InPool). v.state) linked.0)) in
+      let free : is_free (block_of node) ≡ is_free_state (at sections node.slot).state = free_node_state node.state node.slot ∙ ap is_free_state (sym (ap (λ (v : InPool). v.state) linked.0)) in
       let P : Bool → Type 0 = λ b. IsTrue (not (after && b)) in
       let Q : Bool → Type 0 = λ b. NoFreeNeighbours b (map block_of nodes) in
-      and_from (not (after && is_free_state (at parts node.slot).state)) (are_merged parts (is_free_state (at parts node.slot).state) (slots nodes)) (subst P free is.0)
-      (merged (Some node.slot) (is_free_state (at parts node.slot).state) nodes linked.1 (subst Q free is.1))
+      and_from (not (after && is_free_state (at sections node.slot).state)) (are_merged sections (is_free_state (at sections node.slot).state) (slots nodes)) (subst P free is.0)
+      (merged (Some node.slot) (is_free_state (at sections node.slot).state) nodes linked.1 (subst Q free is.1))
 
   -- the first node of each area is in range
   abbrev FirstsBelow : List Area → Type 0
@@ -208,41 +208,41 @@ module _ (cells : Cells) (stands : Stands cells) where
       ∙ get_or-map first_slot stands.layout.lists number [] d (omega (arith, below, ap length stands.represented.index.heads_are, length-map stands.layout.lists first_slot))
 
   abbrev is_listed_here : ℕ → ℕ → Bool
-  is_listed_here number slot = is_free_state (at parts slot).state && eqb (class (at parts slot).size) number
+  is_listed_here number slot = is_free_state (at sections slot).state && eqb (class (at sections slot).size) number
 
-  list_is : (number : ℕ) → is_list parts number (first_slot (nodes_in number stands.layout.lists)) ≡ true
+  list_is : (number : ℕ) → is_list sections number (first_slot (nodes_in number stands.layout.lists)) ≡ true
   list_is number =
       linked_slots in_list (list_views cells.records) (λ v. v.next) (λ v. v.prev) (λ prev node after. refl) (λ prev node after. refl) (is_listed_here number) (length cells.records) None (nodes_in number stands.layout.lists)
       (list_few cells stands.layout stands.represented number) (stands.represented.index.linked number)
       (none_strange cells stands number (λ slot. not (is_listed_here number slot)) (λ slot listed. ap not (and_from _ _ (ap is_free_state listed.free) (eq-eqb _ _ listed.of_class))))
 
-  list_slots : (number : ℕ) → slots_in_list parts (first_slot (nodes_in number stands.layout.lists)) ≡ slots (nodes_in number stands.layout.lists)
+  list_slots : (number : ℕ) → slots_in_list sections (first_slot (nodes_in number stands.layout.lists)) ≡ slots (nodes_in number stands.layout.lists)
   list_slots number =
       follow_linked in_list (list_views cells.records) (λ v. v.next) (λ prev node after. refl) (length cells.records) None (nodes_in number stands.layout.lists) (list_few cells stands.layout stands.represented number)
       (stands.represented.index.linked number)
 
-  on_lists : (slot : ℕ) → (not (is_free_state (at parts slot).state) || list_any (λ first. is_among slot (slots_in_list parts first)) cells.heads) ≡ true
-  on_lists slot = by (at parts slot).state refl
+  on_lists : (slot : ℕ) → (not (is_free_state (at sections slot).state) || list_any (λ first. is_among slot (slots_in_list sections first)) cells.heads) ≡ true
+  on_lists slot = by (at sections slot).state refl
     where
-      by : (state : State) → (at parts slot).state ≡ state → (not (is_free_state state) || list_any (λ first. is_among slot (slots_in_list parts first)) cells.heads) ≡ true
+      by : (state : State) → (at sections slot).state ≡ state → (not (is_free_state state) || list_any (λ first. is_among slot (slots_in_list sections first)) cells.heads) ≡ true
       by Vacant is = refl
       by Live is = refl
       by Free is =
-          let number = class (at parts slot).size in
-          let within : number < length cells.heads = omega (arith, class-lt (at parts slot).size, ap length stands.represented.index.heads_are, length-map stands.layout.lists first_slot, stands.represented.index.lists_count) in
+          let number = class (at sections slot).size in
+          let within : number < length cells.heads = omega (arith, class-lt (at sections slot).size, ap length stands.represented.index.heads_are, length-map stands.layout.lists first_slot, stands.represented.index.lists_count) in
           let some = free_stands cells stands slot is in
           let among : is_among slot (slots (nodes_in number stands.layout.lists)) ≡ true = counts_any (λ other. eqb other slot) (slots (nodes_in number stands.layout.lists))
           (omega (arith, some, count-map (λ other. eqb other slot) (λ (node : Node). node.slot) (nodes_in number stands.layout.lists))) in
-          list_any_at (λ first. is_among slot (slots_in_list parts first)) cells.heads number None within (ap (λ first. is_among slot (slots_in_list parts first)) (head_is number None within) ∙ ap (is_among slot) (list_slots number) ∙ among)
+          list_any_at (λ first. is_among slot (slots_in_list sections first)) cells.heads number None within (ap (λ first. is_among slot (slots_in_list sections first)) (head_is number None within) ∙ ap (is_among slot) (list_slots number) ∙ among)
 
-  on_chains : (slot : ℕ) → (not (used slot) || list_any (λ pool. is_among slot (chain_of parts pool)) (entries_of cells.pools)) ≡ true
+  on_chains : (slot : ℕ) → (not (used slot) || list_any (λ pool. is_among slot (chain_of sections pool)) (entries_of cells.pools)) ≡ true
   on_chains slot = elim (cases_Bool (used slot)) [
-    | inr apart ↦ ap (λ b. not b || list_any (λ pool. is_among slot (chain_of parts pool)) (entries_of cells.pools)) apart
+    | inr apart ↦ ap (λ b. not b || list_any (λ pool. is_among slot (chain_of sections pool)) (entries_of cells.pools)) apart
     | inl here ↦
-        let some = used_stands cells stands slot (uses_one (at parts slot).state here) in
+        let some = used_stands cells stands slot (uses_one (at sections slot).state here) in
         let among = counts_any (λ other. eqb other slot) (slots (nodes_of areas)) (omega (arith, some, count-map (λ other. eqb other slot) (λ (node : Node). node.slot) (nodes_of areas))) in
         or_right (not (used slot)) _ (
-        sym (among_any (chain_of parts) (entries_of cells.pools) slot) ∙ ap (λ pools. is_among slot (flat_map (chain_of parts) pools)) pools_are ∙ ap (is_among slot) (slots_of areas known) ∙ among
+        sym (among_any (chain_of sections) (entries_of cells.pools) slot) ∙ ap (λ pools. is_among slot (flat_map (chain_of sections) pools)) pools_are ∙ ap (is_among slot) (slots_of areas known) ∙ among
         )
   ]
 
@@ -259,7 +259,7 @@ module _ (cells : Cells) (stands : Stands cells) where
   head_below number d within = ap (is_below (length cells.records)) (head_is number d within) ∙ first_is (nodes_in number stands.layout.lists) (listed_below number)
 
   -- both neighbours in a list
-  links_listed : (number slot : ℕ) → 1 ≤ count_by (has_slot slot) (nodes_in number stands.layout.lists) → (is_below (length cells.records) (at parts slot).prev_free && is_below (length cells.records) (at parts slot).next_free) ≡ true
+  links_listed : (number slot : ℕ) → 1 ≤ count_by (has_slot slot) (nodes_in number stands.layout.lists) → (is_below (length cells.records) (at sections slot).prev_free && is_below (length cells.records) (at sections slot).next_free) ≡ true
   links_listed number slot some =
       let list = nodes_in number stands.layout.lists in
       let item_at : FirstPassing (has_slot slot) list = first_passing (has_slot slot) list some in
@@ -269,58 +269,58 @@ module _ (cells : Cells) (stands : Stands cells) where
       let count : (q : ℕ) → count_by (has_slot q) list ≡ count_by (has_slot q) item_at.front + (one_if (has_slot q item_at.item) + count_by (has_slot q) item_at.behind) =
       λ q. ap (count_by (has_slot q)) item_at.whole ∙ count-plug (has_slot q) item_at.front (item_at.item ∷ item_at.behind) ∙ ap (λ n. count_by (has_slot q) item_at.front + n) (count-cons (has_slot q) item_at.item item_at.behind) in
       let says : list_views cells.records slot ≡ in_list (first_slot item_at.front) item_at.item (first_slot item_at.behind) = ap (list_views cells.records) (sym same) ∙ linked.0 in
-      and_from (is_below (length cells.records) (at parts slot).prev_free) (is_below (length cells.records) (at parts slot).next_free)
+      and_from (is_below (length cells.records) (at sections slot).prev_free) (is_below (length cells.records) (at sections slot).next_free)
       (ap (λ (v : InList). is_below (length cells.records) v.prev) says ∙ first_is item_at.front (λ q h. listed_below number q (omega (arith, h, count q))))
       (ap (λ (v : InList). is_below (length cells.records) v.next) says ∙ first_is item_at.behind (λ q h. listed_below number q (omega (arith, h, count q))))
 
   module _ (alone : LiveAlone cells.records) where
-    links_in : (slot : ℕ) (state : State) → (at parts slot).state ≡ state → has_links_in state (length cells.records) (at parts slot) ≡ true
+    links_in : (slot : ℕ) (state : State) → (at sections slot).state ≡ state → has_links_in state (length cells.records) (at sections slot) ≡ true
     links_in slot Vacant is = refl
-    links_in slot Free is = links_listed (class (at parts slot).size) slot (free_stands cells stands slot is)
+    links_in slot Free is = links_listed (class (at sections slot).size) slot (free_stands cells stands slot is)
     links_in slot Live is =
         let none = alone slot is in
-        and_from (is_none (at parts slot).prev_free) (is_none (at parts slot).next_free) (ap (λ (v : InList). is_none v.prev) none) (ap (λ (v : InList). is_none v.next) none)
+        and_from (is_none (at sections slot).prev_free) (is_none (at sections slot).next_free) (ap (λ (v : InList). is_none v.prev) none) (ap (λ (v : InList). is_none v.next) none)
 
-    record_links : (slot : ℕ) → has_record_links (length cells.records) (at parts slot) ≡ true
+    record_links : (slot : ℕ) → has_record_links (length cells.records) (at sections slot) ≡ true
     record_links slot = elim (cases_Bool (used slot)) [
       | inr apart ↦ ap (λ b. not b || links) apart
       | inl here ↦
-          let found_here = found cells stands (has_slot slot) (used_stands cells stands slot (uses_one (at parts slot).state here)) in
+          let found_here = found cells stands (has_slot slot) (used_stands cells stands slot (uses_one (at sections slot).state here)) in
           let same : found_here.node.slot ≡ slot = eqb-true found_here.node.slot slot found_here.passes in
           let says : pool_views cells.records slot ≡ in_pool found_here.prev found_here.node found_here.next = ap (pool_views cells.records) (sym same) ∙ found_here.says in
-          let size : (at parts slot).size ≡ found_here.node.size = ap (λ (v : InPool). v.size) says in
+          let size : (at sections slot).size ≡ found_here.node.size = ap (λ (v : InPool). v.size) says in
           or_right (not (used slot)) links (
-          and_from (nat_lt 0 (at parts slot).size) _ (lt-ltb 0 (at parts slot).size (omega (arith, size, found_here.whole.positive))) (
-          and_from (is_below (length cells.records) (at parts slot).prev && is_below (length cells.records) (at parts slot).next) _ (
-          and_from (is_below (length cells.records) (at parts slot).prev) (is_below (length cells.records) (at parts slot).next)
+          and_from (nat_lt 0 (at sections slot).size) _ (lt-ltb 0 (at sections slot).size (omega (arith, size, found_here.whole.positive))) (
+          and_from (is_below (length cells.records) (at sections slot).prev && is_below (length cells.records) (at sections slot).next) _ (
+          and_from (is_below (length cells.records) (at sections slot).prev) (is_below (length cells.records) (at sections slot).next)
           (ap (λ (v : InPool). is_below (length cells.records) v.prev) says ∙ below_is (length cells.records) found_here.prev found_here.prev_below)
           (ap (λ (v : InPool). is_below (length cells.records) v.next) says ∙ below_is (length cells.records) found_here.next found_here.next_below)
-          ) (links_in slot (at parts slot).state refl)
+          ) (links_in slot (at sections slot).state refl)
           )
           )
     ]
       where
         links : Bool
-        links = nat_lt 0 (at parts slot).size && ((is_below (length cells.records) (at parts slot).prev && is_below (length cells.records) (at parts slot).next) && has_links_in (at parts slot).state (length cells.records) (at parts slot))
+        links = nat_lt 0 (at sections slot).size && ((is_below (length cells.records) (at sections slot).prev && is_below (length cells.records) (at sections slot).next) && has_links_in (at sections slot).state (length cells.records) (at sections slot))
 
-    pub stand_unbroken : IsUnbroken parts
+    pub stand_unbroken : IsUnbroken sections
     stand_unbroken =
         record {
           links = and_from (list_all (is_below (length cells.records)) cells.heads) (list_all (has_record_links (length cells.records)) cells.records)
               (list_all-from_AllPass (is_below (length cells.records)) cells.heads head_below)
               (list_all-from_AllPass (has_record_links (length cells.records)) cells.records (λ slot d within. ap (has_record_links (length cells.records)) (get_or_default cells.records slot d blank within) ∙ record_links slot));
-          chains = all_pass (is_chain parts) chain_linked;
-          cover = all_pass (λ pool. covers parts pool.base (pool.base + pool.bytes) (chain_of parts pool)) (λ area is.
-              ap (covers parts area.entry.base (area.entry.base + area.entry.bytes)) (chain_is area is) ∙ covered None area.nodes area.entry.base (area.entry.base + area.entry.bytes) is.0.linked is.2.covered);
-          on_chains = from_all_below (λ slot. not (used slot) || list_any (λ pool. is_among slot (chain_of parts pool)) (entries_of cells.pools)) (length cells.records) (λ slot within. on_chains slot);
-          merged = all_pass (λ pool. are_merged parts false (chain_of parts pool)) (λ area is. ap (are_merged parts false) (chain_is area is) ∙ merged None false area.nodes is.0.linked is.2.merged);
-          lists = lists_from parts 0 cells.heads (λ number within. ap (is_list parts (0 + number)) (head_is number None within) ∙ list_at_zero number);
-          on_lists = from_all_below (λ slot. not (is_free_state (at parts slot).state) || list_any (λ first. is_among slot (slots_in_list parts first)) cells.heads) (length cells.records) (λ slot within. on_lists slot);
+          chains = all_pass (is_chain sections) chain_linked;
+          cover = all_pass (λ pool. covers sections pool.base (pool.base + pool.bytes) (chain_of sections pool)) (λ area is.
+              ap (covers sections area.entry.base (area.entry.base + area.entry.bytes)) (chain_is area is) ∙ covered None area.nodes area.entry.base (area.entry.base + area.entry.bytes) is.0.linked is.2.covered);
+          on_chains = from_all_below (λ slot. not (used slot) || list_any (λ pool. is_among slot (chain_of sections pool)) (entries_of cells.pools)) (length cells.records) (λ slot within. on_chains slot);
+          merged = all_pass (λ pool. are_merged sections false (chain_of sections pool)) (λ area is. ap (are_merged sections false) (chain_is area is) ∙ merged None false area.nodes is.0.linked is.2.merged);
+          lists = lists_from sections 0 cells.heads (λ number within. ap (is_list sections (0 + number)) (head_is number None within) ∙ list_at_zero number);
+          on_lists = from_all_below (λ slot. not (is_free_state (at sections slot).state) || list_any (λ first. is_among slot (slots_in_list sections first)) cells.heads) (length cells.records) (λ slot within. on_lists slot);
         }
       where
-        list_at_zero : (number : ℕ) → is_list parts (0 + number) (first_slot (nodes_in number stands.layout.lists)) ≡ true
+        list_at_zero : (number : ℕ) → is_list sections (0 + number) (first_slot (nodes_in number stands.layout.lists)) ≡ true
         list_at_zero number =
-            let P : ℕ → Type 0 = λ k. is_list parts k (first_slot (nodes_in number stands.layout.lists)) ≡ true in
+            let P : ℕ → Type 0 = λ k. is_list sections k (first_slot (nodes_in number stands.layout.lists)) ≡ true in
             let same : number ≡ 0 + number = omega arith in
             subst P same (list_is number)
 

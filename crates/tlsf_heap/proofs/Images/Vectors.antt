@@ -9,8 +9,8 @@ use Rattle.tlsf_store.specs.declared.records.State.{State}
 use Rattle.tlsf_store.specs.declared.records.State.TheVariants.{Free, Live}
 use Rattle.tlsf_store.specs.declared.records.Record.{Record}
 use Rattle.tlsf_store.specs.Records.{blank}
-use Rattle.tlsf_heap.specs.Images.Image.{Parts, parts_in}
-use Rattle.tlsf_heap.specs.Images.Rules.{first_unmet, first_broken, rules, rules_of_parts}
+use Rattle.tlsf_heap.specs.Images.Image.{Sections, sections_in}
+use Rattle.tlsf_heap.specs.Images.Rules.{first_unmet, first_broken, rules, rules_of_sections}
 use Rattle.tlsf_heap.specs.Images.Writing.{record_bytes, image_of}
 
 -- all rules whose test says no
@@ -25,8 +25,8 @@ broken bytes = broken_of (rules bytes)
 abbrev broken_in_bytes : List ℕ → List Rule
 broken_in_bytes bytes = broken_of (take 5 (rules bytes))
 
-abbrev broken_in_parts : Parts → List Rule
-broken_in_parts parts = broken_of (rules_of_parts parts)
+abbrev broken_in_sections : Sections → List Rule
+broken_in_sections sections = broken_of (rules_of_sections sections)
 
 -- bytes in hexadecimal
 abbrev digit : ℕ → ℕ
@@ -65,8 +65,8 @@ byte_rows-broken : map (λ row. broken_in_bytes row.0) byte_rows ≡ map (λ row
 byte_rows-broken = refl
 
 -- what the images here describe: one pool of this many bytes from 0 on, and the head of one class
-abbrev parts_of : ℕ → ℕ → Option ℕ → List Record → Parts
-parts_of bytes class first records = record {
+abbrev sections_of : ℕ → ℕ → Option ℕ → List Record → Sections
+sections_of bytes class first records = record {
   pools = Some (record { base = 0; bytes = bytes; first = 0 }) ∷ replicate 7 None;
   heads = replicate class None ++ (first ∷ replicate (703 - class) None);
   records = records;
@@ -76,42 +76,42 @@ parts_of bytes class first records = record {
 abbrev block : ℕ → ℕ → State → Option ℕ → Option ℕ → Record
 block place size state prev next = record { place = place; size = size; state = state; prev = prev; next = next; prev_free = None; next_free = None }
 
--- the vector's parts, and their bytes
-abbrev its_parts : Parts
-its_parts = parts_of 64 4 (Some 0) (block 0 64 Free None None ∷ [])
+-- the vector's sections, and their bytes
+abbrev its_sections : Sections
+its_sections = sections_of 64 4 (Some 0) (block 0 64 Free None None ∷ [])
 
-written : image_of its_parts ≡ vector
+written : image_of its_sections ≡ vector
 written = refl
 
-read : parts_in vector ≡ its_parts
+read : sections_in vector ≡ its_sections
 read = refl
 
 vector_holds : first_broken vector ≡ None
 unfolding class low
 vector_holds = refl
 
--- parts, and the rules that they break
-abbrev part_rows : List (Parts × List Rule)
-part_rows =
+-- sections, and the rules that they break
+abbrev section_rows : List (Sections × List Rule)
+section_rows =
     -- the head of none; a head of no record; the list of another class
-    (parts_of 64 4 None (block 0 64 Free None None ∷ []), OnLists ∷ [])
-    ∷ (parts_of 64 4 (Some 1) (block 0 64 Free None None ∷ []), Links ∷ Lists ∷ OnLists ∷ [])
-    ∷ (parts_of 64 5 (Some 0) (block 0 64 Free None None ∷ []), Lists ∷ [])
+    (sections_of 64 4 None (block 0 64 Free None None ∷ []), OnLists ∷ [])
+    ∷ (sections_of 64 4 (Some 1) (block 0 64 Free None None ∷ []), Links ∷ Lists ∷ OnLists ∷ [])
+    ∷ (sections_of 64 5 (Some 0) (block 0 64 Free None None ∷ []), Lists ∷ [])
     -- a link back to itself; another place
-    ∷ (parts_of 64 4 (Some 0) (block 0 64 Free (Some 0) None ∷ []), Chains ∷ [])
-    ∷ (parts_of 64 4 (Some 0) (block 16 64 Free None None ∷ []), Cover ∷ [])
+    ∷ (sections_of 64 4 (Some 0) (block 0 64 Free (Some 0) None ∷ []), Chains ∷ [])
+    ∷ (sections_of 64 4 (Some 0) (block 16 64 Free None None ∷ []), Cover ∷ [])
     -- rules of both are broken
-    ∷ (parts_of 64 4 (Some 65280) (block 16 64 Free None None ∷ []), Links ∷ Cover ∷ Lists ∷ OnLists ∷ [])
+    ∷ (sections_of 64 4 (Some 65280) (block 16 64 Free None None ∷ []), Links ∷ Cover ∷ Lists ∷ OnLists ∷ [])
     -- a block of no chain
-    ∷ (parts_of 64 4 (Some 0) (block 0 64 Free None None ∷ block 0 16 Live None None ∷ []), OnChains ∷ [])
+    ∷ (sections_of 64 4 (Some 0) (block 0 64 Free None None ∷ block 0 16 Live None None ∷ []), OnChains ∷ [])
     ∷ []
 
-part_rows-broken : map (λ row. broken_in_parts row.0) part_rows ≡ map (λ row. row.1) part_rows
+section_rows-broken : map (λ row. broken_in_sections row.0) section_rows ≡ map (λ row. row.1) section_rows
 unfolding class low
-part_rows-broken = refl
+section_rows-broken = refl
 
 -- a ring; of two that are broken the one that stands first is named
-first_named : map (λ parts. first_unmet (rules_of_parts parts)) (parts_of 64 4 (Some 0) (block 0 64 Free None (Some 0) ∷ []) ∷ parts_of 64 4 (Some 65280) (block 16 64 Free None None ∷ []) ∷ []) ≡ Some Chains ∷ Some Links ∷ []
+first_named : map (λ sections. first_unmet (rules_of_sections sections)) (sections_of 64 4 (Some 0) (block 0 64 Free None (Some 0) ∷ []) ∷ sections_of 64 4 (Some 65280) (block 16 64 Free None None ∷ []) ∷ []) ≡ Some Chains ∷ Some Links ∷ []
 unfolding class low
 first_named = refl
 

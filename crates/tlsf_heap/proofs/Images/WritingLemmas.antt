@@ -1,4 +1,4 @@
--- What stands where in the bytes of an image of parts.
+-- What stands where in the bytes of an image of sections.
 use Rattle.std.proofs.Common.{◌≡◌, ℕ, zero, suc, ◌+◌, ◌*◌, ◌/◌, ◌%◌, ◌<◌, List, [], ◌∷◌, ◌++◌, length, refl, sym, ap, ◌∙◌, arith, get_or, Option, Some, None}
 use Rattle.std.specs.Prelude.{slice_index}
 use Rattle.std.specs.List.{flat_map}
@@ -10,7 +10,7 @@ use Rattle.tlsf_store.specs.declared.records.Record.{Record}
 use Rattle.tlsf_store.specs.declared.pools.Pool.{Pool}
 use Rattle.tlsf_store.specs.Records.{blank, record_at}
 use Rattle.tlsf_store.specs.Cells.{head_at as head_of, pool_at, most_pools}
-use Rattle.tlsf_heap.specs.Images.Image.{entry_at, head_at, record_start, Parts}
+use Rattle.tlsf_heap.specs.Images.Image.{entry_at, head_at, record_start, Sections}
 use Rattle.tlsf_heap.specs.Images.Writing.{entry_bytes, head_bytes, bytes_in, record_bytes, header_bytes, image_of}
 
 -- pieces of one length
@@ -62,51 +62,51 @@ behind front rest size at i long is =
     let there : at ≡ length front + i = omega (arith, long, is) in
     ap (slice_index (front ++ rest)) there ∙ get_or-append-add front rest i 0
 
-module _ (parts : Parts) (pools_count : length parts.pools ≡ most_pools) (heads_count : length parts.heads ≡ classes) where
+module _ (sections : Sections) (pools_count : length sections.pools ≡ most_pools) (heads_count : length sections.heads ≡ classes) where
   abbrev image : List ℕ
-  image = image_of parts
+  image = image_of sections
 
-  abbrev records_part : List ℕ
-  records_part = flat_map record_bytes parts.records
+  abbrev records_section : List ℕ
+  records_section = flat_map record_bytes sections.records
 
-  abbrev heads_part : List ℕ
-  heads_part = flat_map head_bytes parts.heads
+  abbrev heads_section : List ℕ
+  heads_section = flat_map head_bytes sections.heads
 
-  abbrev entries_part : List ℕ
-  entries_part = flat_map entry_bytes parts.pools
+  abbrev entries_section : List ℕ
+  entries_section = flat_map entry_bytes sections.pools
 
-  entries_long : length entries_part ≡ 96
-  entries_long = omega (arith, pieces_length entry_bytes 12 entry_size parts.pools, pools_count)
+  entries_long : length entries_section ≡ 96
+  entries_long = omega (arith, pieces_length entry_bytes 12 entry_size sections.pools, pools_count)
 
-  heads_long : length heads_part ≡ 1408
-  heads_long = omega (arith, pieces_length head_bytes 2 head_size parts.heads, heads_count)
+  heads_long : length heads_section ≡ 1408
+  heads_long = omega (arith, pieces_length head_bytes 2 head_size sections.heads, heads_count)
 
-  pub image_long : length image ≡ record_start (length parts.records)
+  pub image_long : length image ≡ record_start (length sections.records)
   image_long = omega (
     arith,
-    length-append entries_part (heads_part ++ records_part),
-    length-append heads_part records_part,
+    length-append entries_section (heads_section ++ records_section),
+    length-append heads_section records_section,
     entries_long,
     heads_long,
-    pieces_length record_bytes 16 record_size parts.records,
+    pieces_length record_bytes 16 record_size sections.records,
   )
 
   -- a byte of an entry, a head, a record
-  pub entry_byte : (number j : ℕ) → number < most_pools → j < 12 → slice_index image (entry_at number + j) ≡ slice_index (entry_bytes (pool_at parts.pools number)) j
+  pub entry_byte : (number j : ℕ) → number < most_pools → j < 12 → slice_index image (entry_at number + j) ≡ slice_index (entry_bytes (pool_at sections.pools number)) j
   entry_byte number j within below =
-      behind (header_bytes parts) (entries_part ++ (heads_part ++ records_part)) 16 (entry_at number + j) (number * 12 + j) refl (omega arith)
-      ∙ piece_at entry_bytes 12 entry_size parts.pools None (heads_part ++ records_part) number j (omega (arith, within, pools_count)) below
+      behind (header_bytes sections) (entries_section ++ (heads_section ++ records_section)) 16 (entry_at number + j) (number * 12 + j) refl (omega arith)
+      ∙ piece_at entry_bytes 12 entry_size sections.pools None (heads_section ++ records_section) number j (omega (arith, within, pools_count)) below
 
-  pub head_byte : (class j : ℕ) → class < classes → j < 2 → slice_index image (head_at class + j) ≡ slice_index (head_bytes (head_of parts.heads class)) j
+  pub head_byte : (class j : ℕ) → class < classes → j < 2 → slice_index image (head_at class + j) ≡ slice_index (head_bytes (head_of sections.heads class)) j
   head_byte class j within below =
-      behind (header_bytes parts) (entries_part ++ (heads_part ++ records_part)) 16 (head_at class + j) (96 + (class * 2 + j)) refl (omega arith)
-      ∙ behind entries_part (heads_part ++ records_part) 96 (96 + (class * 2 + j)) (class * 2 + j) entries_long refl
-      ∙ piece_at head_bytes 2 head_size parts.heads None records_part class j (omega (arith, within, heads_count)) below
+      behind (header_bytes sections) (entries_section ++ (heads_section ++ records_section)) 16 (head_at class + j) (96 + (class * 2 + j)) refl (omega arith)
+      ∙ behind entries_section (heads_section ++ records_section) 96 (96 + (class * 2 + j)) (class * 2 + j) entries_long refl
+      ∙ piece_at head_bytes 2 head_size sections.heads None records_section class j (omega (arith, within, heads_count)) below
 
-  pub record_byte : (slot j : ℕ) → slot < length parts.records → j < 16 → slice_index image (record_start slot + j) ≡ slice_index (record_bytes (record_at parts.records slot)) j
+  pub record_byte : (slot j : ℕ) → slot < length sections.records → j < 16 → slice_index image (record_start slot + j) ≡ slice_index (record_bytes (record_at sections.records slot)) j
   record_byte slot j within below =
-      behind (header_bytes parts) (entries_part ++ (heads_part ++ records_part)) 16 (record_start slot + j) (96 + (1408 + (slot * 16 + j))) refl (omega arith)
-      ∙ behind entries_part (heads_part ++ records_part) 96 (96 + (1408 + (slot * 16 + j))) (1408 + (slot * 16 + j)) entries_long refl
-      ∙ behind heads_part records_part 1408 (1408 + (slot * 16 + j)) (slot * 16 + j) heads_long refl
-      ∙ ap (λ bytes. slice_index bytes (slot * 16 + j)) (sym (append-nil records_part))
-      ∙ piece_at record_bytes 16 record_size parts.records blank [] slot j within below
+      behind (header_bytes sections) (entries_section ++ (heads_section ++ records_section)) 16 (record_start slot + j) (96 + (1408 + (slot * 16 + j))) refl (omega arith)
+      ∙ behind entries_section (heads_section ++ records_section) 96 (96 + (1408 + (slot * 16 + j))) (1408 + (slot * 16 + j)) entries_long refl
+      ∙ behind heads_section records_section 1408 (1408 + (slot * 16 + j)) (slot * 16 + j) heads_long refl
+      ∙ ap (λ bytes. slice_index bytes (slot * 16 + j)) (sym (append-nil records_section))
+      ∙ piece_at record_bytes 16 record_size sections.records blank [] slot j within below

@@ -10,16 +10,16 @@ use Rattle.tlsf_store.specs.declared.records.State.TheVariants.{Vacant, Free, Li
 use Rattle.tlsf_store.specs.declared.records.Record.{Record}
 use Rattle.tlsf_store.specs.Records.{blank, record_at, most_records}
 use Rattle.tlsf_store.specs.Cells.{Cells, pool_at, head_at, most_pools}
-use Rattle.tlsf_heap.specs.Images.Image.{Parts}
+use Rattle.tlsf_heap.specs.Images.Image.{Sections}
 use Rattle.tlsf_heap.specs.Images.Rules.{is_used, is_below, has_record_links, first_broken}
 use Rattle.tlsf_heap.specs.Images.Writing.{image_of}
 use Rattle.tlsf_heap.proofs.Images.UnbrokenRules.{IsUnbroken, unbroken}
 use Rattle.tlsf_heap.proofs.Images.ReadBack.{IsWritten}
 use Rattle.tlsf_heap.proofs.Images.Writable.{below_written, block_written}
-use Rattle.tlsf_heap.proofs.Images.ImageBack.{AreWritable, parts_back}
+use Rattle.tlsf_heap.proofs.Images.ImageBack.{AreWritable, sections_back}
 use Rattle.tlsf_heap.proofs.Images.RulesBack.{written_first}
 use Rattle.tlsf_store.specs.declared.pools.Pool.{Pool as StoredPool}
-use Rattle.tlsf_heap.specs.Images.Described.{described, told_record, told_in, told_parts}
+use Rattle.tlsf_heap.specs.Images.Described.{described, told_record, told_in, told_sections}
 use Rattle.tlsf_heap.specs.Inner.Entries.{entries_of}
 use Rattle.tlsf_heap.specs.Inner.Nodes.{has_slot}
 use Rattle.tlsf_heap.specs.Inner.Represents.{InPool, pool_views, first_slot}
@@ -37,16 +37,16 @@ nothing_told Free r unused = absurd (cc)
 nothing_told Live r unused = absurd (cc)
 
 module _ (cells : Cells) (stands : Stands cells) (few : length cells.records ≤ most_records) where
-  abbrev parts : Parts
-  parts = told_parts cells
+  abbrev sections : Sections
+  sections = told_sections cells
 
   abbrev entries : List StoredPool
   entries = map (λ area. area.entry) stands.layout.areas
 
-  rules : IsUnbroken parts
-  rules = unbroken parts (told_unbroken cells stands)
+  rules : IsUnbroken sections
+  rules = unbroken sections (told_unbroken cells stands)
 
-  count : length parts.records ≡ length cells.records
+  count : length sections.records ≡ length cells.records
   count = length-map cells.records told_record
 
   heads_count : length cells.heads ≡ classes
@@ -70,27 +70,27 @@ module _ (cells : Cells) (stands : Stands cells) (few : length cells.records ≤
 
   head_written : (class : ℕ) → class < classes → IsWritten (head_at cells.heads class)
   head_written class within =
-      below_written (length parts.records) (head_at cells.heads class) (omega (arith, few, count))
-      (AllPass-from_list_all (is_below (length parts.records)) cells.heads (and_parts _ _ rules.links).0 class None (omega (arith, within, heads_count)))
+      below_written (length sections.records) (head_at cells.heads class) (omega (arith, few, count))
+      (AllPass-from_list_all (is_below (length sections.records)) cells.heads (and_parts _ _ rules.links).0 class None (omega (arith, within, heads_count)))
 
-  in_units : (slot : ℕ) → is_used (record_at parts.records slot).state ≡ true → (record_at parts.records slot).size % unit ≡ 0
+  in_units : (slot : ℕ) → is_used (record_at sections.records slot).state ≡ true → (record_at sections.records slot).size % unit ≡ 0
   in_units slot used =
       let was : is_used (record_at cells.records slot).state ≡ true = ap is_used (told_states cells.records slot) ∙ used in
       let here = found cells stands (has_slot slot) (used_stands cells stands slot (uses_one (record_at cells.records slot).state was)) in
       let same : here.node.slot ≡ slot = eqb-true here.node.slot slot here.passes in
-      let size : (record_at parts.records slot).size ≡ here.node.size =
+      let size : (record_at sections.records slot).size ≡ here.node.size =
       ap (λ (v : InPool). v.size) (sym ((told_alike cells.records).in_pool slot was) ∙ ap (pool_views cells.records) (sym same) ∙ here.says) in
       ap (λ (n : ℕ). n % unit) size ∙ here.whole.in_units
 
-  pub writable : AreWritable parts
+  pub writable : AreWritable sections
   writable = record {
     pools_count = pools_count;
     heads_count = heads_count;
     packed = packed;
     heads = head_written;
     blocks = λ slot within used. (
-      block_written (length parts.records) (record_at parts.records slot) (omega (arith, few, count)) used
-          (AllPass-from_list_all (has_record_links (length parts.records)) parts.records (and_parts _ _ rules.links).1 slot blank within),
+      block_written (length sections.records) (record_at sections.records slot) (omega (arith, few, count)) used
+          (AllPass-from_list_all (has_record_links (length sections.records)) sections.records (and_parts _ _ rules.links).1 slot blank within),
       in_units slot used,
     );
     vacant = λ slot within unused.
@@ -99,10 +99,10 @@ module _ (cells : Cells) (stands : Stands cells) (few : length cells.records ≤
   }
 
   module _ (some : 0 < length cells.records) where
-    pub written_unbroken : first_broken (image_of parts) ≡ None
+    pub written_unbroken : first_broken (image_of sections) ≡ None
     written_unbroken =
-        written_first parts writable (omega (arith, some, count)) (told_ordered cells stands) (omega (arith, present_count, few_entries cells stands))
+        written_first sections writable (omega (arith, some, count)) (told_ordered cells stands) (omega (arith, present_count, few_entries cells stands))
         ∙ told_unbroken cells stands
 
-    pub written_content : described (image_of parts) ≡ content_of cells
-    written_content = ap (λ (p : Parts). content_from p.records (entries_of p.pools) p.heads) (parts_back parts writable) ∙ told_content cells stands
+    pub written_content : described (image_of sections) ≡ content_of cells
+    written_content = ap (λ (p : Sections). content_from p.records (entries_of p.pools) p.heads) (sections_back sections writable) ∙ told_content cells stands

@@ -3,7 +3,7 @@ use Rattle.std.specs.Prelude.{◌≡◌, ℕ, List, None, Result, map}
 use Rattle.mtrace_log.specs.Shown.{WriterState}
 use Rattle.mtrace_log.specs.Output.{Puts}
 use Rattle.tlsf_store.specs.Cells.{Cells}
-use Rattle.tlsf_heap.specs.Images.Image.{Parts, parts_in}
+use Rattle.tlsf_heap.specs.Images.Image.{Sections, sections_in}
 use Rattle.tlsf_heap.specs.Images.Rules.{first_broken, first_unmet, rules_of_table}
 use Rattle.tlsf_heap.specs.Content.{Content}
 use Rattle.tlsf_heap.specs.Inner.Entries.{entries_of}
@@ -14,13 +14,13 @@ use Rattle.tlsf_store.specs.declared.records.Record.{Record}
 use Rattle.tlsf_store.specs.Records.{blank}
 use Rattle.tlsf_heap.specs.Images.Bitmaps.{AreBitmapsOf}
 
--- the content that the parts of an image stand for
+-- the content that the sections of an image stand for
 abbrev pub described : List ℕ → Content ℕ
-described bytes = content_from (parts_in bytes).records (entries_of (parts_in bytes).pools) (parts_in bytes).heads
+described bytes = content_from (sections_in bytes).records (entries_of (sections_in bytes).pools) (sections_in bytes).heads
 
--- the parts of an image that a store's cells have
-abbrev pub parts_of : Cells → Parts
-parts_of cells = record { pools = cells.pools; heads = cells.heads; records = cells.records }
+-- the sections of an image that a store's cells have
+abbrev pub sections_of : Cells → Sections
+sections_of cells = record { pools = cells.pools; heads = cells.heads; records = cells.records }
 
 -- an image of a content: it breaks no rule, and describes it
 pub record IsImageOf (content : Content ℕ) (image : List ℕ) : Type 0 where
@@ -42,11 +42,11 @@ told_in Live r = record r { prev_free = None; next_free = None }
 abbrev pub told_record : Record → Record
 told_record r = told_in r.state r
 
--- the parts that the image of a store's cells is to have
-abbrev pub told_parts : Cells → Parts
-told_parts cells = record { pools = cells.pools; heads = cells.heads; records = map told_record cells.records }
+-- the sections that the image of a store's cells is to have
+abbrev pub told_sections : Cells → Sections
+told_sections cells = record { pools = cells.pools; heads = cells.heads; records = map told_record cells.records }
 
 -- the cells' image would break no rule, and the bitmaps agree with the heads
 pub record IsWholeStore (cells : Cells) : Type 0 where
-  pub rules : first_unmet (rules_of_table (told_parts cells)) ≡ None
+  pub rules : first_unmet (rules_of_table (told_sections cells)) ≡ None
   pub bitmaps : AreBitmapsOf cells.heads cells.step_words cells.level_word

@@ -9,47 +9,47 @@ use Rattle.tlsf_store.specs.Records.{is_free_state}
 use Rattle.tlsf_heap.specs.declared.image.chains.Tally.{Tally}
 use Rattle.tlsf_heap.specs.declared.image.chains.Front.{Front}
 use Rattle.tlsf_heap.specs.declared.image.links.Blocks.{Blocks}
-use Rattle.tlsf_heap.specs.Images.Image.{Parts}
+use Rattle.tlsf_heap.specs.Images.Image.{Sections}
 use Rattle.tlsf_heap.specs.Images.Rules.{has_record_links, has_links, at, is_used, is_chain, chain_of, covers, are_merged, is_list, are_lists, slots_in_list}
 use Rattle.tlsf_heap.specs.Inner.Entries.{entries_of}
 use Rattle.tlsf_store.specs.Cells.{Cells}
 
 -- what stands in it stays, and so do the cells behind it; its touches don't fall
-pub record OnlyReads {T : Type 0} (parts : T → Parts) (cells : T → Cells) (touches : T → ℕ) (old new : T) : Type 0 where
-  pub same : parts new ≡ parts old
+pub record OnlyReads {T : Type 0} (sections : T → Sections) (cells : T → Cells) (touches : T → ℕ) (old new : T) : Type 0 where
+  pub same : sections new ≡ sections old
   pub kept : cells new ≡ cells old
   pub floor : touches old ≤ touches new
 
 -- what is found is this, and the table is only read
-pub record Finds {T R : Type 0} (found told : R) (parts : T → Parts) (cells : T → Cells) (touches : T → ℕ) (old new : T) : Type 0 where
+pub record Finds {T R : Type 0} (found told : R) (sections : T → Sections) (cells : T → Cells) (touches : T → ℕ) (old new : T) : Type 0 where
   pub value : found ≡ told
-  pub read : OnlyReads parts cells touches old new
+  pub read : OnlyReads sections cells touches old new
 
 -- a pool's chain: how many blocks it has, whether they cover the pool, and whether no two free ones are neighbours
-abbrev pub chain_found : Parts → Pool → Option Tally
-chain_found parts pool =
-    if is_chain parts pool
+abbrev pub chain_found : Sections → Pool → Option Tally
+chain_found sections pool =
+    if is_chain sections pool
     then Some (record {
-      blocks = length (chain_of parts pool);
-      covers = covers parts pool.base (pool.base + pool.bytes) (chain_of parts pool);
-      is_merged = are_merged parts false (chain_of parts pool);
+      blocks = length (chain_of sections pool);
+      covers = covers sections pool.base (pool.base + pool.bytes) (chain_of sections pool);
+      is_merged = are_merged sections false (chain_of sections pool);
     })
     else None
 
 -- the chains of these pools together, where each is one, with the tally of those before
-abbrev pub tally_with : Parts → Tally → List (Option Pool) → Option Tally
-tally_with parts tally pools =
-    if list_all (is_chain parts) (entries_of pools)
+abbrev pub tally_with : Sections → Tally → List (Option Pool) → Option Tally
+tally_with sections tally pools =
+    if list_all (is_chain sections) (entries_of pools)
     then Some (record {
-      blocks = tally.blocks + length (flat_map (chain_of parts) (entries_of pools));
-      covers = tally.covers && list_all (λ pool. covers parts pool.base (pool.base + pool.bytes) (chain_of parts pool)) (entries_of pools);
-      is_merged = tally.is_merged && list_all (λ pool. are_merged parts false (chain_of parts pool)) (entries_of pools);
+      blocks = tally.blocks + length (flat_map (chain_of sections) (entries_of pools));
+      covers = tally.covers && list_all (λ pool. covers sections pool.base (pool.base + pool.bytes) (chain_of sections pool)) (entries_of pools);
+      is_merged = tally.is_merged && list_all (λ pool. are_merged sections false (chain_of sections pool)) (entries_of pools);
     })
     else None
 
 -- all chains, where each is one
-abbrev pub chains_found : Parts → Option Tally
-chains_found parts = tally_with parts (record { blocks = 0; covers = true; is_merged = true }) parts.pools
+abbrev pub chains_found : Sections → Option Tally
+chains_found sections = tally_with sections (record { blocks = 0; covers = true; is_merged = true }) sections.pools
 
 -- two tallies together
 abbrev pub both : Tally → Tally → Tally
@@ -72,16 +72,16 @@ abbrev pub is_before : Front → Record → Bool
 is_before front block = is_used block.state && option_eq nat_eq block.prev front.block
 
 -- the list of a class: how many blocks it has, where it is one
-abbrev pub list_found : Parts → ℕ → Option ℕ → Option ℕ
-list_found parts number first = if is_list parts number first then Some (length (slots_in_list parts first)) else None
+abbrev pub list_found : Sections → ℕ → Option ℕ → Option ℕ
+list_found sections number first = if is_list sections number first then Some (length (slots_in_list sections first)) else None
 
 -- the lists of the classes from this number on, where each is one, with this many blocks before
-abbrev pub lists_with : Parts → ℕ → ℕ → List (Option ℕ) → Option ℕ
-lists_with parts blocks number heads = if are_lists parts number heads then Some (blocks + length (flat_map (slots_in_list parts) heads)) else None
+abbrev pub lists_with : Sections → ℕ → ℕ → List (Option ℕ) → Option ℕ
+lists_with sections blocks number heads = if are_lists sections number heads then Some (blocks + length (flat_map (slots_in_list sections) heads)) else None
 
 -- no block has more bytes than a block can have
-abbrev pub HasSizes : Parts → Type 0
-HasSizes parts = (slot : ℕ) → slot < length parts.records → is_used (at parts slot).state ≡ true → (at parts slot).size ≤ greatest_size
+abbrev pub HasSizes : Sections → Type 0
+HasSizes sections = (slot : ℕ) → slot < length sections.records → is_used (at sections slot).state ≡ true → (at sections slot).size ≤ greatest_size
 
 -- whether a record is of a free block of the class, behind this one in its list
 abbrev pub is_behind : Option ℕ → ℕ → Record → Bool
@@ -95,10 +95,10 @@ blocks_with count blocks records =
     else None
 
 -- the count of blocks of all records, where `has_links` holds
-abbrev pub links_found : Parts → Option Blocks
-links_found parts =
-    if has_links parts
-    then Some (record { all = count_by (λ r. is_used r.state) parts.records; free = count_by (λ r. is_free_state r.state) parts.records })
+abbrev pub links_found : Sections → Option Blocks
+links_found sections =
+    if has_links sections
+    then Some (record { all = count_by (λ r. is_used r.state) sections.records; free = count_by (λ r. is_free_state r.state) sections.records })
     else None
 
 -- the blocks and one record more

@@ -81,13 +81,13 @@ record_in bytes slot =
     }
 
 -- what an image describes: the pools by number, the head of each class, and the records by slot
-pub record Parts : Type 0 where
+pub record Sections : Type 0 where
   pub pools : List (Option Pool)
   pub heads : List (Option ℕ)
   pub records : List Record
 
-abbrev pub parts_in : List ℕ → Parts
-parts_in bytes = record {
+abbrev pub sections_in : List ℕ → Sections
+sections_in bytes = record {
   pools = map (λ number. if nat_lt number (two_at pools_at bytes) then Some (pool_in bytes number) else None) (range_with_len 0 most_pools);
   heads = map (head_in bytes) (range_with_len 0 classes);
   records = map (record_in bytes) (range_with_len 0 (two_at count_at bytes));

@@ -10,7 +10,7 @@ use Rattle.tlsf_store.specs.Records.{record_at, is_free_state}
 use Rattle.tlsf_store.specs.Cells.{most_pools}
 use Rattle.tlsf_heap.specs.declared.image.rule.Rule.{Rule}
 use Rattle.tlsf_heap.specs.declared.image.rule.Rule.TheVariants.{Magic, Length, Pools, UnusedPools, States, Links, Chains, Cover, OnChains, Merged, Lists, OnLists}
-use Rattle.tlsf_heap.specs.Images.Image.{two_at, are_zero, magic, count_at, pools_at, zeros_at, entry_at, record_start, size_word, Parts, parts_in}
+use Rattle.tlsf_heap.specs.Images.Image.{two_at, are_zero, magic, count_at, pools_at, zeros_at, entry_at, record_start, size_word, Sections, sections_in}
 use Rattle.tlsf_heap.specs.Images.Links.{chain_from, list_from, is_linked}
 use Rattle.tlsf_heap.specs.Inner.Entries.{entries_of}
 use Rattle.tlsf_store.specs.Ranges.{can_be_pool}
@@ -35,9 +35,9 @@ abbrev pub are_pools : ℕ → ℕ → List Pool → Bool
 are_pools count from [] = true
 are_pools count from (pool ∷ pools) = is_pool count from pool && are_pools count (pool.base + pool.bytes) pools
 
--- the pools of these parts pass `are_pools` from place 0 on
-abbrev pub has_ordered_pools : Parts → Bool
-has_ordered_pools parts = are_pools (length parts.records) 0 (entries_of parts.pools)
+-- the pools of these sections pass `are_pools` from place 0 on
+abbrev pub has_ordered_pools : Sections → Bool
+has_ordered_pools sections = are_pools (length sections.records) 0 (entries_of sections.pools)
 
 -- behind an entry without a pool no entry has one
 abbrev pub are_packed : List (Option Pool) → Bool
@@ -46,13 +46,13 @@ are_packed (None ∷ entries) = list_all is_none entries
 are_packed (Some pool ∷ entries) = are_packed entries
 
 -- the entries with pools come first, and their pools pass `are_pools` from place 0 on
-abbrev pub has_packed_pools : Parts → Bool
-has_packed_pools parts = are_packed parts.pools && has_ordered_pools parts
+abbrev pub has_packed_pools : Sections → Bool
+has_packed_pools sections = are_packed sections.pools && has_ordered_pools sections
 
 -- 3: the pools pass `are_pools` from place 0 on, and their entries end with zeros
 abbrev pub has_pools : List ℕ → Bool
 has_pools bytes =
-    are_pools (two_at count_at bytes) 0 (entries_of (parts_in bytes).pools) && list_all (λ number. are_zero (entry_at number + 10) 2 bytes) (range_with_len 0 (two_at pools_at bytes))
+    are_pools (two_at count_at bytes) 0 (entries_of (sections_in bytes).pools) && list_all (λ number. are_zero (entry_at number + 10) 2 bytes) (range_with_len 0 (two_at pools_at bytes))
 
 -- 4: the entries behind them are zero
 abbrev pub has_unused_pools : List ℕ → Bool
@@ -97,74 +97,74 @@ abbrev pub has_record_links : ℕ → Record → Bool
 has_record_links count r = not (is_used r.state) || (nat_lt 0 r.size && ((is_below count r.prev && is_below count r.next) && has_links_in r.state count r))
 
 -- 6: each head is none or one of the records, and each record passes `has_record_links`
-abbrev pub has_links : Parts → Bool
-has_links parts = list_all (is_below (length parts.records)) parts.heads && list_all (has_record_links (length parts.records)) parts.records
+abbrev pub has_links : Sections → Bool
+has_links sections = list_all (is_below (length sections.records)) sections.heads && list_all (has_record_links (length sections.records)) sections.records
 
 -- the chain of a pool
-abbrev pub chain_of : Parts → Pool → List ℕ
-chain_of parts pool = chain_from parts.records (Some pool.first)
+abbrev pub chain_of : Sections → Pool → List ℕ
+chain_of sections pool = chain_from sections.records (Some pool.first)
 
 -- the record of a slot
-abbrev pub at : Parts → ℕ → Record
-at parts slot = record_at parts.records slot
+abbrev pub at : Sections → ℕ → Record
+at sections slot = record_at sections.records slot
 
 -- a chain ends, has blocks alone, and is linked back
-abbrev pub is_chain : Parts → Pool → Bool
-is_chain parts pool = is_linked (λ slot. is_used (at parts slot).state) (λ slot. (at parts slot).next) (λ slot. (at parts slot).prev) (length parts.records) None (Some pool.first)
+abbrev pub is_chain : Sections → Pool → Bool
+is_chain sections pool = is_linked (λ slot. is_used (at sections slot).state) (λ slot. (at sections slot).next) (λ slot. (at sections slot).prev) (length sections.records) None (Some pool.first)
 
 -- 7: the chain of each pool ends, has blocks alone, and is linked back
-abbrev pub has_chains : Parts → Bool
-has_chains parts = list_all (is_chain parts) (entries_of parts.pools)
+abbrev pub has_chains : Sections → Bool
+has_chains sections = list_all (is_chain sections) (entries_of sections.pools)
 
 -- each block begins where the one before ends, from one place up to another
-abbrev pub covers : Parts → ℕ → ℕ → List ℕ → Bool
-covers parts from to [] = from == to
-covers parts from to (slot ∷ slots) = ((at parts slot).place == from) && covers parts (from + (at parts slot).size) to slots
+abbrev pub covers : Sections → ℕ → ℕ → List ℕ → Bool
+covers sections from to [] = from == to
+covers sections from to (slot ∷ slots) = ((at sections slot).place == from) && covers sections (from + (at sections slot).size) to slots
 
 -- 8: the blocks of each chain cover its pool
-abbrev pub has_cover : Parts → Bool
-has_cover parts = list_all (λ pool. covers parts pool.base (pool.base + pool.bytes) (chain_of parts pool)) (entries_of parts.pools)
+abbrev pub has_cover : Sections → Bool
+has_cover sections = list_all (λ pool. covers sections pool.base (pool.base + pool.bytes) (chain_of sections pool)) (entries_of sections.pools)
 
 -- whether the slot is one of these
 abbrev pub is_among : ℕ → List ℕ → Bool
 is_among slot slots = list_any (λ other. other == slot) slots
 
 -- 9: each block is on the chain of a pool
-abbrev pub has_all_on_chains : Parts → Bool
-has_all_on_chains parts =
-    list_all (λ slot. not (is_used (at parts slot).state) || list_any (λ pool. is_among slot (chain_of parts pool)) (entries_of parts.pools)) (range_with_len 0 (length parts.records))
+abbrev pub has_all_on_chains : Sections → Bool
+has_all_on_chains sections =
+    list_all (λ slot. not (is_used (at sections slot).state) || list_any (λ pool. is_among slot (chain_of sections pool)) (entries_of sections.pools)) (range_with_len 0 (length sections.records))
 
 -- no free block stands behind a free one; after_free: one stands in front of the first
-abbrev pub are_merged : Parts → Bool → List ℕ → Bool
-are_merged parts after_free [] = true
-are_merged parts after_free (slot ∷ slots) = not (after_free && is_free_state (at parts slot).state) && are_merged parts (is_free_state (at parts slot).state) slots
+abbrev pub are_merged : Sections → Bool → List ℕ → Bool
+are_merged sections after_free [] = true
+are_merged sections after_free (slot ∷ slots) = not (after_free && is_free_state (at sections slot).state) && are_merged sections (is_free_state (at sections slot).state) slots
 
 -- 10: no two free blocks stand side by side on a chain
-abbrev pub has_merged : Parts → Bool
-has_merged parts = list_all (λ pool. are_merged parts false (chain_of parts pool)) (entries_of parts.pools)
+abbrev pub has_merged : Sections → Bool
+has_merged sections = list_all (λ pool. are_merged sections false (chain_of sections pool)) (entries_of sections.pools)
 
 -- the list of a class with this head
-abbrev pub slots_in_list : Parts → Option ℕ → List ℕ
-slots_in_list parts first = list_from parts.records first
+abbrev pub slots_in_list : Sections → Option ℕ → List ℕ
+slots_in_list sections first = list_from sections.records first
 
 -- a list ends, has free blocks of its class alone, and is linked back
-abbrev pub is_list : Parts → ℕ → Option ℕ → Bool
-is_list parts number first =
-    is_linked (λ slot. is_free_state (at parts slot).state && (class (at parts slot).size == number)) (λ slot. (at parts slot).next_free) (λ slot. (at parts slot).prev_free) (length parts.records) None first
+abbrev pub is_list : Sections → ℕ → Option ℕ → Bool
+is_list sections number first =
+    is_linked (λ slot. is_free_state (at sections slot).state && (class (at sections slot).size == number)) (λ slot. (at sections slot).next_free) (λ slot. (at sections slot).prev_free) (length sections.records) None first
 
 -- each list passes `is_list`, from the class of this number on
-abbrev pub are_lists : Parts → ℕ → List (Option ℕ) → Bool
-are_lists parts number [] = true
-are_lists parts number (first ∷ more) = is_list parts number first && are_lists parts (number + 1) more
+abbrev pub are_lists : Sections → ℕ → List (Option ℕ) → Bool
+are_lists sections number [] = true
+are_lists sections number (first ∷ more) = is_list sections number first && are_lists sections (number + 1) more
 
 -- 11: the list of each class ends, has free blocks of its class alone, and is linked back
-abbrev pub has_lists : Parts → Bool
-has_lists parts = are_lists parts 0 parts.heads
+abbrev pub has_lists : Sections → Bool
+has_lists sections = are_lists sections 0 sections.heads
 
 -- 12: each free block is on the list of a class
-abbrev pub has_all_on_lists : Parts → Bool
-has_all_on_lists parts =
-    list_all (λ slot. not (is_free_state (at parts slot).state) || list_any (λ first. is_among slot (slots_in_list parts first)) parts.heads) (range_with_len 0 (length parts.records))
+abbrev pub has_all_on_lists : Sections → Bool
+has_all_on_lists sections =
+    list_all (λ slot. not (is_free_state (at sections slot).state) || list_any (λ first. is_among slot (slots_in_list sections first)) sections.heads) (range_with_len 0 (length sections.records))
 
 -- ---- all of them
 
@@ -173,19 +173,19 @@ abbrev pub first_unmet : List (Rule × Bool) → Option Rule
 first_unmet [] = None
 first_unmet (rule ∷ rules) = if rule.1 then first_unmet rules else Some rule.0
 
-abbrev pub rules_of_parts : Parts → List (Rule × Bool)
-rules_of_parts parts =
-    (Links, has_links parts) ∷ (Chains, has_chains parts) ∷ (Cover, has_cover parts) ∷ (OnChains, has_all_on_chains parts)
-    ∷ (Merged, has_merged parts) ∷ (Lists, has_lists parts) ∷ (OnLists, has_all_on_lists parts) ∷ []
+abbrev pub rules_of_sections : Sections → List (Rule × Bool)
+rules_of_sections sections =
+    (Links, has_links sections) ∷ (Chains, has_chains sections) ∷ (Cover, has_cover sections) ∷ (OnChains, has_all_on_chains sections)
+    ∷ (Merged, has_merged sections) ∷ (Lists, has_lists sections) ∷ (OnLists, has_all_on_lists sections) ∷ []
 
--- the rules of parts that were not read from bytes, of which the rule on the pools comes first
-abbrev pub rules_of_table : Parts → List (Rule × Bool)
-rules_of_table parts = (Pools, has_packed_pools parts) ∷ rules_of_parts parts
+-- the rules of sections that were not read from bytes, of which the rule on the pools comes first
+abbrev pub rules_of_table : Sections → List (Rule × Bool)
+rules_of_table sections = (Pools, has_packed_pools sections) ∷ rules_of_sections sections
 
 abbrev pub rules : List ℕ → List (Rule × Bool)
 rules bytes =
     (Magic, has_magic bytes) ∷ (Length, has_length bytes) ∷ (Pools, has_pools bytes) ∷ (UnusedPools, has_unused_pools bytes) ∷ (States, has_states bytes)
-    ∷ rules_of_parts (parts_in bytes)
+    ∷ rules_of_sections (sections_in bytes)
 
 -- the first rule that the bytes break
 abbrev pub first_broken : List ℕ → Option Rule

@@ -1,4 +1,4 @@
--- The bytes of an image of parts.
+-- The bytes of an image of sections.
 use Rattle.std.specs.Prelude.{◌≡◌, ℕ, ◌+◌, ◌/◌, ◌%◌, List, [], ◌∷◌, ◌++◌, length, replicate, Option, Some, None}
 use Rattle.std.specs.List.{flat_map}
 use Rattle.tlsf_store.specs.declared.records.State.{State}
@@ -6,7 +6,7 @@ use Rattle.tlsf_store.specs.declared.records.State.TheVariants.{Vacant, Free, Li
 use Rattle.tlsf_store.specs.declared.records.Record.{Record}
 use Rattle.tlsf_store.specs.declared.pools.Pool.{Pool}
 use Rattle.tlsf_store.specs.Slots.{missing}
-use Rattle.tlsf_heap.specs.Images.Image.{magic, Parts}
+use Rattle.tlsf_heap.specs.Images.Image.{magic, Sections}
 use Rattle.tlsf_heap.specs.Inner.Entries.{entries_of}
 
 -- a text of a known length is appended
@@ -48,8 +48,8 @@ abbrev pub head_bytes : Option ℕ → List ℕ
 head_bytes link = two (word_of link)
 
 -- the magic, how many records and pools there are, and zeros
-abbrev pub header_bytes : Parts → List ℕ
-header_bytes parts = magic ++ (two (length parts.records) ++ (two (length (entries_of parts.pools)) ++ replicate 4 0))
+abbrev pub header_bytes : Sections → List ℕ
+header_bytes sections = magic ++ (two (length sections.records) ++ (two (length (entries_of sections.pools)) ++ replicate 4 0))
 
-abbrev pub image_of : Parts → List ℕ
-image_of parts = header_bytes parts ++ (flat_map entry_bytes parts.pools ++ (flat_map head_bytes parts.heads ++ flat_map record_bytes parts.records))
+abbrev pub image_of : Sections → List ℕ
+image_of sections = header_bytes sections ++ (flat_map entry_bytes sections.pools ++ (flat_map head_bytes sections.heads ++ flat_map record_bytes sections.records))

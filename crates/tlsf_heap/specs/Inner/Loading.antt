@@ -5,9 +5,9 @@ use Rattle.tlsf_store.specs.declared.records.Record.{Record}
 use Rattle.tlsf_store.specs.declared.pools.Pool.{Pool as StoredPool}
 use Rattle.tlsf_store.specs.Records.{blank, IsBelow, IsKept}
 use Rattle.tlsf_store.specs.Cells.{Cells, head_at}
-use Rattle.tlsf_heap.specs.Images.Image.{Parts}
+use Rattle.tlsf_heap.specs.Images.Image.{Sections}
 use Rattle.tlsf_heap.specs.Images.Rules.{at, is_used}
-use Rattle.tlsf_heap.specs.Images.Described.{parts_of}
+use Rattle.tlsf_heap.specs.Images.Described.{sections_of}
 use Rattle.tlsf_heap.specs.Images.Bitmaps.{AreBitmapsOf}
 
 -- the cells with these records, and with these pools
@@ -17,15 +17,15 @@ with_records records cells = record cells { records = records }
 abbrev pub with_pools : List (Option StoredPool) → Cells → Cells
 with_pools pools cells = record cells { pools = pools }
 
--- a store can keep what the parts hold: blocks and heads, and vacant records are blank
-pub record CanBeStored (parts : Parts) : Type 0 where
-  pub kept : (slot : ℕ) → slot < length parts.records → is_used (at parts slot).state ≡ true → IsKept (length parts.records) (at parts slot)
-  pub vacant : (slot : ℕ) → slot < length parts.records → is_used (at parts slot).state ≡ false → at parts slot ≡ blank
-  pub heads : (class : ℕ) → class < classes → IsBelow (length parts.records) (head_at parts.heads class)
+-- a store can keep what the sections hold: blocks and heads, and vacant records are blank
+pub record CanBeStored (sections : Sections) : Type 0 where
+  pub kept : (slot : ℕ) → slot < length sections.records → is_used (at sections slot).state ≡ true → IsKept (length sections.records) (at sections slot)
+  pub vacant : (slot : ℕ) → slot < length sections.records → is_used (at sections slot).state ≡ false → at sections slot ≡ blank
+  pub heads : (class : ℕ) → class < classes → IsBelow (length sections.records) (head_at sections.heads class)
 
--- the cells hold the parts, and the bitmaps are those of the heads
-pub record HoldsParts (parts : Parts) (cells : Cells) : Type 0 where
-  pub held : parts_of cells ≡ parts
+-- the cells hold the sections, and the bitmaps are those of the heads
+pub record HoldsSections (sections : Sections) (cells : Cells) : Type 0 where
+  pub held : sections_of cells ≡ sections
   pub words_count : length cells.step_words ≡ levels
   pub bitmaps : AreBitmapsOf cells.heads cells.step_words cells.level_word
 

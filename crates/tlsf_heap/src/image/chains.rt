@@ -5,7 +5,7 @@ ghost use Rattle.tlsf_store.specs.Records.{most_records};
 ghost use Rattle.tlsf_heap.specs.Images.Rules.{has_links};
 ghost use Rattle.tlsf_heap.specs.Images.Findings.{chain_found, chains_found, both, front_of, is_before, tally_and, OnlyReads, Finds};
 
-use super::HasParts;
+use super::HasSections;
 use tlsf_store::{MOST_POOLS, Pool, Record, Slot, State};
 
 /// What is found where chains are followed to their ends.
@@ -86,12 +86,12 @@ impl Tally {
 }
 
 /// What is found in the chain of a pool, if it ends, has blocks alone, and is linked back.
-fn look_at_chain<T: HasParts>(table: &mut T, pool: Pool) -> Option<Tally>
-    requires links { IsTrue (has_links (T.parts table.old)) }
-    requires within { pool.first < length (T.parts table.old).records }
-    ensures value { result ≡ chain_found (T.parts table.old) pool }
+fn look_at_chain<T: HasSections>(table: &mut T, pool: Pool) -> Option<Tally>
+    requires links { IsTrue (has_links (T.sections table.old)) }
+    requires within { pool.first < length (T.sections table.old).records }
+    ensures value { result ≡ chain_found (T.sections table.old) pool }
     ensures few { IfSome result (λ tally. tally.blocks ≤ most_records) }
-    ensures read { OnlyReads T.parts T.cells T.touches table.old table.new }
+    ensures read { OnlyReads T.sections T.cells T.touches table.old table.new }
 {
     let count = table.count();
     let start = u64::from(pool.base);
@@ -116,9 +116,9 @@ fn look_at_chain<T: HasParts>(table: &mut T, pool: Pool) -> Option<Tally>
 }
 
 /// What is found in the chains of all pools, if each ends, has blocks alone, and is linked back.
-pub(crate) fn look_at_chains<T: HasParts>(table: &mut T) -> Option<Tally>
-    requires links { IsTrue (has_links (T.parts table.old)) }
-    ensures { Finds result (chains_found (T.parts table.old)) T.parts T.cells T.touches table.old table.new }
+pub(crate) fn look_at_chains<T: HasSections>(table: &mut T) -> Option<Tally>
+    requires links { IsTrue (has_links (T.sections table.old)) }
+    ensures { Finds result (chains_found (T.sections table.old)) T.sections T.cells T.touches table.old table.new }
 {
     let mut tally = Tally::new();
     for number in 0..MOST_POOLS as u32 {

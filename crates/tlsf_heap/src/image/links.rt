@@ -6,7 +6,7 @@ ghost use Rattle.tlsf_store.specs.Records.{most_records};
 ghost use Rattle.tlsf_heap.specs.Images.Rules.{is_below, has_record_links};
 ghost use Rattle.tlsf_heap.specs.Images.Findings.{blocks_and, links_found, Finds};
 
-use super::HasParts;
+use super::HasSections;
 use tlsf_class::{CLASSES, Class};
 use tlsf_store::{Record, Slot, State};
 
@@ -61,8 +61,8 @@ fn has_links(block: &Record, count: u32) -> bool
 }
 
 /// Whether each head is none, or one of the records.
-fn has_head_links<T: HasParts>(table: &mut T) -> bool
-    ensures { Finds result (list_all (is_below (length (T.parts table.old).records)) (T.parts table.old).heads) T.parts T.cells T.touches table.old table.new }
+fn has_head_links<T: HasSections>(table: &mut T) -> bool
+    ensures { Finds result (list_all (is_below (length (T.sections table.old).records)) (T.sections table.old).heads) T.sections T.cells T.touches table.old table.new }
 {
     let count = table.count();
     for number in 0..CLASSES {
@@ -75,8 +75,8 @@ fn has_head_links<T: HasParts>(table: &mut T) -> bool
 
 /// How many blocks the records are of, if the heads pass `has_head_links` and each record
 /// `has_links`.
-pub(crate) fn look_at_links<T: HasParts>(table: &mut T) -> Option<Blocks>
-    ensures { Finds result (links_found (T.parts table.old)) T.parts T.cells T.touches table.old table.new }
+pub(crate) fn look_at_links<T: HasSections>(table: &mut T) -> Option<Blocks>
+    ensures { Finds result (links_found (T.sections table.old)) T.sections T.cells T.touches table.old table.new }
 {
     if !has_head_links(table) {
         return None;

@@ -7,7 +7,7 @@ ghost use Rattle.tlsf_store.specs.Cells.{head_at};
 ghost use Rattle.tlsf_heap.specs.Images.Rules.{has_links};
 ghost use Rattle.tlsf_heap.specs.Images.Findings.{list_found, lists_with, is_behind, HasSizes, OnlyReads, Finds};
 
-use super::HasParts;
+use super::HasSections;
 use tlsf_class::{CLASSES, Class, class_of};
 use tlsf_store::{Record, Slot};
 
@@ -22,13 +22,13 @@ fn is_behind(before: Option<Slot>, block: &Record, class: Class) -> bool
 }
 
 /// How many blocks the list of a class has, if it ends, has free blocks of the class alone, and is linked back.
-fn look_at_list<T: HasParts>(table: &mut T, class: Class) -> Option<u32>
-    requires links { IsTrue (has_links (T.parts table.old)) }
-    requires sizes { HasSizes (T.parts table.old) }
-    ensures value { result ≡ list_found (T.parts table.old) class (head_at (T.parts table.old).heads class) }
+fn look_at_list<T: HasSections>(table: &mut T, class: Class) -> Option<u32>
+    requires links { IsTrue (has_links (T.sections table.old)) }
+    requires sizes { HasSizes (T.sections table.old) }
+    ensures value { result ≡ list_found (T.sections table.old) class (head_at (T.sections table.old).heads class) }
     ensures few { IfSome result (λ blocks. blocks ≤ most_records) }
-    ensures whole { length (T.parts table.old).heads ≡ classes }
-    ensures read { OnlyReads T.parts T.cells T.touches table.old table.new }
+    ensures whole { length (T.sections table.old).heads ≡ classes }
+    ensures read { OnlyReads T.sections T.cells T.touches table.old table.new }
 {
     let count = table.count();
     let mut blocks = 0;
@@ -48,10 +48,10 @@ fn look_at_list<T: HasParts>(table: &mut T, class: Class) -> Option<u32>
 
 /// How many blocks the lists of all classes have, if each ends, has free blocks of its class alone, and is linked
 /// back.
-pub(crate) fn look_at_lists<T: HasParts>(table: &mut T) -> Option<u32>
-    requires links { IsTrue (has_links (T.parts table.old)) }
-    requires sizes { HasSizes (T.parts table.old) }
-    ensures { Finds result (lists_with (T.parts table.old) 0 0 (T.parts table.old).heads) T.parts T.cells T.touches table.old table.new }
+pub(crate) fn look_at_lists<T: HasSections>(table: &mut T) -> Option<u32>
+    requires links { IsTrue (has_links (T.sections table.old)) }
+    requires sizes { HasSizes (T.sections table.old) }
+    ensures { Finds result (lists_with (T.sections table.old) 0 0 (T.sections table.old).heads) T.sections T.cells T.touches table.old table.new }
 {
     let mut blocks = 0;
     for number in 0..CLASSES {

@@ -4,7 +4,7 @@ ghost use Rattle.std.specs.Prelude.{◌≡◌};
 ghost use Rattle.tlsf_heap.specs.Images.Rules.{is_pool, has_packed_pools};
 ghost use Rattle.tlsf_heap.specs.Images.Findings.{Finds};
 
-use super::HasParts;
+use super::HasSections;
 use tlsf_store::{MOST_POOLS, Pool, can_be_pool};
 
 /// Whether the pool can be at its range, from a place on, and its first record is one of this many.
@@ -16,8 +16,8 @@ pub(crate) fn is_pool(count: u32, from: u64, pool: &Pool) -> bool
 }
 
 /// Whether the entries with pools come first, and these pass `is_pool`, each from the end of the one before on.
-pub(crate) fn has_packed_pools<T: HasParts>(table: &mut T) -> bool
-    ensures { Finds result (has_packed_pools (T.parts table.old)) T.parts T.cells T.touches table.old table.new }
+pub(crate) fn has_packed_pools<T: HasSections>(table: &mut T) -> bool
+    ensures { Finds result (has_packed_pools (T.sections table.old)) T.sections T.cells T.touches table.old table.new }
 {
     let count = table.count();
     let mut from = 0;

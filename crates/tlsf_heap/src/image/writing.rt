@@ -11,7 +11,7 @@ ghost use Rattle.tlsf_heap.specs.Images.Writing.{Appends, two, four, block_bytes
 ghost use Rattle.tlsf_heap.specs.Images.Findings.{OnlyReads, Finds};
 ghost use Rattle.tlsf_heap.specs.Inner.Entries.{entries_of};
 
-use super::HasParts;
+use super::HasSections;
 use super::header::MAGIC;
 use arrayvec::ArrayVec;
 use mtrace_log::{Failed, Sink, put_all};
@@ -105,8 +105,8 @@ fn push_record(piece: &mut Piece, block: &Record)
 }
 
 /// How many pools there are.
-fn count_pools<T: HasParts>(table: &mut T) -> u16
-    ensures { Finds result (length (entries_of (T.parts table.old).pools)) T.parts T.cells T.touches table.old table.new }
+fn count_pools<T: HasSections>(table: &mut T) -> u16
+    ensures { Finds result (length (entries_of (T.sections table.old).pools)) T.sections T.cells T.touches table.old table.new }
 {
     let mut pools = 0;
     for number in 0..MOST_POOLS as u32 {
@@ -118,10 +118,10 @@ fn count_pools<T: HasParts>(table: &mut T) -> u16
 }
 
 /// Appends the magic, how many records and pools there are, and zeros.
-fn push_header<T: HasParts>(piece: &mut Piece, table: &mut T)
+fn push_header<T: HasSections>(piece: &mut Piece, table: &mut T)
     requires { array_vec_len piece.old + 16 ≤ PIECE }
-    ensures appended { Appends piece.old.items piece.new.items (header_bytes (T.parts table.old)) 16 }
-    ensures read { OnlyReads T.parts T.cells T.touches table.old table.new }
+    ensures appended { Appends piece.old.items piece.new.items (header_bytes (T.sections table.old)) 16 }
+    ensures read { OnlyReads T.sections T.cells T.touches table.old table.new }
 {
     let pools = count_pools(table);
     push_bytes(piece, MAGIC);
@@ -131,10 +131,10 @@ fn push_header<T: HasParts>(piece: &mut Piece, table: &mut T)
 }
 
 /// Appends the entries of all pools.
-fn push_entries<T: HasParts>(piece: &mut Piece, table: &mut T)
+fn push_entries<T: HasSections>(piece: &mut Piece, table: &mut T)
     requires { array_vec_len piece.old + 12 * most_pools ≤ PIECE }
-    ensures appended { Appends piece.old.items piece.new.items (flat_map entry_bytes (T.parts table.old).pools) (12 * most_pools) }
-    ensures read { OnlyReads T.parts T.cells T.touches table.old table.new }
+    ensures appended { Appends piece.old.items piece.new.items (flat_map entry_bytes (T.sections table.old).pools) (12 * most_pools) }
+    ensures read { OnlyReads T.sections T.cells T.touches table.old table.new }
 {
     for number in 0..MOST_POOLS as u32 {
         push_entry(piece, table.pool(number));
@@ -142,10 +142,10 @@ fn push_entries<T: HasParts>(piece: &mut Piece, table: &mut T)
 }
 
 /// Appends the heads of all classes.
-fn push_heads<T: HasParts>(piece: &mut Piece, table: &mut T)
+fn push_heads<T: HasSections>(piece: &mut Piece, table: &mut T)
     requires { array_vec_len piece.old + 2 * classes ≤ PIECE }
-    ensures appended { Appends piece.old.items piece.new.items (flat_map head_bytes (T.parts table.old).heads) (2 * classes) }
-    ensures read { OnlyReads T.parts T.cells T.touches table.old table.new }
+    ensures appended { Appends piece.old.items piece.new.items (flat_map head_bytes (T.sections table.old).heads) (2 * classes) }
+    ensures read { OnlyReads T.sections T.cells T.touches table.old table.new }
 {
     for number in 0..CLASSES {
         push_link(piece, table.head(Class::new(number)));
@@ -157,11 +157,11 @@ fn push_heads<T: HasParts>(piece: &mut Piece, table: &mut T)
 /// # Errors
 ///
 /// `Failed` where the writer failed, or took no byte of some: then a beginning of the image is put.
-pub fn put_image<T: HasParts, W: Sink>(table: &mut T, writer: &mut W) -> Result<(), Failed>
-    ensures put { Puts result (image_of (T.parts table.old)) (W.shown writer.old) (W.shown writer.new) }
-    ensures some { 0 < length (T.parts table.old).records }
-    ensures few { length (T.parts table.old).records ≤ most_records }
-    ensures read { OnlyReads T.parts T.cells T.touches table.old table.new }
+pub fn put_image<T: HasSections, W: Sink>(table: &mut T, writer: &mut W) -> Result<(), Failed>
+    ensures put { Puts result (image_of (T.sections table.old)) (W.shown writer.old) (W.shown writer.new) }
+    ensures some { 0 < length (T.sections table.old).records }
+    ensures few { length (T.sections table.old).records ≤ most_records }
+    ensures read { OnlyReads T.sections T.cells T.touches table.old table.new }
 {
     let mut piece = Piece::new();
     push_header(&mut piece, table);

@@ -6,10 +6,10 @@ use Rattle.tlsf_heap.proofs.load.fill_heads.Given as goal
 
 abbrev pub invariant-loop-number : goal.invariant-loop-number
 invariant-loop-number g l =
-    let parts = g.T.HasParts.parts l.fn.table in
+    let sections = g.T.HasSections.sections l.fn.table in
     record {
-      same : g.T.HasParts.parts l.table ≡ parts;
-      whole : 0 < l.number → length parts.heads ≡ classes;
-      so_far : HasHeadsBelow parts.heads l.fn.store.cells l.number l.store.cells;
+      same : g.T.HasSections.sections l.table ≡ sections;
+      whole : 0 < l.number → length sections.heads ≡ classes;
+      so_far : HasHeadsBelow sections.heads l.fn.store.cells l.number l.store.cells;
       touches : l.store.touches ≤ l.fn.store.touches + 5 * l.number;
     }

@@ -4,7 +4,7 @@ use crate::tests::heap::image_bytes::vector;
 use crate::tests::{expect_eq, expect_eq_at};
 use std::process::Abort;
 use tlsf_class::Class;
-use tlsf_heap::{HasParts, Image, Rule};
+use tlsf_heap::{HasSections, Image, Rule};
 use tlsf_store::{Slot, State, can_be_pool};
 
 #[test]

@@ -2,7 +2,7 @@
 use Rattle.std.proofs.Common.{ℕ, ◌+◌, ◌≤◌, List, length, map, drop, flat_map, subst, ap, ◌∙◌, arith, rules}
 use Rattle.std.proofs.Math.ListN.{get_or}
 use Rattle.std.proofs.lemmas.List.{drop_all}
-use Rattle.mtrace_log.specs.Output.{PutsAll, PutsPart}
+use Rattle.mtrace_log.specs.Output.{PutsAll, PutsBeginning}
 use Rattle.mtrace_log.proofs.Writing.{putting_more, putting_fails, putting_ends, puts_exit}
 use Rattle.tlsf_heap.specs.Content.{Content}
 use Rattle.tlsf_heap.specs.Counted.{range_of}
@@ -41,8 +41,8 @@ returns-in_err-put_pool g c =
           let index = c.loop-range.range-index in
           let item = get_or items index (0, 0) in
           let f = by_base rows_text content.pools in
-          let P : Content ℕ → Type 0 = λ content. PutsPart (rows_text item (pool_rows content.pools item.0)) (writes c.loop-range.writer) (writes c.put_pool.new.writer) in
-          let Q : List ℕ → Type 0 = λ text. PutsPart text (writes c.args.writer.now) (writes c.put_pool.new.writer) in
+          let P : Content ℕ → Type 0 = λ content. PutsBeginning (rows_text item (pool_rows content.pools item.0)) (writes c.loop-range.writer) (writes c.put_pool.new.writer) in
+          let Q : List ℕ → Type 0 = λ text. PutsBeginning text (writes c.args.writer.now) (writes c.put_pool.new.writer) in
           let next = next_of f items all index (0, 0) (c.as_slice-range-items.ensures.value ∙ c.pools-pools.ensures.value) c.loop-range-test.true in
           puts_exit c.from_residual.result _ c.from_residual.ensures.1 _ (writes c.args.writer.now) (writes c.put_pool.new.writer) (subst Q (walk_is content c.keeps_good.ensures.good)
           (putting_fails (writes c.args.writer.now) (writes c.loop-range.writer) (writes c.put_pool.new.writer) (flat_map f all) (flat_map f (drop index all)) (f item) (flat_map f (drop (index + 1) all))

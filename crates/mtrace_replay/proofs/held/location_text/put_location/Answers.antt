@@ -1,7 +1,7 @@
 -- The word, then the location.
 use Rattle.std.proofs.Common.{◌≡◌, ℕ, List, ◌++◌, codes, sym, ap, subst}
 use Rattle.std.specs.Option.{option_copied}
-use Rattle.mtrace_log.specs.Output.{PutsPart, Puts}
+use Rattle.mtrace_log.specs.Output.{PutsBeginning, Puts}
 use Rattle.mtrace_log.proofs.Writing.{puts_then, fails_early, puts_exit}
 use Rattle.mtrace_replay.specs.Texts.{at_text}
 use Rattle.mtrace_replay.proofs.held.location_text.put_location.Goals as goal
@@ -12,7 +12,7 @@ returns-in_err-put_all g c =
     let new = g.W.Sink.shown c.put_all.new.writer in
     let same : at_text (option_copied c.args.at) ≡ codes " at " ++ c.in-Some.bytes.now = ap (λ at. at_text (option_copied at)) c.in-Some.is in
     puts_exit c.from_residual.result _ c.from_residual.ensures.1 (at_text (option_copied c.args.at)) old new
-    (subst (λ (text : List ℕ). PutsPart text old new) (sym same) (fails_early old new (codes " at ") c.in-Some.bytes.now c.in_err-put_all.ensures))
+    (subst (λ (text : List ℕ). PutsBeginning text old new) (sym same) (fails_early old new (codes " at ") c.in-Some.bytes.now c.in_err-put_all.ensures))
 
 pub returns : goal.returns
 returns g c =

@@ -1,6 +1,6 @@
 -- All calls together, and then a line for each caller.
 use Rattle.std.proofs.Common.{List, ℕ, subst, ◌∙◌, ◌++◌, flat_map}
-use Rattle.mtrace_log.specs.Output.{PutsAll, PutsPart}
+use Rattle.mtrace_log.specs.Output.{PutsAll, PutsBeginning}
 use Rattle.mtrace_log.proofs.Writing.{puts_then, fails_early, puts_exit}
 use Rattle.mtrace_replay.specs.Texts.{calls_line, caller_text}
 use Rattle.mtrace_replay.proofs.held.sections.put_callers.Goals as goal
@@ -12,7 +12,7 @@ returns-in_err-put_all g c =
     let lines = flat_map caller_text c.args.callers.now in
     puts_exit c.from_residual.result _ c.from_residual.ensures.1 (line ++ lines) (writes c.args.writer.now) (writes c.put_all.new.writer)
     (fails_early (writes c.args.writer.now) (writes c.put_all.new.writer) line lines
-    (subst (λ (text : List ℕ). PutsPart text (writes c.args.writer.now) (writes c.put_all.new.writer)) (c.as_slice.ensures.value ∙ c.calls_text.ensures) c.in_err-put_all.ensures))
+    (subst (λ (text : List ℕ). PutsBeginning text (writes c.args.writer.now) (writes c.put_all.new.writer)) (c.as_slice.ensures.value ∙ c.calls_text.ensures) c.in_err-put_all.ensures))
 
 pub returns : goal.returns
 returns g c =

@@ -1,6 +1,6 @@
 -- The heading, the entries, then the total.
 use Rattle.std.proofs.Common.{ℕ, List, ◌++◌, sym, subst, ◌∙◌, flat_map}
-use Rattle.mtrace_log.specs.Output.{PutsPart, Puts}
+use Rattle.mtrace_log.specs.Output.{PutsBeginning, Puts}
 use Rattle.mtrace_log.proofs.Writing.{puts_on, puts_then, fails_on, fails_early, puts_exit}
 use Rattle.mtrace_replay.specs.Texts.{entry_text, total_text, leaks_report}
 use Rattle.mtrace_replay.proofs.Told.TextLemmas.{heading, leaks_report-some, total_text-is}
@@ -12,7 +12,7 @@ returns-in_err-put_all g c =
     let new = g.W.Sink.shown c.put_all.new.writer in
     let all = c.args.ledger.now.all in
     puts_exit c.from_residual.result _ c.from_residual.ensures.1 (leaks_report all) old new
-    (subst (λ (text : List ℕ). PutsPart text old new) (sym (leaks_report-some all c.requires.some))
+    (subst (λ (text : List ℕ). PutsBeginning text old new) (sym (leaks_report-some all c.requires.some))
     (fails_early old new (heading ++ flat_map entry_text all) (total_text all) (fails_early old new heading (flat_map entry_text all) c.in_err-put_all.ensures)))
 
 pub returns-in_err-put_entries : goal.returns-in_err-put_entries
@@ -22,7 +22,7 @@ returns-in_err-put_entries g c =
     let new = g.W.Sink.shown c.put_entries.new.writer in
     let all = c.args.ledger.now.all in
     puts_exit c.from_residual-in_err-put_entries.result _ c.from_residual-in_err-put_entries.ensures.1 (leaks_report all) old new
-    (subst (λ (text : List ℕ). PutsPart text old new) (sym (leaks_report-some all c.requires.some))
+    (subst (λ (text : List ℕ). PutsBeginning text old new) (sym (leaks_report-some all c.requires.some))
     (fails_early old new (heading ++ flat_map entry_text all) (total_text all) (fails_on old middle new heading (flat_map entry_text all) c.in_ok-put_all.ensures c.in_err-put_entries.ensures)))
 
 pub returns : goal.returns

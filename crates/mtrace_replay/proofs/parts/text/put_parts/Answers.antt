@@ -1,6 +1,6 @@
 use Rattle.std.proofs.Common.{List, ℕ, ◌≡◌, ◌++◌, length, map, flat_map, codes, sym, subst, ap, ◌∙◌, append_assoc}
 use Rattle.std.proofs.lemmas.List.{length-map}
-use Rattle.mtrace_log.specs.Output.{Puts, PutsPart, PutsAll}
+use Rattle.mtrace_log.specs.Output.{Puts, PutsBeginning, PutsAll}
 use Rattle.mtrace_log.proofs.Writing.{puts_then, fails_early, puts_exit}
 use Rattle.mtrace_replay.specs.declared.parts.text.PartOf.{PartOf}
 use Rattle.mtrace_replay.specs.Texts.{number_line, size_line}
@@ -29,7 +29,7 @@ pub returns-in_err-put_all : goal.returns-in_err-put_all
 returns-in_err-put_all g c =
     let writes = g.W.Sink.shown in
     let parts = c.args.parts.now in
-    let P : List ℕ → Type 0 = λ text. PutsPart text (writes c.args.writer.now) (writes c.put_all.new.writer) in
+    let P : List ℕ → Type 0 = λ text. PutsBeginning text (writes c.args.writer.now) (writes c.put_all.new.writer) in
     puts_exit c.from_residual.result _ c.from_residual.ensures.1 _ (writes c.args.writer.now) (writes c.put_all.new.writer)
     (subst P (whole c.args.bytes c.args.line parts)
     (fails_early (writes c.args.writer.now) (writes c.put_all.new.writer) (front_of c.args.bytes c.args.line parts) (behind_of parts) (subst P (c.as_slice.ensures.value ∙ c.front_text.ensures) c.in_err-put_all.ensures)))

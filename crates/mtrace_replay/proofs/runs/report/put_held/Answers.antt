@@ -1,6 +1,6 @@
 -- The heading, the entries, then the total.
 use Rattle.std.proofs.Common.{ℕ, List, ◌++◌, sym, subst, ◌∙◌, flat_map}
-use Rattle.mtrace_log.specs.Output.{PutsAll, PutsPart, Puts}
+use Rattle.mtrace_log.specs.Output.{PutsAll, PutsBeginning, Puts}
 use Rattle.mtrace_log.proofs.Writing.{puts_on, puts_then, fails_on, fails_early, puts_exit}
 use Rattle.mtrace_replay.specs.Texts.{entry_text, total_text, leaks_report}
 use Rattle.mtrace_replay.specs.Entry.{Entry}
@@ -12,7 +12,7 @@ pub returns-in_err-put_all : goal.returns-in_err-put_all
 returns-in_err-put_all g c =
     let writes = g.W.Sink.shown in
     let all = entries c.args.replay.now in
-    let P : List ℕ → Type 0 = λ text. PutsPart text (writes c.args.writer.now) (writes c.put_all.new.writer) in
+    let P : List ℕ → Type 0 = λ text. PutsBeginning text (writes c.args.writer.now) (writes c.put_all.new.writer) in
     puts_exit c.from_residual.result _ c.from_residual.ensures.1 (leaks_report all) (writes c.args.writer.now) (writes c.put_all.new.writer)
     (subst P (sym (leaks_report-some all c.requires)) (fails_early (writes c.args.writer.now) (writes c.put_all.new.writer) (heading ++ flat_map entry_text all) (total_text all)
     (fails_early (writes c.args.writer.now) (writes c.put_all.new.writer) heading (flat_map entry_text all) c.in_err-put_all.ensures)))
@@ -21,8 +21,8 @@ pub returns-in_err-put_entries : goal.returns-in_err-put_entries
 returns-in_err-put_entries g c =
     let writes = g.W.Sink.shown in
     let all = entries c.args.replay.now in
-    let P : List ℕ → Type 0 = λ text. PutsPart text (writes c.args.writer.now) (writes c.put_entries.new.writer) in
-    let R : List Entry → Type 0 = λ es. PutsPart (flat_map entry_text es) (writes c.put_all.new.writer) (writes c.put_entries.new.writer) in
+    let P : List ℕ → Type 0 = λ text. PutsBeginning text (writes c.args.writer.now) (writes c.put_entries.new.writer) in
+    let R : List Entry → Type 0 = λ es. PutsBeginning (flat_map entry_text es) (writes c.put_all.new.writer) (writes c.put_entries.new.writer) in
     puts_exit c.from_residual-in_err-put_entries.result _ c.from_residual-in_err-put_entries.ensures.1 (leaks_report all) (writes c.args.writer.now) (writes c.put_entries.new.writer)
     (subst P (sym (leaks_report-some all c.requires)) (fails_early (writes c.args.writer.now) (writes c.put_entries.new.writer) (heading ++ flat_map entry_text all) (total_text all)
     (fails_on (writes c.args.writer.now) (writes c.put_all.new.writer) (writes c.put_entries.new.writer) heading (flat_map entry_text all) c.in_ok-put_all.ensures (subst R c.held.ensures.entries c.in_err-put_entries.ensures))))

@@ -1,6 +1,6 @@
 -- The rules of bytes come first, in their order, then those of the table.
 use Rattle.std.proofs.Common.{◌≡◌, ℕ, ◌∙◌, sym, subst, true}
-use Rattle.tlsf_heap.specs.Images.Image.{parts_in}
+use Rattle.tlsf_heap.specs.Images.Image.{sections_in}
 use Rattle.tlsf_heap.specs.Images.Rules.{are_pools}
 use Rattle.tlsf_heap.proofs.Images.ImageLemmas.{records_count, pools_are, first_left}
 use Rattle.tlsf_heap.proofs.image.Image.read.Goals as goal
@@ -28,7 +28,7 @@ invariant_of-result c = record { magic = sym c.if-not-has_magic.ensures; length 
 
 pub first_behind_pools-requires : goal.first_behind_pools-requires
 first_behind_pools-requires c =
-    subst (λ (n : ℕ). are_pools n 0 (entries_of (parts_in c.args.bytes.now).pools) ≡ true) (sym (records_count c.args.bytes.now)) (pools_are c.args.bytes.now (record { magic = sym c.if-not-has_magic.ensures; length = sym c.if-not-has_length.ensures; pools = sym c.if-not-has_pools.ensures; unused = sym c.if-not-has_unused_pools.ensures; states = sym c.if-not-has_states.ensures }))
+    subst (λ (n : ℕ). are_pools n 0 (entries_of (sections_in c.args.bytes.now).pools) ≡ true) (sym (records_count c.args.bytes.now)) (pools_are c.args.bytes.now (record { magic = sym c.if-not-has_magic.ensures; length = sym c.if-not-has_length.ensures; pools = sym c.if-not-has_pools.ensures; unused = sym c.if-not-has_unused_pools.ensures; states = sym c.if-not-has_states.ensures }))
 
 pub returns-in-Some-clause-broken : goal.returns-in-Some-clause-broken
 returns-in-Some-clause-broken c =

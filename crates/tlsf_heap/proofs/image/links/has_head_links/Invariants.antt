@@ -8,9 +8,9 @@ use Rattle.tlsf_heap.proofs.image.links.has_head_links.Given as goal
 -- the heads that are left tell whether all are
 abbrev pub invariant-loop-number : goal.invariant-loop-number
 invariant-loop-number g l =
-    let parts = g.T.HasParts.parts l.fn.table in
+    let sections = g.T.HasSections.sections l.fn.table in
     record {
-      read : OnlyReads g.T.HasParts.parts g.T.HasParts.cells g.T.HasParts.touches l.fn.table l.table;
-      whole : 0 < l.number → length parts.heads ≡ classes;
-      told : list_all (is_below (length parts.records)) (drop l.number parts.heads) ≡ list_all (is_below (length parts.records)) parts.heads;
+      read : OnlyReads g.T.HasSections.sections g.T.HasSections.cells g.T.HasSections.touches l.fn.table l.table;
+      whole : 0 < l.number → length sections.heads ≡ classes;
+      told : list_all (is_below (length sections.records)) (drop l.number sections.heads) ≡ list_all (is_below (length sections.records)) sections.heads;
     }

@@ -10,9 +10,9 @@ use Rattle.tlsf_heap.proofs.Images.PackedPools.{are_packed_behind}
 -- all entries pass exactly if those that are left do
 abbrev pub invariant-loop-number : goal.invariant-loop-number
 invariant-loop-number g l =
-    let parts = g.T.HasParts.parts l.fn.table in
+    let sections = g.T.HasSections.sections l.fn.table in
     record {
-      read : OnlyReads g.T.HasParts.parts g.T.HasParts.cells g.T.HasParts.touches l.fn.table l.table;
-      whole : 0 < l.number → length parts.pools ≡ most_pools;
-      told : (are_packed_behind l.ended (drop l.number parts.pools) && are_pools (length parts.records) l.from (entries_of (drop l.number parts.pools))) ≡ has_packed_pools parts;
+      read : OnlyReads g.T.HasSections.sections g.T.HasSections.cells g.T.HasSections.touches l.fn.table l.table;
+      whole : 0 < l.number → length sections.pools ≡ most_pools;
+      told : (are_packed_behind l.ended (drop l.number sections.pools) && are_pools (length sections.records) l.from (entries_of (drop l.number sections.pools))) ≡ has_packed_pools sections;
     }

@@ -7,10 +7,10 @@ use Rattle.tlsf_heap.specs.Inner.Entries.{entries_of}
 -- the pools up to here and those that are left are all
 abbrev pub invariant-loop-number : goal.invariant-loop-number
 invariant-loop-number g l =
-    let parts = g.T.HasParts.parts l.fn.table in
+    let sections = g.T.HasSections.sections l.fn.table in
     record {
-      read : OnlyReads g.T.HasParts.parts g.T.HasParts.cells g.T.HasParts.touches l.fn.table l.table;
-      whole : 0 < l.number → length parts.pools ≡ most_pools;
+      read : OnlyReads g.T.HasSections.sections g.T.HasSections.cells g.T.HasSections.touches l.fn.table l.table;
+      whole : 0 < l.number → length sections.pools ≡ most_pools;
       few : l.pools ≤ l.number;
-      told : l.pools + length (entries_of (drop l.number parts.pools)) ≡ length (entries_of parts.pools);
+      told : l.pools + length (entries_of (drop l.number sections.pools)) ≡ length (entries_of sections.pools);
     }

@@ -9,10 +9,10 @@ use Rattle.tlsf_heap.proofs.image.writing.push_entries.Given as goal
 -- the entries up to here stand at the end, in front of those that are left
 abbrev pub invariant-loop-number : goal.invariant-loop-number
 invariant-loop-number g l =
-    let parts = g.T.HasParts.parts l.fn.table in
+    let sections = g.T.HasSections.sections l.fn.table in
     record {
-      read : OnlyReads g.T.HasParts.parts g.T.HasParts.cells g.T.HasParts.touches l.fn.table l.table;
-      whole : 0 < l.number → length parts.pools ≡ most_pools;
+      read : OnlyReads g.T.HasSections.sections g.T.HasSections.cells g.T.HasSections.touches l.fn.table l.table;
+      whole : 0 < l.number → length sections.pools ≡ most_pools;
       len : array_vec_len l.piece ≡ array_vec_len l.fn.piece + 12 * l.number;
-      told : l.piece.items ++ flat_map entry_bytes (drop l.number parts.pools) ≡ l.fn.piece.items ++ flat_map entry_bytes parts.pools;
+      told : l.piece.items ++ flat_map entry_bytes (drop l.number sections.pools) ≡ l.fn.piece.items ++ flat_map entry_bytes sections.pools;
     }

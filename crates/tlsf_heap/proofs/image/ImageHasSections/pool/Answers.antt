@@ -4,7 +4,7 @@ use Rattle.std.specs.Prelude.{nat_lt, if◌then◌else◌}
 use Rattle.std.proofs.lemmas.Bool.{lt-ltb, le-ltb}
 use Rattle.tlsf_heap.specs.Images.Image.{two_at, count_at, pools_at, pool_in}
 use Rattle.tlsf_heap.proofs.Images.ImageLemmas.{pool_read, first_below, records_count}
-use Rattle.tlsf_heap.proofs.image.ImageHasParts.pool.Goals as goal
+use Rattle.tlsf_heap.proofs.image.ImageHasSections.pool.Goals as goal
 
 pub returns-then-number-from-clause-value : goal.returns-then-number-from-clause-value
 returns-then-number-from-clause-value c =

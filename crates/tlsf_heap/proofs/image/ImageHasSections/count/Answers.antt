@@ -2,7 +2,7 @@
 use Rattle.std.proofs.Common.{sym, ◌∙◌, ap}
 use Rattle.tlsf_heap.specs.Images.Image.{two_at, count_at}
 use Rattle.tlsf_heap.proofs.Images.ImageLemmas.{records_count}
-use Rattle.tlsf_heap.proofs.image.ImageHasParts.count.Goals as goal
+use Rattle.tlsf_heap.proofs.image.ImageHasSections.count.Goals as goal
 
 pub returns-clause-value : goal.returns-clause-value
 returns-clause-value c =

@@ -1,13 +1,13 @@
 //! A store as its image tells it.
 
-use super::{HasParts, VACANT};
+use super::{HasSections, VACANT};
 use tlsf_class::Class;
 use tlsf_store::{Pool, Record, Slot, State, Store};
 
-impl HasParts for Store {
-    ghost use Rattle.tlsf_heap.specs.Images.Described.{told_parts};
+impl HasSections for Store {
+    ghost use Rattle.tlsf_heap.specs.Images.Described.{told_sections};
 
-    ghost parts = { λ store. told_parts store.cells };
+    ghost sections = { λ store. told_sections store.cells };
 
     ghost cells = { λ store. store.cells };
 

@@ -2,7 +2,7 @@
 use Rattle.std.proofs.Common.{◌<◌, List, ℕ, sym, subst, ap, arith, ◌∙◌}
 use Rattle.tlsf_heap.specs.Images.Image.{two_at, count_at, record_in}
 use Rattle.tlsf_heap.proofs.Images.ImageLemmas.{record_read, records_count, whole_length}
-use Rattle.tlsf_heap.proofs.image.ImageHasParts.record.Goals as goal
+use Rattle.tlsf_heap.proofs.image.ImageHasSections.record.Goals as goal
 
 pub record_in-requires : goal.record_in-requires
 record_in-requires c =

@@ -2,7 +2,7 @@
 use Rattle.std.proofs.Common.{arith, ◌≡◌, refl, sym, ◌∙◌, ap, List, ℕ}
 use Rattle.tlsf_heap.specs.Images.Image.{head_in}
 use Rattle.tlsf_heap.proofs.Images.ImageLemmas.{head_read}
-use Rattle.tlsf_heap.proofs.image.ImageHasParts.head.Goals as goal
+use Rattle.tlsf_heap.proofs.image.ImageHasSections.head.Goals as goal
 
 pub returns-clause-value : goal.returns-clause-value
 returns-clause-value c =
