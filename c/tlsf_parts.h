@@ -8,12 +8,13 @@
  * serves no other size.
  *
  * The numbers of a program stand in a log of it: a part `up to 64: 2130 blocks` is 64 and 2130
- * here. The 8 bytes that tlsf.h puts in front of a block are counted in this header.
+ * here. That such parts serve their log is proved: laws::parts_serve_the_log of mtrace_replay. The
+ * 8 bytes that tlsf.h puts in front of a block are counted in this header.
  *
- * The law behind it is proved: laws::blocks_asked_of_one_size_are_enough of tlsf_c. It is about the
- * calls that tlsf.c stands on, in whatever order, by a program that frees only what it holds. Each
- * block with its front has one size, the lowest of a class. This header isn't proved, nor is the C
- * of tlsf.h around the proved calls.
+ * The law behind its calls is proved: laws::blocks_asked_of_one_size_are_enough of tlsf_c. It is
+ * about the calls that tlsf.c stands on, in whatever order, by a program that frees only what it
+ * holds. Each block with its front has one size, the lowest of a class. This header isn't proved,
+ * nor is the C of tlsf.h around the proved calls.
  *
  * All memory is handed in, and begins at a multiple of 8. Until the parts are gone, the program
  * uses only its blocks in it. Only one call on the parts runs at a time. A call takes the steps of

@@ -1,9 +1,11 @@
 """Which heaps by size serve a log: `tlsf fit --heaps`. tests/golden has its reports, too."""
+import random
+import re
 from pathlib import Path
 
 import pytest
 
-from cases import TESTS, expect
+from cases import TESTS, expect, expect_that
 from runs import expect_run, run, shell, text_of
 
 
@@ -47,3 +49,76 @@ def test_sizes_with_a_front(front, sizes):
 def test_wrong_words(heaps):
     Path("empty").touch()
     expect(f"fit --heaps {heaps}", run("fit", "--heaps", heaps, "empty")[0], 2)
+
+
+def random_log(seed):
+    """A log of blocks that are asked for, at an alignment or at none, moved and freed."""
+    chance = random.Random(seed)
+    lines, held, address = [], [], 0
+    for _ in range(chance.randrange(20, 200)):
+        size = int(2 ** chance.uniform(0, 14))
+        kind = chance.choice("++*>>-") if held else "+"
+        if kind != "-":
+            address += 0x40
+        if kind in ">-":
+            old = held.pop(chance.randrange(len(held)))
+        if kind != "-":
+            held.append(address)
+        lines += {"+": [f"+ 0x{address:x} 0x{size:x}"],
+                  "*": [f"* 0x{address:x} 0x{2 ** chance.randrange(12):x} 0x{size:x}"],
+                  ">": [f"< 0x{old:x}", f"> 0x{address:x} 0x{size:x}"] if kind == ">" else [],
+                  "-": [f"- 0x{old:x}"] if kind == "-" else []}[kind]
+    return lines
+
+
+def bytes_of(line):
+    """How many bytes have to be in the block of a line, wherever it begins: those asked for, in
+    whole units, and what an alignment above 16 adds."""
+    mark, _, *numbers = line.split()
+    size = -(-int(numbers[-1], 16) // 16) * 16
+    return size + max(int(numbers[0], 16) - 16, 0) if mark == "*" else size
+
+
+def logs_of_parts(lines, sizes):
+    """By the size of each heap, in order, what a log asks of it: a block that moves from heap to
+    heap is freed in one and asked for in the other."""
+    logs, part_of, old = {size: [] for size in sizes}, {}, None
+    for line in lines:
+        mark, address = line.split()[:2]
+        if mark == "<":
+            old = address
+        elif mark == "-":
+            logs[part_of.pop(address)].append(line)
+        else:
+            to = next(size for size in sizes if size >= bytes_of(line))
+            left = part_of.pop(old) if mark == ">" else None
+            part_of[address] = to
+            if left == to:
+                logs[to] += [f"< {old}", f"> {address} 0x{to:x}"]
+                continue
+            logs[to].append(f"+ {address} 0x{to:x}")
+            if left:
+                logs[left].append(f"- {old}")
+    return logs
+
+
+def refusals(log, blocks, size):
+    """How many lines are refused on a heap of so many blocks of one size."""
+    Path("part.log").write_bytes(text_of(log))
+    text = run("leaks", "--pool", str(blocks * size), "--records", str(blocks), "part.log")[1]
+    return len(re.findall(rb"^line \d+: 0x[0-9a-f]+ refused: ", text, re.M))
+
+
+@pytest.mark.parametrize("seed", range(40))
+def test_the_heaps_serve_their_log(seed):
+    """No heap that is told refuses a line of its part of a log. With a block less it does."""
+    lines = random_log(seed)
+    Path("log").write_bytes(text_of(lines))
+    told = run("fit", "--heaps", str(1 + seed % 8), "log")[1].decode()
+    pairs = re.findall(r"up to (\d+): (\d+) blocks", told)
+    heaps = {int(size): int(blocks) for size, blocks in pairs}
+    expect_that("heaps are told", heaps)
+    for size, log in logs_of_parts(lines, sorted(heaps)).items():
+        expect(f"{heaps[size]} blocks of {size}", refusals(log, heaps[size], size), 0)
+        if heaps[size] > 1:
+            expect_that(f"{heaps[size] - 1} blocks of {size}", refusals(log, heaps[size] - 1, size))

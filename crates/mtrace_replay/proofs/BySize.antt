@@ -1,5 +1,9 @@
 -- Heaps by size: spans that are counted, and cuts of them.
 pub mod PartsRows
+pub mod PartLogRows
+pub mod MirrorLemmas
+pub mod PartLogLemmas
+pub mod ClassSizes
 pub mod RangeLemmas
 pub mod SpansLemmas
 pub mod CountedLemmas
@@ -8,3 +12,4 @@ pub mod CountedRunLemmas
 pub mod PartsTextLemmas
 pub mod PartsRun
 pub mod OneHeapsText
+pub mod PartsServe

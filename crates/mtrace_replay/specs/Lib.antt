@@ -54,6 +54,7 @@ pub mod RunLedger
 pub mod LedgerTimeline
 pub mod RunLedgerTimeline
 pub mod Parts
+pub mod PartLog
 pub mod Spans
 pub mod CountedReplay
 pub mod Cuts

@@ -1,8 +1,14 @@
 //! Laws of the definitions, each the contract of a function that does nothing.
 
-ghost use Rattle.std.specs.Prelude.{◌≡◌, ◌==◌, ◌↔◌, ◌+◌, ◌-◌, ◌*◌, ◌<◌, ◌≤◌, ℕ, Bool, false, List, length, map, reverse, take, Some};
+ghost use Rattle.std.specs.Prelude.{◌≡◌, ◌==◌, ◌↔◌, ◌+◌, ◌-◌, ◌*◌, ◌%◌, ◌<◌, ◌≤◌, ℕ, Bool, true, false, List, All, length, map, reverse, take, Some, Ok};
 ghost use Rattle.tlsf_heap.specs.Sizing.{class_size, sure_records, sure_pool};
-ghost use Rattle.tlsf_heap.specs.OneSize.{HasRecords};
+ghost use Rattle.tlsf_heap.specs.OneSize.{HasRecords, StaysOfSize};
+ghost use Rattle.tlsf_heap.specs.declared.request.Request.{Request};
+ghost use Rattle.tlsf_heap.specs.declared.answer.Answer.{Answer};
+ghost use Rattle.tlsf_heap.specs.Content.{Content};
+ghost use Rattle.tlsf_heap.specs.Pools.{created, add_pool};
+ghost use Rattle.tlsf_heap.specs.Run.{Run};
+ghost use Rattle.tlsf_heap.specs.Within.{IsNotFull};
 ghost use Rattle.mtrace_replay.specs.OneSize.{AsksForSize, rounded_up, ledger_acts};
 ghost use Rattle.tlsf_class.specs.Classes.{unit};
 ghost use Rattle.tlsf_heap.specs.declared.refusal.Refusal.TheVariants.{NoFit, TableFull};
@@ -13,7 +19,8 @@ ghost use Rattle.mtrace_replay.specs.History.{AreHeld, held, moments, history, d
 ghost use Rattle.mtrace_log.specs.HasRead.{HasReadAll};
 ghost use Rattle.mtrace_log.specs.Shown.{Bytes};
 ghost use Rattle.mtrace_replay.specs.Again.{HasReadFirst};
-ghost use Rattle.std.specs.List.{AllByRecursion};
+ghost use Rattle.std.specs.List.{AllByRecursion, Contains};
+ghost use Rattle.std.specs.Int.{next_multiple_of};
 ghost use Rattle.mtrace_replay.specs.Settings.{are_bad};
 ghost use Rattle.mtrace_replay.specs.Fit.{one_pool};
 ghost use Rattle.mtrace_replay.specs.Fronted.{fronted};
@@ -31,7 +38,10 @@ ghost use Rattle.mtrace_replay.specs.Run.{whole_text};
 ghost use Rattle.mtrace_replay.specs.RunSites.{TellsSites};
 ghost use Rattle.mtrace_replay.specs.RunLedger.{AreLedgerTotals, TellsHeld, TellsLedgerSites, TellsLedgerCallers, whole_ledger};
 ghost use Rattle.mtrace_replay.specs.RunLedgerTimeline.{TellsLedgerTimeline};
-ghost use Rattle.mtrace_replay.specs.Parts.{TellsParts};
+ghost use Rattle.mtrace_replay.specs.Parts.{TellsParts, TellsCut, Part, part_bytes, can_be_built, is_in, served_classes};
+ghost use Rattle.mtrace_replay.specs.PartLog.{HasPart, heap_for, lines_of_part};
+ghost use Rattle.mtrace_replay.specs.SizeParts.{part_for};
+ghost use Rattle.mtrace_replay.specs.declared.runs.size_parts.PartBounds.{PartBounds};
 ghost use Rattle.mtrace_replay.specs.declared.ledger.point.LedgerPoint.{LedgerPoint};
 ghost use Rattle.mtrace_replay.specs.LedgerTimeline.{IsLedgerPoint, IsPointOfLines};
 ghost use Rattle.mtrace_replay.specs.declared.heap.point.Point.{Point};
@@ -166,4 +176,26 @@ pub fn one_size_serves_the_log()
         → HoldsAtMost blocks (ledger_history lines) → are_bad (one_pool pool records) ≡ false → blocks * size ≤ pool → HasRecords blocks size pool records → refusals (one_pool pool records) lines ≡ 0 }
     ensures rounded { (blocks size pool records : ℕ) (lines : List ReadLine) → class_size 1 size ≡ Some size
         → HoldsAtMost blocks (ledger_history (map (rounded_up size) lines)) → are_bad (one_pool pool records) ≡ false → blocks * size ≤ pool → HasRecords blocks size pool records → refusals (one_pool pool records) (map (rounded_up size) lines) ≡ 0 }
+{}
+
+/// The heaps by size that are told of a log serve it. The log of a part (`lines_of_part`) has each request that falls under the part's
+/// ranges, for a block of its size, and what is freed or moved of these. One pool of its blocks, with a record for each, refuses none
+/// of them: `serves`. Each size that the log was served falls under the ranges of one part, which has at least that size: `all`. No
+/// other part has it: `one`. A block of the size that is told of an aligned request holds its bytes at the alignment: `aligned`.
+pub fn parts_serve_the_log()
+    ensures serves { (heaps first last : ℕ) (lines : List ReadLine) (text : List ℕ) (told : TellsCut heaps (reverse lines) text) → HasPart 0 told.ends first last → can_be_built (told.part first last) ≡ true
+        → refusals (heap_for (told.part first last)) (lines_of_part (told.part first last).size first last lines) ≡ 0 }
+    ensures all { (heaps size : ℕ) (lines : List ReadLine) (text : List ℕ) (told : TellsCut heaps (reverse lines) text) → Contains (served_classes (reverse lines)) (Some size)
+        → (first : ℕ) × (last : ℕ) × HasPart 0 told.ends first last × (is_in first last (Some size) ≡ true) × (size ≤ (told.part first last).size) }
+    ensures one { (heaps size first last other_first other_last : ℕ) (lines : List ReadLine) (text : List ℕ) (told : TellsCut heaps (reverse lines) text) → HasPart 0 told.ends first last → HasPart 0 told.ends other_first other_last
+        → is_in first last (Some size) ≡ true → is_in other_first other_last (Some size) ≡ true → (other_first ≡ first) × (other_last ≡ last) }
+    ensures aligned { (align n size place : ℕ) → class_size align n ≡ Some size → place % unit ≡ 0 → next_multiple_of place align + n ≤ place + size }
+{}
+
+/// A heap by size that is told of bounds alone serves all programs within them. It was just created with a record for each of the part's
+/// blocks, and given a pool of these. Then no request of a run that holds no more blocks at once, each request rounded up to the part's
+/// size, is refused for want of a block or of a record.
+pub fn size_parts_are_enough<H: Heaped>()
+    ensures { (front base : ℕ) (bounds : PartBounds) (part : Part) (requests : List Request) (answers : List Answer) (old new : Content ℕ) (before after : ℕ) (run : Run H.lacks requests answers old new before after)
+        → part_for front bounds ≡ Some part → add_pool base (part_bytes part) (created part.blocks) ≡ Ok old → StaysOfSize part.blocks part.size H.lacks requests answers old new before after run → All IsNotFull answers }
 {}

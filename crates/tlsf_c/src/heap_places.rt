@@ -1,6 +1,6 @@
 //! Where a heap with addresses lies in the memory that is handed in.
 
-ghost use Rattle.std.specs.Prelude.{◌≡◌, ◌+◌, ◌^◌, ◌<◌, ◌≤◌, ◌↔◌, true, false};
+ghost use Rattle.std.specs.Prelude.{◌≡◌, ◌+◌, ◌^◌, ◌<◌, ◌≤◌, ◌↔◌, true, false, IsTrue};
 ghost use Rattle.tlsf_heap.specs.Sizing.{table_bytes};
 ghost use Rattle.tlsf_c.specs.HeapPlaces.{taken, HasHeapRoom, ArePlacesOf, IsApartFrom};
 
@@ -80,7 +80,7 @@ pub extern "C" fn tlsf_placed_is_apart(
     bytes: u64,
     last: u64,
 ) -> bool
-    ensures { (result ≡ true) ↔ IsApartFrom own part records memory bytes last }
+    ensures { IsTrue result ↔ IsApartFrom own part records memory bytes last }
 {
     if memory == 0 || memory % 8 != 0 || memory > last || bytes > last - memory {
         return false;

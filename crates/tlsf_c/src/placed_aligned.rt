@@ -1,6 +1,6 @@
 //! Aligned blocks of a heap with addresses.
 
-ghost use Rattle.std.specs.Prelude.{◌≡◌, ℕ, ◌+◌, ◌*◌, ◌/◌, ◌%◌, ◌<◌, All, map, max, true, false, Ok, Err, IfOk, IfErr, OnOk, OnErr};
+ghost use Rattle.std.specs.Prelude.{◌≡◌, ◌↔◌, ℕ, ◌+◌, ◌*◌, ◌/◌, ◌%◌, ◌<◌, All, map, max, true, Ok, Err, IfOk, IfErr, OnOk, OnErr, IsTrue};
 ghost use Rattle.tlsf_heap.specs.declared.refusal.Refusal.TheVariants.{BadAlign};
 ghost use Rattle.tlsf_heap.specs.Counted.{IsUnchanged, range_of};
 ghost use Rattle.tlsf_heap.specs.Memalign.{is_alignment, memalign};
@@ -26,8 +26,7 @@ use tlsf_heap::{Heap, Ptr, Refusal, is_alignment};
 /// Whether addresses are multiples of the alignment where places are, in each pool.
 fn are_alike(pools: &[PlacedPool; 8], align: u64) -> bool
     requires { is_alignment align ≡ true }
-    ensures yes { result ≡ true → All (IsAlike align) pools.now }
-    ensures no { result ≡ false → All (IsAlike align) pools.now → ⊥ }
+    ensures { IsTrue result ↔ (All (IsAlike align) pools.now) }
 {
     let mask = align - 1;
     for pool in pools {

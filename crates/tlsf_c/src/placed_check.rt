@@ -1,6 +1,6 @@
 //! A heap with addresses checks itself, and what a program holds of it.
 
-ghost use Rattle.std.specs.Prelude.{◌≡◌, ◌+◌, ◌*◌, ◌<◌, ◌≤◌, ◌↔◌, Contains, map, true, false};
+ghost use Rattle.std.specs.Prelude.{◌≡◌, ◌+◌, ◌*◌, ◌<◌, ◌≤◌, ◌↔◌, Contains, map, true, IsTrue};
 ghost use Rattle.tlsf_heap.specs.Content.{blocks_of};
 ghost use Rattle.tlsf_heap.specs.Counted.{IsUnchanged, range_of};
 ghost use Rattle.tlsf_heap.specs.Implied.{live_blocks};
@@ -35,8 +35,7 @@ pub extern "C" fn tlsf_placed_check(heap: &mut PlacedHeap, blocks: u64, bytes: u
 /// Whether the heap has a pool of this place and size, in bytes.
 #[unsafe(no_mangle)]
 pub extern "C" fn tlsf_placed_has_pool(heap: &mut PlacedHeap, place: u32, bytes: u64) -> bool
-    ensures yes { result ≡ true → Contains (map range_of heap.old.handle.value.content.pools) (place, bytes) }
-    ensures no { result ≡ false → Contains (map range_of heap.old.handle.value.content.pools) (place, bytes) → ⊥ }
+    ensures exact { IsTrue result ↔ (Contains (map range_of heap.old.handle.value.content.pools) (place, bytes)) }
     ensures unchanged { IsUnchanged heap.old.handle.value heap.new.handle.value }
     ensures kept { Keeps heap.old heap.new }
     ensures figures { heap.new.figures ≡ heap.old.figures }

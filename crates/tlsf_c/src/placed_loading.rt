@@ -1,6 +1,6 @@
 //! A heap that was loaded gets addresses.
 
-ghost use Rattle.std.specs.Prelude.{◌≡◌, ℕ, ◌+◌, ◌*◌, ◌^◌, ◌<◌, ◌≤◌, ◌↔◌, All, AllPairs, Contains, map, max, length, slice_index_or, true, false};
+ghost use Rattle.std.specs.Prelude.{◌≡◌, ℕ, ◌+◌, ◌*◌, ◌^◌, ◌<◌, ◌≤◌, ◌↔◌, All, AllPairs, Contains, map, max, length, slice_index_or, true, false, IsTrue};
 ghost use Rattle.std.specs.List.{AllWithin};
 ghost use Rattle.tlsf_heap.specs.Counted.{IsUnchanged, range_of};
 ghost use Rattle.tlsf_c.specs.Adopting.{FitEntries, IsWhole};
@@ -29,7 +29,7 @@ pub struct LoadedHeap {
 
 /// Whether places and addresses are in units, and none is above what 32 and 64 bits tell.
 fn is_placed(pool: &PlacedPool) -> bool
-    ensures { (result ≡ true) ↔ IsPlaced pool.now }
+    ensures { IsTrue result ↔ IsPlaced pool.now }
 {
     let place = u64::from(pool.place);
     pool.reach <= END_OF_PLACES
@@ -41,8 +41,7 @@ fn is_placed(pool: &PlacedPool) -> bool
 
 /// Whether the places and addresses of each entry are in units, and none is above what 32 and 64 bits tell.
 fn are_placed(pools: &[PlacedPool; 8]) -> bool
-    ensures yes { result ≡ true → All IsPlaced pools.now }
-    ensures no { result ≡ false → All IsPlaced pools.now → ⊥ }
+    ensures { IsTrue result ↔ (All IsPlaced pools.now) }
 {
     for pool in pools {
         if !is_placed(pool) {
@@ -56,7 +55,7 @@ fn are_placed(pools: &[PlacedPool; 8]) -> bool
 fn is_apart(one: &PlacedPool, other: &PlacedPool) -> bool
     requires placed { IsPlaced one.now }
     requires other_placed { IsPlaced other.now }
-    ensures { (result ≡ true) ↔ AreApart one.now other.now }
+    ensures { IsTrue result ↔ AreApart one.now other.now }
 {
     one.reach == 0
         || other.reach == 0
@@ -70,8 +69,7 @@ fn is_apart_from(pools: &[PlacedPool; 8], pool: &PlacedPool, start: usize) -> bo
     requires placed { IsPlaced pool.now }
     requires all_placed { All IsPlaced pools.now }
     requires within { start ≤ 8 }
-    ensures yes { result ≡ true → AllWithin (AreApart pool.now) pools.now start 8 }
-    ensures no { result ≡ false → AllWithin (AreApart pool.now) pools.now start 8 → ⊥ }
+    ensures { IsTrue result ↔ (AllWithin (AreApart pool.now) pools.now start 8) }
 {
     for k in start..8 {
         if !is_apart(pool, &pools[k]) {
@@ -84,8 +82,7 @@ fn is_apart_from(pools: &[PlacedPool; 8], pool: &PlacedPool, start: usize) -> bo
 /// Whether the entries are apart.
 fn are_apart(pools: &[PlacedPool; 8]) -> bool
     requires placed { All IsPlaced pools.now }
-    ensures yes { result ≡ true → AllPairs AreApart pools.now }
-    ensures no { result ≡ false → AllPairs AreApart pools.now → ⊥ }
+    ensures { IsTrue result ↔ (AllPairs AreApart pools.now) }
 {
     for k in 0..8 {
         if !is_apart_from(pools, &pools[k], k + 1) {
@@ -97,8 +94,7 @@ fn are_apart(pools: &[PlacedPool; 8]) -> bool
 
 /// Whether the entry's pool is among these ranges of places.
 pub(crate) fn has_range(ranges: &[(u64, u64)], place: u64, bytes: u64) -> bool
-    ensures yes { result ≡ true → Contains ranges.now (place, bytes) }
-    ensures no { result ≡ false → Contains ranges.now (place, bytes) → ⊥ }
+    ensures { IsTrue result ↔ (Contains ranges.now (place, bytes)) }
 {
     for range in ranges {
         if range.0 == place && range.1 == bytes {
@@ -111,8 +107,7 @@ pub(crate) fn has_range(ranges: &[(u64, u64)], place: u64, bytes: u64) -> bool
 /// Whether each entry holds no pool, or one of these ranges.
 pub(crate) fn are_of(pools: &[PlacedPool; 8], ranges: &[(u64, u64)]) -> bool
     requires placed { All IsPlaced pools.now }
-    ensures yes { result ≡ true → All (IsEntryOf ranges.now) pools.now }
-    ensures no { result ≡ false → All (IsEntryOf ranges.now) pools.now → ⊥ }
+    ensures { IsTrue result ↔ (All (IsEntryOf ranges.now) pools.now) }
 {
     for pool in pools {
         if pool.reach != 0 && !has_range(ranges, u64::from(pool.place), pool.reach + FRONT) {
@@ -125,8 +120,7 @@ pub(crate) fn are_of(pools: &[PlacedPool; 8], ranges: &[(u64, u64)]) -> bool
 /// Whether an entry holds this range.
 fn is_entered(pools: &[PlacedPool; 8], range: &(u64, u64)) -> bool
     requires placed { All IsPlaced pools.now }
-    ensures yes { result ≡ true → IsEntered pools.now range.now }
-    ensures no { result ≡ false → IsEntered pools.now range.now → ⊥ }
+    ensures { IsTrue result ↔ (IsEntered pools.now range.now) }
 {
     for pool in pools {
         if pool.reach != 0 && u64::from(pool.place) == range.0 && pool.reach + FRONT == range.1 {
@@ -139,8 +133,7 @@ fn is_entered(pools: &[PlacedPool; 8], range: &(u64, u64)) -> bool
 /// Whether an entry holds each of these ranges.
 fn are_entered(pools: &[PlacedPool; 8], ranges: &[(u64, u64)]) -> bool
     requires placed { All IsPlaced pools.now }
-    ensures yes { result ≡ true → All (IsEntered pools.now) ranges.now }
-    ensures no { result ≡ false → All (IsEntered pools.now) ranges.now → ⊥ }
+    ensures { IsTrue result ↔ (All (IsEntered pools.now) ranges.now) }
 {
     for range in ranges {
         if !is_entered(pools, range) {
@@ -152,8 +145,7 @@ fn are_entered(pools: &[PlacedPool; 8], ranges: &[(u64, u64)]) -> bool
 
 /// Whether the entries are those of the pools that have these ranges, with addresses that they can have.
 fn fit(pools: &[PlacedPool; 8], ranges: &[(u64, u64)]) -> bool
-    ensures yes { result ≡ true → FitEntries ranges.now pools.now }
-    ensures no { result ≡ false → FitEntries ranges.now pools.now → ⊥ }
+    ensures { IsTrue result ↔ (FitEntries ranges.now pools.now) }
 {
     if !are_placed(pools) {
         return false;

@@ -1,6 +1,6 @@
 //! A pool that has an address.
 
-ghost use Rattle.std.specs.Prelude.{◌≡◌, ◌+◌, ◌<◌, ◌↔◌, true};
+ghost use Rattle.std.specs.Prelude.{◌≡◌, ◌+◌, ◌<◌, ◌↔◌, IsTrue};
 ghost use Rattle.tlsf_c.specs.PlacedPools.{IsPlaced, HasPlace, HasAddress, IsAt};
 
 /// A pool at an address. A block begins eight bytes, its front, before its address. An entry that holds no pool has no
@@ -25,7 +25,7 @@ impl PlacedPool {
     #[inline(always)]
     pub(crate) fn has_place(&self, place: u32) -> bool
         requires { IsPlaced self.now }
-        ensures { (result ≡ true) ↔ HasPlace self.now place }
+        ensures { IsTrue result ↔ HasPlace self.now place }
     {
         u64::from(place.wrapping_sub(self.place)) < self.reach
     }
@@ -34,7 +34,7 @@ impl PlacedPool {
     #[inline(always)]
     pub(crate) fn has_address(&self, address: u64) -> bool
         requires { IsPlaced self.now }
-        ensures { (result ≡ true) ↔ HasAddress self.now address }
+        ensures { IsTrue result ↔ HasAddress self.now address }
     {
         address.wrapping_sub(self.first) < self.reach
     }

@@ -1,6 +1,6 @@
 //! Pools of a heap with addresses come and go.
 
-ghost use Rattle.std.specs.Prelude.{◌≡◌, ◌≢◌, ℕ, ◌+◌, ◌-◌, ◌^◌, ◌<◌, ◌≤◌, ◌⊎◌, All, map, Ok, Err, OnOk, IfErr, OnErr, MatchOption, true, false, length, slice_index_or};
+ghost use Rattle.std.specs.Prelude.{◌≡◌, ◌↔◌, ◌≢◌, ℕ, ◌+◌, ◌-◌, ◌^◌, ◌<◌, ◌≤◌, ◌⊎◌, All, map, Ok, Err, OnOk, IfErr, OnErr, MatchOption, true, false, length, slice_index_or, IsTrue};
 ghost use Rattle.tlsf_heap.specs.declared.refusal.Refusal.TheVariants.{BadPool, PoolsFull, NoPool};
 ghost use Rattle.tlsf_heap.specs.Counted.{IsUnchanged, range_of};
 ghost use Rattle.tlsf_heap.specs.Pools.{add_pool, remove_pool};
@@ -81,8 +81,7 @@ fn is_clear(pools: &[PlacedPool; 8], first: u64, reach: u64) -> bool
 
 /// Whether a pool of this size, in bytes, can have its first block at this address.
 fn can_be_placed(first: u64, bytes: u64) -> bool
-    ensures yes { result ≡ true → CanBePlaced first bytes }
-    ensures no { result ≡ false → CanBePlaced first bytes → ⊥ }
+    ensures { IsTrue result ↔ (CanBePlaced first bytes) }
 {
     first % UNIT == 0 && first >= UNIT && bytes >= UNIT && first - 1 <= u64::MAX - bytes
 }

@@ -1,6 +1,6 @@
 //! Where a new pool of a heap with addresses has its places.
 
-ghost use Rattle.std.specs.Prelude.{◌≡◌, ℕ, ◌+◌, ◌%◌, ◌^◌, ◌<◌, ◌≤◌, All, MatchOption, true, false};
+ghost use Rattle.std.specs.Prelude.{◌≡◌, ◌↔◌, ℕ, ◌+◌, ◌%◌, ◌^◌, ◌<◌, ◌≤◌, All, MatchOption, true, IsTrue};
 ghost use Rattle.tlsf_heap.specs.Memalign.{is_alignment};
 ghost use Rattle.tlsf_c.specs.PlacedPools.{IsPlaced};
 ghost use Rattle.tlsf_c.specs.PoolPlaces.{IsLike, IsBeside, HasRoom, IsNextLike};
@@ -31,8 +31,7 @@ fn next_like(align: u64, address: u64, from: u64) -> u64
 fn has_room(pools: &[PlacedPool; 8], place: u64, bytes: u64) -> bool
     requires placed { All IsPlaced pools.now }
     requires low { place ≤ 2 ^ 34 }
-    ensures yes { result ≡ true → HasRoom place bytes pools.now }
-    ensures no { result ≡ false → HasRoom place bytes pools.now → ⊥ }
+    ensures { IsTrue result ↔ (HasRoom place bytes pools.now) }
 {
     if bytes > END_OF_PLACES || place + bytes > END_OF_PLACES {
         return false;

@@ -30,12 +30,12 @@ use crate::check::check_image;
 use crate::files::{FileNumber, are_one, make_file};
 use crate::plan::{Streams, is_standard, planned};
 use crate::run::Run;
-use crate::service::{
-    serve, serve_again, serve_help, serve_ledger, serve_parts, serve_save, serve_size,
-    serve_size_parts, serve_snapshots,
-};
+use crate::service::{end_run, run_again, serve, serve_help, serve_save};
 use crate::setting_faults::{BAD_SETTINGS, tell_bad_bounds, tell_bad_heap, tell_bad_reading};
-use mtrace_replay::{Bounds, LedgerReport, PartBounds, RunFault, Settings};
+use mtrace_replay::{
+    Bounds, LedgerReport, PartBounds, RunFault, Settings, run_fit_heaps, run_ledger,
+    run_ledger_snapshots, run_size, run_size_parts,
+};
 use std::alloc::Global;
 use std::fs::File;
 use std::io::{IsTerminal, Read, Seek, Stdin};
@@ -160,14 +160,14 @@ fn follow<R: Read + Drop>(
     let mut reader = run.reader(log.file);
     let mut errors = run.errors();
     let mut writer = run.output()?;
-    let status = serve_ledger(
+    let ended = run_ledger(
         run.rt.alloc(),
         run.seed()?,
-        report,
         &mut reader,
         &mut writer,
-        &mut errors,
+        report,
     );
+    let status = end_run(&mut errors, ended);
     Ok(run.end(status, log.name.as_str(), ""))
 }
 
@@ -181,15 +181,15 @@ fn follow_snapshots<R: Read + Drop>(
     let mut reader = run.reader(log.file);
     let mut errors = run.errors();
     let mut writer = run.unbuffered();
-    let status = serve_snapshots(
+    let ended = run_ledger_snapshots(
         run.rt.alloc(),
         run.seed()?,
-        report,
-        every,
         &mut reader,
         &mut writer,
-        &mut errors,
+        report,
+        every,
     );
+    let status = end_run(&mut errors, ended);
     Ok(run.end(status, log.name.as_str(), ""))
 }
 
@@ -216,15 +216,15 @@ fn parts<R: Read + Drop>(
     let mut reader = run.reader(log.file);
     let mut errors = run.errors();
     let mut writer = run.output()?;
-    let status = serve_parts(
+    let ended = run_fit_heaps(
         run.rt.alloc(),
         run.seed()?,
-        front,
-        heaps,
         &mut reader,
         &mut writer,
-        &mut errors,
+        front,
+        heaps,
     );
+    let status = end_run(&mut errors, ended);
     Ok(run.end(status, log.name.as_str(), ""))
 }
 
@@ -238,15 +238,15 @@ fn reread(run: &Run<'_>, what: Rereading, log: String) -> Result<u8, ToolFault> 
     let mut reader = run.reader(log.file);
     let mut errors = run.errors();
     let mut writer = run.output()?;
-    let status = serve_again(
+    let ended = run_again(
         run.rt.alloc(),
         run.seed()?,
         what,
         &mut reader,
         &mut writer,
-        &mut errors,
         &run.notice,
     );
+    let status = end_run(&mut errors, ended);
     tell_bad_reading(run, status, what);
     Ok(run.end_again(status, log.name.as_str()))
 }
@@ -331,7 +331,8 @@ fn tell_image<R: Read + Drop>(
 fn size(run: &Run<'_>, bounds: Bounds) -> u8 {
     let mut writer = run.unbuffered();
     let mut errors = run.errors();
-    let status = serve_size(bounds, &mut writer, &mut errors);
+    let ended = run_size(&mut writer, bounds);
+    let status = end_run(&mut errors, ended);
     tell_bad_bounds(run, status, bounds);
     run.end(status, "", "")
 }
@@ -340,7 +341,8 @@ fn size(run: &Run<'_>, bounds: Bounds) -> u8 {
 fn size_parts(run: &Run<'_>, front: u64, parts: &[PartBounds]) -> u8 {
     let mut writer = run.unbuffered();
     let mut errors = run.errors();
-    let status = serve_size_parts(front, parts, &mut writer, &mut errors);
+    let ended = run_size_parts(&mut writer, front, parts);
+    let status = end_run(&mut errors, ended);
     run.end(status, "", "")
 }
 

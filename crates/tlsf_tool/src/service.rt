@@ -3,11 +3,6 @@
 ghost use Rattle.std.specs.Prelude.{◌≡◌, ◌≤◌};
 ghost use Rattle.mtrace_replay.specs.Course.{course};
 ghost use Rattle.mtrace_replay.specs.Run.{Runs, CountsRefused};
-ghost use Rattle.mtrace_replay.specs.RunLedger.{RunsLedger};
-ghost use Rattle.mtrace_replay.specs.Snapshots.{RunsSnapshots};
-ghost use Rattle.mtrace_replay.specs.RunParts.{RunsParts};
-ghost use Rattle.mtrace_replay.specs.Size.{RunsSize};
-ghost use Rattle.mtrace_replay.specs.SizeParts.{RunsSizeParts};
 ghost use Rattle.mtrace_replay.specs.Reporting.{PutsAndFlushes};
 ghost use Rattle.mtrace_replay.specs.Saving.{RunsAndSaves};
 ghost use Rattle.tlsf_tool.specs.Statuses.{report_of, EndsAs, Rereads, PutsHelp};
@@ -17,9 +12,8 @@ use crate::statuses::{end_status, fault_status};
 use arrayvec::ArrayString;
 use mtrace_log::{Again, Failed, Sink, Source, put_all};
 use mtrace_replay::{
-    Bounds, LedgerReport, PartBounds, Report, RunFault, Settings, Status, Watch, run_counting,
-    run_fit, run_fit_heaps, run_ledger, run_ledger_snapshots, run_ledger_timeline, run_save,
-    run_site_timeline, run_sites, run_size, run_size_parts, run_timeline,
+    Report, RunFault, Settings, Status, Watch, run_counting, run_fit, run_ledger_timeline,
+    run_save, run_site_timeline, run_sites, run_timeline,
 };
 use std::alloc::Global;
 use std::fmt::Write;
@@ -37,8 +31,9 @@ pub(crate) fn put_fault<E: Sink>(errors: &mut E, fault: &ToolFault) {
 }
 
 /// Ends after a run of this answer: puts the line of its fault to `errors`, whose own fault doesn't matter. Answers the
-/// status that the program ends with.
-pub(crate) fn end_run<E: Sink>(errors: &mut E, run: Result<Status, RunFault>) -> u8
+/// status that the program ends with. It is 0 where nothing was found, and 1 where something was. It is 2 for bad settings, 3 where a
+/// reader or a writer failed, and 4 where memory was refused.
+pub fn end_run<E: Sink>(errors: &mut E, run: Result<Status, RunFault>) -> u8
     ensures { EndsAs (λ outcome. outcome ≡ run) result errors.old errors.new }
 {
     match run {
@@ -101,46 +96,8 @@ pub fn serve<R: Source, W: Sink, E: Sink>(
     end_run(errors, run)
 }
 
-/// Makes a report of what the reader has left, without a heap. Puts the line of a fault to `errors`, whose own fault
-/// doesn't matter. Answers the status that the program ends with. It is 0 where nothing was found, and 1 where something
-/// was. It is 3 where the reader or the writer failed, and 4 where memory was refused.
-pub fn serve_ledger<R: Source, W: Sink, E: Sink>(
-    alloc: Global,
-    seed: RandomState,
-    report: LedgerReport,
-    reader: &mut R,
-    writer: &mut W,
-    errors: &mut E,
-) -> u8
-    ensures { EndsAs (λ outcome. RunsLedger report outcome (R.shown reader.old) (R.shown reader.new) (W.shown writer.old) (W.shown writer.new))
-        result errors.old errors.new }
-{
-    end_run(errors, run_ledger(alloc, seed, reader, writer, report))
-}
-
-/// Makes a report of what the reader has left, without a heap, with snapshots each `every` milliseconds of the log. Puts the line of a
-/// fault to `errors`, whose own fault doesn't matter. Answers the status that the program ends with. It is 0 where nothing was found,
-/// 1 where something was, and 2 where `every` is 0. It is 3 where the reader or the writer failed, and 4 where memory was refused.
-pub fn serve_snapshots<R: Source, W: Sink, E: Sink>(
-    alloc: Global,
-    seed: RandomState,
-    report: LedgerReport,
-    every: u64,
-    reader: &mut R,
-    writer: &mut W,
-    errors: &mut E,
-) -> u8
-    ensures { EndsAs (λ outcome. RunsSnapshots every report outcome (R.shown reader.old) (R.shown reader.new) (W.shown writer.old) (W.shown writer.new))
-        result errors.old errors.new }
-{
-    end_run(
-        errors,
-        run_ledger_snapshots(alloc, seed, reader, writer, report, every),
-    )
-}
-
-/// Makes what reads its log more than once, of the log that the reader has left.
-pub(crate) fn run_again<R: Again, W: Sink, T: Watch>(
+/// Makes what reads its log more than once, of the log that the reader has left. Its faults are those of the run that it makes.
+pub fn run_again<R: Again, W: Sink, T: Watch>(
     alloc: Global,
     seed: RandomState,
     what: Rereading,
@@ -165,70 +122,6 @@ pub(crate) fn run_again<R: Again, W: Sink, T: Watch>(
         }
         Rereading::Fit { front, step } => run_fit(alloc, reader, writer, front, step, watch),
     }
-}
-
-/// Tells which heaps by size serve the log that the reader has left, at most `heaps`, by `run_fit_heaps`. Puts the line of a fault
-/// to `errors`, whose own fault doesn't matter. Answers the status that the program ends with. It is 0 where nothing was found, 1
-/// where something was, and 2 for a bad number of heaps. It is 3 where the reader or the writer failed, and 4 where memory was
-/// refused.
-pub fn serve_parts<R: Source, W: Sink, E: Sink>(
-    alloc: Global,
-    seed: RandomState,
-    front: u64,
-    heaps: u32,
-    reader: &mut R,
-    writer: &mut W,
-    errors: &mut E,
-) -> u8
-    ensures { EndsAs (λ outcome. RunsParts front heaps outcome (course R.shown reader.old reader.new) (course W.shown writer.old writer.new))
-        result errors.old errors.new }
-{
-    end_run(
-        errors,
-        run_fit_heaps(alloc, seed, reader, writer, front, heaps),
-    )
-}
-
-/// Makes what reads its log more than once, of the log that the reader has left. Puts the line of a fault to `errors`,
-/// whose own fault doesn't matter. Answers the status that the program ends with. It is 0 where nothing was found, 1
-/// where something was, and 2 for bad settings, a bad number of stretches or a bad step. It is 3 where the reader or the
-/// writer failed, or the reader didn't begin again, and 4 where memory was refused.
-pub fn serve_again<R: Again, W: Sink, E: Sink, T: Watch>(
-    alloc: Global,
-    seed: RandomState,
-    what: Rereading,
-    reader: &mut R,
-    writer: &mut W,
-    errors: &mut E,
-    watch: &T,
-) -> u8
-    ensures { EndsAs (λ outcome. Rereads what outcome (course R.shown reader.old reader.new) (course W.shown writer.old writer.new))
-        result errors.old errors.new }
-{
-    end_run(errors, run_again(alloc, seed, what, reader, writer, watch))
-}
-
-/// Tells how large a pool is always enough within the bounds, by `run_size`. Puts the line of a fault to `errors`, whose
-/// own fault doesn't matter. Answers the status that the program ends with: 0, 2 for a bad alignment, and 3 where the
-/// writer failed.
-pub fn serve_size<W: Sink, E: Sink>(bounds: Bounds, writer: &mut W, errors: &mut E) -> u8
-    ensures { EndsAs (λ outcome. RunsSize bounds W.shown outcome writer.old writer.new) result errors.old errors.new }
-{
-    end_run(errors, run_size(writer, bounds))
-}
-
-/// Tells how large a pool is always enough for each of these heaps by size, by `run_size_parts`. Puts the line of a fault to
-/// `errors`, whose own fault doesn't matter. Answers the status that the program ends with: 0, 2 for no heaps, more than 8, or a
-/// size without a class, and 3 where the writer failed.
-pub fn serve_size_parts<W: Sink, E: Sink>(
-    front: u64,
-    parts: &[PartBounds],
-    writer: &mut W,
-    errors: &mut E,
-) -> u8
-    ensures { EndsAs (λ outcome. RunsSizeParts front parts.now W.shown outcome writer.old writer.new) result errors.old errors.new }
-{
-    end_run(errors, run_size_parts(writer, front, parts))
 }
 
 /// Saves the heap at the end of the log that the reader has left, by `run_save`. Puts the line of a fault to

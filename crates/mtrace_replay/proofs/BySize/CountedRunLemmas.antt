@@ -1,5 +1,5 @@
 -- A run that counts the blocks of a log, and how it ends.
-use Rattle.std.proofs.Common.{◌≡◌, ℕ, Bool, ◌||◌, List, [], length, map, reverse, refl, sym}
+use Rattle.std.proofs.Common.{◌≡◌, ℕ, Bool, ◌||◌, [], length, map, reverse, refl, sym}
 use Rattle.std.specs.Prelude.{if◌then◌else◌}
 use Rattle.mtrace_log.specs.Shown.{ReaderState, WriterState}
 use Rattle.mtrace_log.specs.Output.{Wrote, Begins}

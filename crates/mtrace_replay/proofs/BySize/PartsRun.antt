@@ -29,7 +29,7 @@ agrees_of asked (line ∷ past) same = (
       same number (omega (arith, within)) ∙ ap (λ b. cond b (class_asked line) (class_at past number)) (ne_eqb number (suc (length past)) (λ is. omega (arith, is, within)))),
 )
 
-agrees : (past : List ReadLine) → Agrees (class_at past) past
+pub agrees : (past : List ReadLine) → Agrees (class_at past) past
 agrees past = agrees_of (class_at past) past (λ number within. refl)
 
 -- the most is one number

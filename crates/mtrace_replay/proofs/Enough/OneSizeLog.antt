@@ -246,7 +246,7 @@ module _ (size : ℕ) (rounds : round (asked_size size) ≡ Some size) where
   line_asks number (Ok (New at address bytes)) pending look = renewal_asks (record { addr = address; size = size; line = number; at = at }) pending look refl
   line_asks number (Ok _) pending look = tt
 
-  all_ask : (past : List ReadLine) → AllByRecursion (AsksForSize size) (ledger_acts (map (rounded_up size) past))
+  pub all_ask : (past : List ReadLine) → AllByRecursion (AsksForSize size) (ledger_acts (map (rounded_up size) past))
   all_ask [] = tt
   all_ask (line ∷ past) = (line_asks _ line _ _, all_ask past)
 

@@ -1,6 +1,6 @@
 //! The text of the heaps by size that serve a log.
 
-ghost use Rattle.std.specs.Prelude.{◌≡◌, ◌++◌, ◌≤◌, length, map, flat_map, codes};
+ghost use Rattle.std.specs.Prelude.{◌≡◌, ◌++◌, ◌≤◌, length, map, flat_map, codes, option_map};
 ghost use Rattle.arrayvec.specs.ArrayVec.{array_vec_len};
 ghost use Rattle.mtrace_log.specs.Output.{Puts};
 ghost use Rattle.mtrace_replay.specs.Appends.{Appends};
@@ -38,14 +38,6 @@ impl PartOf {
         }
         Some(bytes as u64)
     }
-
-    /// The bytes of its table.
-    fn table(&self) -> Option<u64>
-        ensures { result ≡ records_bytes (part_in self.now) }
-    {
-        self.pool()?;
-        Some(table_bytes(self.blocks))
-    }
 }
 
 /// The line of a part.
@@ -61,47 +53,46 @@ fn part_text(part: &PartOf) -> LineText
     text
 }
 
-/// The bytes of all pools. `None` where a part has none.
-fn all_pools(parts: &[PartOf]) -> Option<u64>
-    requires { length parts.now ≤ 8 }
-    ensures { result ≡ sum_over pool_bytes (map part_in parts.now) }
-{
-    let mut sum = 0;
-    let mut left = parts.len();
-    while left > 0 {
-        sum += parts[left - 1].pool()?;
-        left -= 1;
-    }
-    Some(sum)
+/// The bytes of all pools, and of all tables.
+#[derive(Clone, Copy, Default)]
+struct Sums {
+    pools: u64,
+    tables: u64,
 }
 
-/// The bytes of all tables.
-fn all_tables(parts: &[PartOf]) -> Option<u64>
+/// The sums over these parts. `None` where one has no pool.
+fn sums_of(parts: &[PartOf]) -> Option<Sums>
     requires { length parts.now ≤ 8 }
-    ensures { result ≡ sum_over records_bytes (map part_in parts.now) }
+    ensures pools { option_map (λ sums. sums.pools) result ≡ sum_over pool_bytes (map part_in parts.now) }
+    ensures tables { option_map (λ sums. sums.tables) result ≡ sum_over records_bytes (map part_in parts.now) }
 {
-    let mut sum = 0;
+    let mut sums = Sums::default();
     let mut left = parts.len();
     while left > 0 {
-        sum += parts[left - 1].table()?;
+        let part = parts[left - 1];
+        sums.pools += part.pool()?;
+        sums.tables += table_bytes(part.blocks);
         left -= 1;
     }
-    Some(sum)
+    Some(sums)
+}
+
+/// The peak.
+fn peak_text(bytes: u128, line: u64) -> LineText
+    ensures text { result.items ≡ peak_line_text bytes line }
+    ensures short { array_vec_len result ≤ 102 }
+{
+    let mut text = ArrayVec::new();
+    let line = u128::from(line);
+    push_wide_pair_line(&mut text, b"peak: ", bytes, b" bytes at line ", line, b"");
+    text
 }
 
 /// The peak, and how many heaps there are.
 fn front_text(bytes: u128, line: u64, heaps: u64) -> LineText
     ensures { result.items ≡ peak_line_text bytes line ++ number_line (codes "heaps: ") heaps }
 {
-    let mut text = ArrayVec::new();
-    push_wide_pair_line(
-        &mut text,
-        b"peak: ",
-        bytes,
-        b" bytes at line ",
-        u128::from(line),
-        b"",
-    );
+    let mut text = peak_text(bytes, line);
     push_number_line(&mut text, b"heaps: ", heaps);
     text
 }
@@ -111,9 +102,10 @@ fn sums_text(parts: &[PartOf]) -> LineText
     requires { length parts.now ≤ 8 }
     ensures { result.items ≡ size_line (codes "sum: ") (sum_over pool_bytes (map part_in parts.now)) ++ size_line (codes "tables: ") (sum_over records_bytes (map part_in parts.now)) }
 {
+    let sums = sums_of(parts);
     let mut text = ArrayVec::new();
-    push_size_line(&mut text, b"sum: ", all_pools(parts));
-    push_size_line(&mut text, b"tables: ", all_tables(parts));
+    push_size_line(&mut text, b"sum: ", sums.map(|sums| sums.pools));
+    push_size_line(&mut text, b"tables: ", sums.map(|sums| sums.tables));
     text
 }
 
@@ -131,15 +123,7 @@ fn push_no_parts(text: &mut LineText)
 fn no_parts(bytes: u128, line: u64) -> LineText
     ensures { result.items ≡ peak_line_text bytes line ++ no_parts_text }
 {
-    let mut text = ArrayVec::new();
-    push_wide_pair_line(
-        &mut text,
-        b"peak: ",
-        bytes,
-        b" bytes at line ",
-        u128::from(line),
-        b"",
-    );
+    let mut text = peak_text(bytes, line);
     push_no_parts(&mut text);
     text
 }

@@ -2,7 +2,7 @@
 
 use super::rows::PIECES;
 use crate::asked::Rereading;
-use crate::service::{run_again, serve_again};
+use crate::service::{end_run, run_again};
 use crate::tests::{expect_eq, expect_eq_at, seed};
 use mtrace_log::memory::{Full, MemorySink, MemorySource};
 use mtrace_replay::{RunFault, Status};
@@ -24,15 +24,8 @@ fn expect_row(rt: &impl Abort, alloc: Global, row: &Row, piece: usize) {
     let mut reader = MemorySource::in_pieces(row.log, piece.max(1));
     let mut writer = MemorySink::in_pieces(alloc, 4096);
     let mut errors = MemorySink::in_pieces(alloc, 4096);
-    let status = serve_again(
-        alloc,
-        seed(rt),
-        row.what,
-        &mut reader,
-        &mut writer,
-        &mut errors,
-        &(),
-    );
+    let ended = run_again(alloc, seed(rt), row.what, &mut reader, &mut writer, &());
+    let status = end_run(&mut errors, ended);
     expect_eq_at(rt, row.name, status, row.status);
     expect_eq_at(rt, row.name, writer.bytes(), row.text);
     expect_eq_at(rt, row.name, errors.bytes(), b"".as_slice());
@@ -114,15 +107,8 @@ pub(super) fn expect_bad_settings(
     let mut reader = MemorySource::in_pieces(log, 4096);
     let mut writer = MemorySink::in_pieces(alloc, 4096);
     let mut errors = MemorySink::in_pieces(alloc, 4096);
-    let status = serve_again(
-        alloc,
-        seed(rt),
-        what,
-        &mut reader,
-        &mut writer,
-        &mut errors,
-        &(),
-    );
+    let ended = run_again(alloc, seed(rt), what, &mut reader, &mut writer, &());
+    let status = end_run(&mut errors, ended);
     expect_eq(rt, status, 2);
     expect_eq(rt, writer.bytes(), b"".as_slice());
     expect_eq(rt, errors.bytes(), b"tlsf: bad settings\n".as_slice());

@@ -4,11 +4,11 @@
 use super::plan::expect_usage;
 use super::program::strings;
 use crate::asked::Command;
-use crate::service::serve_ledger;
+use crate::service::end_run;
 use crate::tests::{expect_eq, expect_eq_at, seed};
 use crate::words::command;
 use mtrace_log::memory::{Full, MemorySink, MemorySource};
-use mtrace_replay::LedgerReport;
+use mtrace_replay::{LedgerReport, run_ledger};
 use std::alloc::{AllocError, Global};
 use std::test::Fail;
 
@@ -78,14 +78,8 @@ fn rows_without_a_heap(rt: HostRuntime) {
                 let mut reader = MemorySource::in_pieces(row.log, piece);
                 let mut writer = MemorySink::in_pieces(alloc, piece);
                 let mut errors = MemorySink::in_pieces(alloc, piece);
-                let status = serve_ledger(
-                    alloc,
-                    seed(&rt),
-                    report,
-                    &mut reader,
-                    &mut writer,
-                    &mut errors,
-                );
+                let ended = run_ledger(alloc, seed(&rt), &mut reader, &mut writer, report);
+                let status = end_run(&mut errors, ended);
                 expect_eq_at(&rt, row.name, status, row.status);
                 expect_eq_at(&rt, row.name, writer.bytes(), text);
                 expect_eq_at(&rt, row.name, errors.bytes(), b"".as_slice());
@@ -162,14 +156,8 @@ fn calls_by_location(rt: HostRuntime) {
             let mut writer = MemorySink::in_pieces(alloc, piece);
             let mut errors = MemorySink::in_pieces(alloc, piece);
             let report = LedgerReport::Callers;
-            let status = serve_ledger(
-                alloc,
-                seed(&rt),
-                report,
-                &mut reader,
-                &mut writer,
-                &mut errors,
-            );
+            let ended = run_ledger(alloc, seed(&rt), &mut reader, &mut writer, report);
+            let status = end_run(&mut errors, ended);
             expect_eq_at(&rt, row.name, writer.bytes(), row.text);
             expect_eq_at(&rt, row.name, errors.bytes(), b"".as_slice());
             expect_eq_at(&rt, row.name, status, row.status);
@@ -186,14 +174,8 @@ fn writer_that_fails_amid_calls(rt: HostRuntime) {
         let mut writer = MemorySink::with_room(alloc, 4096, room, Full::Fails);
         let mut errors = MemorySink::in_pieces(alloc, 4096);
         let report = LedgerReport::Callers;
-        let status = serve_ledger(
-            alloc,
-            seed(&rt),
-            report,
-            &mut reader,
-            &mut writer,
-            &mut errors,
-        );
+        let ended = run_ledger(alloc, seed(&rt), &mut reader, &mut writer, report);
+        let status = end_run(&mut errors, ended);
         expect_eq(&rt, status, 3);
         expect_eq(&rt, Some(writer.bytes()), row.text.get(..room));
         expect_eq(&rt, errors.bytes(), b"tlsf: write failed\n".as_slice());
@@ -208,14 +190,8 @@ fn writer_that_fails_without_a_heap(rt: HostRuntime) {
         let mut writer = MemorySink::with_room(alloc, 4096, room, Full::Fails);
         let mut errors = MemorySink::in_pieces(alloc, 4096);
         let report = LedgerReport::Held;
-        let status = serve_ledger(
-            alloc,
-            seed(&rt),
-            report,
-            &mut reader,
-            &mut writer,
-            &mut errors,
-        );
+        let ended = run_ledger(alloc, seed(&rt), &mut reader, &mut writer, report);
+        let status = end_run(&mut errors, ended);
         let text: &[u8] = b"line 2: not a line\nMemory not freed:\n0x10 100 line 1\n";
         expect_eq(&rt, status, 3);
         expect_eq(&rt, Some(writer.bytes()), text.get(..room));

@@ -4,10 +4,10 @@ use super::plan::{TYPED, expect_usage};
 use super::program::strings;
 use crate::asked::Command;
 use crate::plan::{Plan, planned};
-use crate::service::serve_size;
+use crate::service::end_run;
 use crate::tests::expect_eq_at;
 use mtrace_log::memory::{Full, MemorySink};
-use mtrace_replay::Bounds;
+use mtrace_replay::{Bounds, run_size};
 use std::test::Fail;
 
 /// A block of one byte, the only one.
@@ -164,7 +164,8 @@ fn rows_of_size(rt: HostRuntime) {
     for row in &ROWS {
         let mut writer = MemorySink::in_pieces(rt.alloc(), 4096);
         let mut errors = MemorySink::in_pieces(rt.alloc(), 4096);
-        let status = serve_size(row.bounds, &mut writer, &mut errors);
+        let ended = run_size(&mut writer, row.bounds);
+        let status = end_run(&mut errors, ended);
         expect_eq_at(&rt, row.bounds, status, 0);
         expect_eq_at(&rt, row.bounds, writer.bytes(), row.text);
         expect_eq_at(&rt, row.bounds, errors.bytes(), b"".as_slice());
@@ -181,7 +182,8 @@ fn bad_alignments(rt: HostRuntime) {
         };
         let mut writer = MemorySink::in_pieces(rt.alloc(), 4096);
         let mut errors = MemorySink::in_pieces(rt.alloc(), 4096);
-        let status = serve_size(bounds, &mut writer, &mut errors);
+        let ended = run_size(&mut writer, bounds);
+        let status = end_run(&mut errors, ended);
         expect_eq_at(&rt, align, status, 2);
         expect_eq_at(&rt, align, writer.bytes(), b"".as_slice());
         expect_eq_at(
@@ -201,7 +203,8 @@ fn writer_of_size_fails(rt: HostRuntime) {
     for room in 0..text.len() + 1 {
         let mut writer = MemorySink::with_room(rt.alloc(), 4096, room, Full::Fails).failing_flush();
         let mut errors = MemorySink::in_pieces(rt.alloc(), 4096);
-        let status = serve_size(SIXTY, &mut writer, &mut errors);
+        let ended = run_size(&mut writer, SIXTY);
+        let status = end_run(&mut errors, ended);
         expect_eq_at(&rt, room, status, 3);
         if let Some(wanted) = text.get(..room) {
             expect_eq_at(&rt, room, writer.bytes(), wanted);

@@ -4,10 +4,10 @@ use super::plan::{TYPED, expect_usage};
 use super::program::strings;
 use crate::asked::Command;
 use crate::plan::planned;
-use crate::service::serve_size_parts;
+use crate::service::end_run;
 use crate::tests::expect_eq_at;
 use mtrace_log::memory::{Full, MemorySink};
-use mtrace_replay::PartBounds;
+use mtrace_replay::{PartBounds, run_size_parts};
 use std::test::Fail;
 
 /// How many bytes more each request has, heaps by size, and the text that tells what is enough for them.
@@ -74,7 +74,8 @@ fn rows_of_size_parts(rt: HostRuntime) {
     for (front, parts, text) in ROWS {
         let mut writer = MemorySink::in_pieces(rt.alloc(), 4096);
         let mut errors = MemorySink::in_pieces(rt.alloc(), 4096);
-        let status = serve_size_parts(front, parts, &mut writer, &mut errors);
+        let ended = run_size_parts(&mut writer, front, parts);
+        let status = end_run(&mut errors, ended);
         expect_eq_at(&rt, parts, status, 0);
         expect_eq_at(&rt, parts, writer.bytes(), text);
         expect_eq_at(&rt, parts, errors.bytes(), b"".as_slice());
@@ -98,7 +99,8 @@ fn bad_parts(rt: HostRuntime) {
     for parts in bad {
         let mut writer = MemorySink::in_pieces(rt.alloc(), 4096);
         let mut errors = MemorySink::in_pieces(rt.alloc(), 4096);
-        let status = serve_size_parts(0, parts, &mut writer, &mut errors);
+        let ended = run_size_parts(&mut writer, 0, parts);
+        let status = end_run(&mut errors, ended);
         expect_eq_at(&rt, parts, status, 2);
         expect_eq_at(&rt, parts, writer.bytes(), b"".as_slice());
         expect_eq_at(
@@ -117,15 +119,15 @@ fn writer_of_size_parts_fails(rt: HostRuntime) {
     for room in 0..text.len() {
         let mut writer = MemorySink::with_room(rt.alloc(), 4096, room, Full::Fails);
         let mut errors = MemorySink::in_pieces(rt.alloc(), 4096);
-        let status = serve_size_parts(
+        let ended = run_size_parts(
+            &mut writer,
             0,
             &[PartBounds {
                 blocks: 1,
                 largest: 1,
             }],
-            &mut writer,
-            &mut errors,
         );
+        let status = end_run(&mut errors, ended);
         expect_eq_at(&rt, room, status, 3);
         if let Some(wanted) = text.get(..room) {
             expect_eq_at(&rt, room, writer.bytes(), wanted);

@@ -3,11 +3,11 @@
 use super::plan::expect_usage;
 use super::program::strings;
 use crate::asked::Command;
-use crate::service::serve_snapshots;
+use crate::service::end_run;
 use crate::tests::{expect_eq, expect_eq_at, seed};
 use crate::words::command;
 use mtrace_log::memory::{Full, MemorySink, MemorySource};
-use mtrace_replay::LedgerReport;
+use mtrace_replay::{LedgerReport, run_ledger_snapshots};
 use std::alloc::{AllocError, Global};
 use std::test::Fail;
 
@@ -87,15 +87,15 @@ fn snapshots_of_logs(rt: HostRuntime) {
             let mut reader = MemorySource::in_pieces(row.log, piece);
             let mut writer = MemorySink::in_pieces(alloc, piece);
             let mut errors = MemorySink::in_pieces(alloc, piece);
-            let status = serve_snapshots(
+            let ended = run_ledger_snapshots(
                 alloc,
                 seed(&rt),
-                row.report,
-                row.every,
                 &mut reader,
                 &mut writer,
-                &mut errors,
+                row.report,
+                row.every,
             );
+            let status = end_run(&mut errors, ended);
             expect_eq_at(&rt, row.name, writer.bytes(), row.text);
             expect_eq_at(&rt, row.name, errors.bytes(), row.errors);
             expect_eq_at(&rt, row.name, status, row.status);
@@ -111,15 +111,15 @@ fn writer_that_fails_amid_snapshots(rt: HostRuntime) {
         let mut reader = MemorySource::in_pieces(row.log, 4096);
         let mut writer = MemorySink::with_room(alloc, 4096, room, Full::Fails);
         let mut errors = MemorySink::in_pieces(alloc, 4096);
-        let status = serve_snapshots(
+        let ended = run_ledger_snapshots(
             alloc,
             seed(&rt),
-            row.report,
-            row.every,
             &mut reader,
             &mut writer,
-            &mut errors,
+            row.report,
+            row.every,
         );
+        let status = end_run(&mut errors, ended);
         expect_eq(&rt, status, 3);
         expect_eq(&rt, Some(writer.bytes()), row.text.get(..room));
         expect_eq(&rt, errors.bytes(), b"tlsf: write failed\n".as_slice());

@@ -1,4 +1,5 @@
 -- A place at the alignment has an address at the alignment where pools lie alike.
+use Rattle.std.proofs.lemmas.Bool.{false≢true}
 use Rattle.std.proofs.Common.{rules, ◌≡◌, Some, None, ℕ, ◌+◌, ◌*◌, ◌/◌, map, sym, ◌∙◌, subst, arith}
 use Rattle.std.proofs.lemmas.List.Elements.{All-contains}
 use Rattle.tlsf_heap.specs.declared.refusal.Refusal.TheVariants.{ZeroSize, NoFit, BadAlign}
@@ -24,7 +25,7 @@ returns-then-not-is_alignment-clause-refused c = λ none alike. elim c.then-not-
     number_is = search rules;
     unchanged = search rules;
   }
-  | then-not-is_alignment-via-else-not-is_alignment+then-not-are_alike w ↦ absurd (w.are_alike.ensures.no w.if-not-are_alike.true alike)
+  | then-not-is_alignment-via-else-not-is_alignment+then-not-are_alike w ↦ absurd (false≢true (sym w.if-not-are_alike.true ∙ w.are_alike.ensures.1 alike))
 ]
 
 pub returns-then-bytes-eq0-clause-refused : goal.returns-then-bytes-eq0-clause-refused
@@ -63,16 +64,16 @@ pub returns-in-Ok-clause-multiple : goal.returns-in-Ok-clause-multiple
 returns-in-Ok-clause-multiple c =
     let heap = c.args.heap.now in
     let there = c.place_block.ensures.at in
-    let alike = All-contains (IsAlike c.args.align) heap.pools there.0 (c.are_alike.ensures.yes c.if-not-are_alike.false) there.1 in
+    let alike = All-contains (IsAlike c.args.align) heap.pools there.0 (c.are_alike.ensures.0 c.if-not-are_alike.false) there.1 in
     address_aligned c.args.align c.in-Ok.ptr.place c.place_block.result.address there.0 alike there.2 c.in-Ok.ensures.multiple
 
 pub returns-in-Ok-clause-unlike : goal.returns-in-Ok-clause-unlike
-returns-in-Ok-clause-unlike c = λ unlike. absurd (unlike (c.are_alike.ensures.yes c.if-not-are_alike.false))
+returns-in-Ok-clause-unlike c = λ unlike. absurd (unlike (c.are_alike.ensures.0 c.if-not-are_alike.false))
 
 pub returns-then-not-is_alignment-clause-room : goal.returns-then-not-is_alignment-clause-room
 returns-then-not-is_alignment-clause-room c = λ some is alike room. elim c.then-not-is_alignment.branch [
   | then-not-is_alignment-via-then-not-is_alignment w ↦ (let isn't = sym c.is_alignment.ensures ∙ w.if-not-is_alignment.true in absurd (cc))
-  | then-not-is_alignment-via-else-not-is_alignment+then-not-are_alike w ↦ absurd (w.are_alike.ensures.no w.if-not-are_alike.true alike)
+  | then-not-is_alignment-via-else-not-is_alignment+then-not-are_alike w ↦ absurd (false≢true (sym w.if-not-are_alike.true ∙ w.are_alike.ensures.1 alike))
 ]
 
 pub returns-then-bytes-eq0-clause-room : goal.returns-then-bytes-eq0-clause-room

@@ -9,4 +9,4 @@ loop-range-preserved c =
     let ranges = c.args.ranges.now in
     let pools = c.args.pools.now in
     let k = c.loop-range.range-index in
-    (refl, refl, AllWithin-more (IsEntered pools) ranges 0 k c.loop-range.invariant.2 (λ d. subst (IsEntered pools) (get_or_default ranges k (0, 0) d c.loop-range-test.true) (c.if-not-is_entered.ensures.yes refl)))
+    (refl, refl, AllWithin-more (IsEntered pools) ranges 0 k c.loop-range.invariant.2 (λ d. subst (IsEntered pools) (get_or_default ranges k (0, 0) d c.loop-range-test.true) (c.if-not-is_entered.ensures.0 refl)))

@@ -37,7 +37,7 @@ returns-clause-whole c = λ served.
     let blocks : live_blocks now ≡ live_blocks content = ap (λ (k : Content ℕ). live_blocks k) c.count_live-live.ensures.unchanged.content in
     let bytes : live_bytes (blocks_of now.pools) ≡ live_bytes (blocks_of content.pools) = ap (λ (k : Content ℕ). live_bytes (blocks_of k.pools)) c.count_live-live.ensures.unchanged.content in
     record {
-      fit = subst (λ (rs : List (ℕ × ℕ)). FitEntries rs c.args.heap.now.pools) ranges (c.if-not-fit.ensures.yes refl);
+      fit = subst (λ (rs : List (ℕ × ℕ)). FitEntries rs c.args.heap.now.pools) ranges (c.if-not-fit.ensures.0 refl);
       figures_are = record {
         blocks = omega (arith, c.count_live-live.ensures.blocks, blocks, fronts_least content good, live_most content good);
         bytes = omega (arith, c.count_live-live.ensures.blocks, c.count_live-live.ensures.bytes, fronts_least content good, live_most content good, bytes);
