@@ -1,6 +1,6 @@
 //! Laws of the definitions, each the contract of a function that does nothing.
 
-ghost use Rattle.std.specs.Prelude.{◌≡◌, ◌≢◌, ℕ, ◌*◌, ◌<◌, ◌≤◌, List, Option, Some, Ok, Err, IsOk, All, true};
+ghost use Rattle.std.specs.Prelude.{◌≡◌, ◌≢◌, ℕ, ◌+◌, ◌*◌, ◌%◌, ◌<◌, ◌≤◌, List, Option, Some, Ok, Err, IsOk, All, true};
 ghost use Rattle.tlsf_heap.specs.declared.request.Request.{Request};
 ghost use Rattle.tlsf_heap.specs.declared.answer.Answer.{Answer};
 ghost use Rattle.tlsf_heap.specs.declared.refusal.Refusal.{Refusal};
@@ -13,6 +13,8 @@ ghost use Rattle.tlsf_heap.specs.Memalign.{is_alignment, memalign, size_asked};
 ghost use Rattle.tlsf_heap.specs.Pointer.{Pointer, realloc_ptr};
 ghost use Rattle.tlsf_heap.specs.Room.{HasRoom, HasRoomAligned};
 ghost use Rattle.tlsf_heap.specs.Run.{Run};
+ghost use Rattle.tlsf_class.specs.Classes.{unit};
+ghost use Rattle.tlsf_heap.specs.Least.{spaced_requests, AreRefusedWithin};
 ghost use Rattle.tlsf_heap.specs.Sizing.{class_size, most_refusing, sure_pool, sure_records};
 ghost use Rattle.tlsf_heap.specs.Within.{AsksAtMost, IsLargeEnough, IsNotFull, StaysWithin, TakesWithin};
 ghost use Rattle.tlsf_heap.specs.OneSize.{HasRecords, StaysOfSize};
@@ -42,6 +44,16 @@ pub fn sure_pool_is_enough<H: Heaped>()
     ensures { (blocks bytes size least records base pool : ℕ) (requests : List Request) (answers : List Answer) (old new : Content ℕ) (before after : ℕ) (run : Run H.lacks requests answers old new before after)
         → sure_pool blocks bytes (Some size) ≡ Some least → least ≤ pool → sure_records blocks ≤ records → add_pool base pool (created records) ≡ Ok old
         → StaysWithin blocks bytes size H.lacks requests answers old new before after run → All IsNotFull answers }
+{}
+
+/// The sure pool can't be smaller. Let each of so many blocks have a unit, and let the size be a power of two from the unit
+/// on, up to 2^29. A heap was just created and given one pool, which begins a unit behind a multiple of the size and has a
+/// unit less than the sure pool. Then there are requests that stay within the bounds, of which the last is refused for want of
+/// a block: each of the blocks at a multiple of the size leaves a gap in front of it that is just too small.
+pub fn sure_pool_is_least<H: Heaped>()
+    ensures { (blocks size records base pool : ℕ) (old : Content ℕ) → is_alignment size ≡ true → unit ≤ size → base % size ≡ unit % size
+        → sure_pool blocks (blocks * unit) (Some size) ≡ Some (pool + unit) → sure_records blocks ≤ records → add_pool base pool (created records) ≡ Ok old
+        → AreRefusedWithin blocks (blocks * unit) size H.lacks (spaced_requests blocks size) old }
 {}
 
 /// A request for which there is room is served by any heap, unless the heap lacks memory: the definitions give no refusal, but for

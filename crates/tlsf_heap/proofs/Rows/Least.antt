@@ -1,0 +1,80 @@
+-- A unit less than the sure pool, in rows: each block at a multiple of the size leaves a gap that is just too small.
+use Rattle.std.proofs.Common.{◌≡◌, ℕ, [], ◌∷◌, refl, Some, None, Result, Ok, Err}
+use Rattle.tlsf_class.specs.Classes.{class, need, low}
+use Rattle.tlsf_class.specs.Rounding.{rounded}
+use Rattle.tlsf_heap.specs.declared.request.Request.TheVariants.{Malloc, Memalign}
+use Rattle.tlsf_heap.specs.declared.refusal.Refusal.{Refusal}
+use Rattle.tlsf_heap.specs.declared.refusal.Refusal.TheVariants.{NoFit}
+use Rattle.tlsf_heap.specs.Content.{Content}
+use Rattle.tlsf_heap.specs.Malloc.{malloc}
+use Rattle.tlsf_heap.specs.Memalign.{memalign}
+use Rattle.tlsf_heap.specs.Pools.{created, with_pool}
+use Rattle.tlsf_heap.specs.Sizing.{sure_pool}
+use Rattle.tlsf_heap.specs.Least.{spaced_requests}
+
+two_and_one : spaced_requests 2 64 ≡ Memalign 64 16 ∷ Memalign 64 16 ∷ Malloc 64 ∷ []
+two_and_one = refl
+
+-- what a call leaves
+abbrev served : Content ℕ → Result (ℕ × Content ℕ) Refusal → Content ℕ
+served content (Ok new) = new.1
+served content (Err refusal) = content
+
+-- one block of 16 bytes, and a class of 32: 16 + 2 * 16 bytes may refuse
+one_block : sure_pool 1 16 (Some 32) ≡ Some 64
+one_block = refl
+
+abbrev one : Content ℕ
+one = with_pool 16 48 (created 5)
+
+abbrev one_spaced : Content ℕ
+one_spaced = served one (memalign 0 32 16 one)
+
+one_pools : one_spaced.pools ≡ record {
+  base = 16;
+  bytes = 48;
+  blocks =
+      record { place = 16; size = 16; owner = None } ∷ record { place = 32; size = 16; owner = Some 0 } ∷ record { place = 48; size = 16; owner = None }
+      ∷ [];
+} ∷ []
+unfolding class need low rounded
+one_pools = refl
+
+one_refused : malloc 1 32 one_spaced ≡ Err NoFit
+unfolding class need low rounded
+one_refused = refl
+
+-- two blocks, and a class of 64: 32 + 3 * 48 bytes may refuse
+two_blocks : sure_pool 2 32 (Some 64) ≡ Some 192
+two_blocks = refl
+
+abbrev two : Content ℕ
+two = with_pool 16 176 (created 7)
+
+abbrev two_spaced : Content ℕ
+two_spaced = served (served two (memalign 0 64 16 two)) (memalign 1 64 16 (served two (memalign 0 64 16 two)))
+
+two_pools : two_spaced.pools ≡ record {
+  base = 16;
+  bytes = 176;
+  blocks =
+      record { place = 16; size = 48; owner = None } ∷ record { place = 64; size = 16; owner = Some 0 } ∷ record { place = 80; size = 48; owner = None }
+      ∷ record { place = 128; size = 16; owner = Some 1 } ∷ record { place = 144; size = 48; owner = None } ∷ [];
+} ∷ []
+unfolding class need low rounded
+two_pools = refl
+
+two_refused : malloc 2 64 two_spaced ≡ Err NoFit
+unfolding class need low rounded
+two_refused = refl
+
+-- the sure pool itself serves it
+abbrev sure : Content ℕ
+sure = with_pool 16 192 (created 7)
+
+abbrev sure_spaced : Content ℕ
+sure_spaced = served (served sure (memalign 0 64 16 sure)) (memalign 1 64 16 (served sure (memalign 0 64 16 sure)))
+
+sure_served : malloc 2 64 sure_spaced ≡ Ok (144, served sure_spaced (malloc 2 64 sure_spaced))
+unfolding class need low rounded
+sure_served = refl
