@@ -1,11 +1,13 @@
 -- What keeps a content good, and what a good content implies.
 pub mod AlignedImplied
 pub mod AlignedStaysLive
+pub mod AtEnd
 pub mod Cut
 pub mod GivenSizes
 pub mod Implied
 pub mod LastAsked
 pub mod Least
+pub mod LeastLarger
 pub mod LiveBlocks
 pub mod LiveBytes
 pub mod MallocIsGood
@@ -14,6 +16,7 @@ pub mod OneSizePool
 pub mod OwnClass
 pub mod PowerClasses
 pub mod Realloc
+pub mod RefusedRuns
 pub mod RemovedPool
 pub mod Room
 pub mod Slots

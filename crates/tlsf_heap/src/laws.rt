@@ -1,6 +1,6 @@
 //! Laws of the definitions, each the contract of a function that does nothing.
 
-ghost use Rattle.std.specs.Prelude.{◌≡◌, ◌≢◌, ℕ, ◌+◌, ◌*◌, ◌%◌, ◌<◌, ◌≤◌, List, Option, Some, Ok, Err, IsOk, All, true};
+ghost use Rattle.std.specs.Prelude.{◌≡◌, ◌≢◌, ℕ, ◌+◌, ◌-◌, ◌*◌, ◌%◌, ◌<◌, ◌≤◌, List, Option, Some, Ok, Err, IsOk, All, true};
 ghost use Rattle.tlsf_heap.specs.declared.request.Request.{Request};
 ghost use Rattle.tlsf_heap.specs.declared.answer.Answer.{Answer};
 ghost use Rattle.tlsf_heap.specs.declared.refusal.Refusal.{Refusal};
@@ -14,7 +14,7 @@ ghost use Rattle.tlsf_heap.specs.Pointer.{Pointer, realloc_ptr};
 ghost use Rattle.tlsf_heap.specs.Room.{HasRoom, HasRoomAligned};
 ghost use Rattle.tlsf_heap.specs.Run.{Run};
 ghost use Rattle.tlsf_class.specs.Classes.{unit};
-ghost use Rattle.tlsf_heap.specs.Least.{spaced_requests, AreRefusedWithin};
+ghost use Rattle.tlsf_heap.specs.Least.{IsRefusedWithin};
 ghost use Rattle.tlsf_heap.specs.Sizing.{class_size, most_refusing, sure_pool, sure_records};
 ghost use Rattle.tlsf_heap.specs.Within.{AsksAtMost, IsLargeEnough, IsNotFull, StaysWithin, TakesWithin};
 ghost use Rattle.tlsf_heap.specs.OneSize.{HasRecords, StaysOfSize};
@@ -46,14 +46,18 @@ pub fn sure_pool_is_enough<H: Heaped>()
         → StaysWithin blocks bytes size H.lacks requests answers old new before after run → All IsNotFull answers }
 {}
 
-/// The sure pool can't be smaller. Let each of so many blocks have a unit, and let the size be a power of two from the unit
-/// on, up to 2^29. A heap was just created and given one pool, which begins a unit behind a multiple of the size and has a
-/// unit less than the sure pool. Then there are requests that stay within the bounds, of which the last is refused for want of
-/// a block: each of the blocks at a multiple of the size leaves a gap in front of it that is just too small.
+/// The sure pool can't be smaller: a heap was just created and given one pool of a unit less, and there are requests within the
+/// bounds of which one is refused for want of a block. It is so in two cases. The live blocks have a unit each, the size is a
+/// power of two from the unit to 2^29, and the pool begins a unit behind a multiple of it. Or the size is the lowest of a class
+/// above the unit, and the bytes are from those of one block of the size and others of a unit to those of blocks of the size.
+/// Nothing is said of bytes between these two cases.
 pub fn sure_pool_is_least<H: Heaped>()
-    ensures { (blocks size records base pool : ℕ) (old : Content ℕ) → is_alignment size ≡ true → unit ≤ size → base % size ≡ unit % size
+    ensures of_units { (blocks size records base pool : ℕ) (old : Content ℕ) → is_alignment size ≡ true → unit ≤ size → base % size ≡ unit % size
         → sure_pool blocks (blocks * unit) (Some size) ≡ Some (pool + unit) → sure_records blocks ≤ records → add_pool base pool (created records) ≡ Ok old
-        → AreRefusedWithin blocks (blocks * unit) size H.lacks (spaced_requests blocks size) old }
+        → IsRefusedWithin blocks (blocks * unit) size H.lacks old }
+    ensures of_more { (blocks bytes size records base pool : ℕ) (old : Content ℕ) → class_size 1 size ≡ Some size → unit < size → bytes % unit ≡ 0 → (blocks - 1) * unit + size ≤ bytes → bytes ≤ blocks * size
+        → sure_pool blocks bytes (Some size) ≡ Some (pool + unit) → sure_records blocks ≤ records → add_pool base pool (created records) ≡ Ok old
+        → IsRefusedWithin blocks bytes size H.lacks old }
 {}
 
 /// A request for which there is room is served by any heap, unless the heap lacks memory: the definitions give no refusal, but for

@@ -1,14 +1,13 @@
 -- With a unit less than the sure pool, requests within the bounds are refused for want of a block.
 use Rattle.std.proofs.Common.{◌≡◌, ℕ, zero, suc, ◌+◌, ◌-◌, ◌*◌, ◌%◌, ◌≤◌, true, false, List, [], ◌∷◌, ◌++◌, Some, None, Ok, inl, inr, refl, sym, ap, ◌∙◌, subst, arith}
-use Rattle.std.specs.Prelude.{◌==◌, ◌&&◌, nat_le, Contains}
+use Rattle.std.specs.Prelude.{◌==◌, ◌&&◌, nat_le}
 use Rattle.std.proofs.lemmas.Bool.{cases_Bool, ne_eqb}
 use Rattle.std.proofs.lemmas.List.{append-nil}
 use Rattle.tlsf_class.specs.Classes.{unit, greatest_size, need}
 use Rattle.tlsf_class.proofs.LowestSizes.{low-unit}
 use Rattle.tlsf_store.specs.Records.{most_records}
-use Rattle.tlsf_heap.specs.declared.answer.Answer.{Answer}
-use Rattle.tlsf_heap.specs.declared.answer.Answer.TheVariants.{Given, Refused}
-use Rattle.tlsf_heap.specs.declared.refusal.Refusal.TheVariants.{NoFit}
+use Rattle.tlsf_heap.specs.declared.request.Request.TheVariants.{Memalign}
+use Rattle.tlsf_heap.specs.declared.answer.Answer.TheVariants.{Given}
 use Rattle.tlsf_heap.specs.Content.{Block, Content, blocks_of}
 use Rattle.tlsf_heap.specs.Malloc.{gap}
 use Rattle.tlsf_heap.specs.Memalign.{is_alignment, size_asked}
@@ -16,13 +15,13 @@ use Rattle.tlsf_heap.specs.Pools.{created, add_pool}
 use Rattle.tlsf_heap.specs.GoodSlots.{slot_times}
 use Rattle.tlsf_heap.specs.Good.{IsGood}
 use Rattle.tlsf_heap.specs.Sizing.{sure_records, sure_bytes, sure_pool}
-use Rattle.tlsf_heap.specs.Run.{Run}
-use Rattle.tlsf_heap.specs.Within.{AsksAtMost, TakesWithin, StaysWithin}
-use Rattle.tlsf_heap.specs.Least.{spaced_requests, AreRefusedWithin}
+use Rattle.tlsf_heap.specs.Within.{AsksAtMost, TakesWithin}
+use Rattle.tlsf_heap.specs.Least.{IsRefusedWithin}
 use Rattle.tlsf_heap.proofs.Counts.{one_if}
 use Rattle.tlsf_heap.proofs.Content.PoolCases.{pool_added}
 use Rattle.tlsf_heap.proofs.Good.MallocIsGood.{add_pool_is_good, created_is_good}
 use Rattle.tlsf_heap.proofs.Good.OneSizePool.{IsLowest}
+use Rattle.tlsf_heap.proofs.Good.RefusedRuns.{IsRefusedFrom, refused_behind, refused_here, refused_within}
 use Rattle.tlsf_heap.proofs.Good.PowerClasses.{lowest_of_alignment}
 use Rattle.tlsf_heap.proofs.Good.Slots.{slot_times-cons, slot_times-append, slot_times-gap}
 use Rattle.tlsf_heap.proofs.Good.Spread.{IsSpread, spread_live, spread_bytes, asks_size, unit_rounds, none_left_refused, start, one_more, front_and_one, one_more_served, one_more_spread}
@@ -44,14 +43,6 @@ module _ (size : ℕ) (lowest : IsLowest size) (is_aligned : is_alignment size �
       asks = asks;
     }
 
-    -- a run of n blocks and one of the size, which is refused
-    record IsRefusedRun (n : ℕ) (old : Content ℕ) : Type 0 where
-      answers : List Answer
-      new : Content ℕ
-      run : Run lacks (spaced_requests n size) answers old new 0 0
-      within : StaysWithin blocks (blocks * unit) size lacks (spaced_requests n size) answers old new 0 0 run
-      refused : Contains answers (Refused NoFit)
-
     -- no block of these has the slot j, nor one above it
     abbrev AreBelow : ℕ → List (Block ℕ) → Type 0
     AreBelow j front = (slot : ℕ) → j ≤ slot → slot_times slot front ≡ 0
@@ -70,53 +61,49 @@ module _ (size : ℕ) (lowest : IsLowest size) (is_aligned : is_alignment size �
           ap one_if other,
         )
 
-    refused_run : (n j : ℕ) (front : List (Block ℕ)) (place : ℕ) (content : Content ℕ) → IsSpread size lowest is_aligned least front place j n content → j + n ≡ blocks → AreBelow j front → IsRefusedRun n content
-    refused_run zero j front place content spread sum below = record {
-      answers = Refused NoFit ∷ [];
-      new = content;
-      run = (content, 0, (refl, λ other slot. none_left_refused size lowest is_aligned least slot front place j content spread, λ is. absurd (cc)), omega arith, omega arith, (refl, refl));
-      within = (λ some. takes (λ m. m) size front place j 0 content spread sum size_asks, tt);
-      refused = (0, omega arith, refl);
-    }
+    -- n blocks more, and one of the size
+    refused_run : (n j : ℕ) (front : List (Block ℕ)) (place : ℕ) (content : Content ℕ) → IsSpread size lowest is_aligned least front place j n content → j + n ≡ blocks → AreBelow j front → IsRefusedFrom blocks (blocks * unit) size lacks content
+    refused_run zero j front place content spread sum below =
+        refused_here blocks (blocks * unit) size lacks size content (λ slot. none_left_refused size lowest is_aligned least slot front place j content spread) (takes (λ m. m) size front place j 0 content spread sum size_asks)
     refused_run (suc n) j front place content spread sum below =
         let next : Content ℕ = one_more size lowest is_aligned least front place j n content spread j in
         let first : ℕ = start size lowest is_aligned least front place j n content spread in
-        let then : IsRefusedRun n next = refused_run n (suc j) (front_and_one size lowest is_aligned least front place j n content spread j) (place + size) next (one_more_spread size lowest is_aligned least front place j n content spread j) (omega (arith, sum)) (below_more front place first (size - unit) j below) in
-        let unused : slot_times j (blocks_of content.pools) ≡ 0 = omega (arith, ap (slot_times j) spread.whole, slot_times-append j front (gap place (suc n * size + (size - unit))), slot_times-gap j place (suc n * size + (size - unit)), below j (omega arith)) in
-        record {
-          answers = Given (record { place = first; slot = j }) ∷ then.answers;
-          new = then.new;
-          run = (
-            next,
-            0,
-            record { ok = one_more_served size lowest is_aligned least front place j n content spread j; slot_below = omega (arith, spread.records); slot_new = unused },
-            omega arith,
-            omega arith,
-            then.run,
-          );
-          within = (λ aligned some. takes (size_asked size) unit front place j (suc n) content spread sum unit_asks, then.within);
-          refused = (suc then.refused.0, omega (arith, then.refused.1), then.refused.2);
-        }
+        let unused : slot_times j (blocks_of content.pools) ≡ 0 = omega (
+          arith,
+          ap (slot_times j) spread.whole,
+          slot_times-append j front (gap place (suc n * size + (size - unit))),
+          slot_times-gap j place (suc n * size + (size - unit)),
+          below j (omega arith),
+        ) in
+        refused_behind blocks (blocks * unit) size lacks (Memalign size unit) (Given (record { place = first; slot = j })) content next
+        (record { ok = one_more_served size lowest is_aligned least front place j n content spread j; slot_below = omega (arith, spread.records); slot_new = unused })
+        (λ aligned some. takes (size_asked size) unit front place j (suc n) content spread sum unit_asks)
+        (refused_run n (suc j) (front_and_one size lowest is_aligned least front place j n content spread j) (place + size) next
+        (one_more_spread size lowest is_aligned least front place j n content spread j) (omega (arith, sum)) (below_more front place first (size - unit) j below))
 
--- a unit less than the sure pool has the bytes of as many blocks of the size as there are, and a unit less than one more
 whole_product : (a b : ℕ) → b % unit ≡ 0 → (a * b) % unit ≡ 0
 whole_product zero b whole = omega arith
 whole_product (suc a) b whole = omega (arith, whole, whole_product a b whole)
 
+-- a unit less than the sure pool is the most that may refuse, where the bytes are whole units
+pub most_is : (blocks bytes size pool : ℕ) → bytes % unit ≡ 0 → size % unit ≡ 0 → unit ≤ size → sure_pool blocks bytes (Some size) ≡ Some (pool + unit) → pool ≡ bytes + (blocks + 1) * (size - unit)
+most_is blocks bytes size pool bytes_whole whole least is = elim (cases_Bool (nat_le (sure_records blocks) most_records && nat_le (sure_bytes blocks bytes size) greatest_size)) [
+  | inl small ↦
+      let told : sure_pool blocks bytes (Some size) ≡ Some (sure_bytes blocks bytes size) = rw small refl in
+      let same : sure_bytes blocks bytes size ≡ pool + unit = cc in
+      let units : (blocks + 1) * (size - unit) % unit ≡ 0 = whole_product (blocks + 1) (size - unit) (omega (arith, whole, least)) in
+      omega (arith, same, units, bytes_whole)
+  | inr large ↦ let none : sure_pool blocks bytes (Some size) ≡ None = rw large refl in absurd (cc)
+]
+
+-- which has the bytes of as many blocks of the size as there are, and a unit less than one more
 spread_out : (blocks gap : ℕ) → blocks * unit + (blocks + 1) * gap ≡ blocks * (gap + unit) + gap
 spread_out blocks gap = omega arith
 
 pool_is : (blocks size pool : ℕ) → size % unit ≡ 0 → unit ≤ size → sure_pool blocks (blocks * unit) (Some size) ≡ Some (pool + unit) → pool ≡ blocks * size + (size - unit)
-pool_is blocks size pool whole least is = elim (cases_Bool (nat_le (sure_records blocks) most_records && nat_le (sure_bytes blocks (blocks * unit) size) greatest_size)) [
-  | inl small ↦
-      let told : sure_pool blocks (blocks * unit) (Some size) ≡ Some (sure_bytes blocks (blocks * unit) size) = rw small refl in
-      let same : sure_bytes blocks (blocks * unit) size ≡ pool + unit = cc in
-      let units : (blocks + 1) * (size - unit) % unit ≡ 0 = whole_product (blocks + 1) (size - unit) (omega (arith, whole, least)) in
-      let sized : (size - unit) + unit ≡ size = omega (arith, least) in
-      let bytes : blocks * unit + (blocks + 1) * (size - unit) ≡ blocks * size + (size - unit) = spread_out blocks (size - unit) ∙ ap (λ n. blocks * n + (size - unit)) sized in
-      omega (arith, same, units, bytes)
-  | inr large ↦ let none : sure_pool blocks (blocks * unit) (Some size) ≡ None = rw large refl in absurd (cc)
-]
+pool_is blocks size pool whole least is =
+    let sized : (size - unit) + unit ≡ size = omega (arith, least) in
+    most_is blocks (blocks * unit) size pool (omega arith) whole least is ∙ spread_out blocks (size - unit) ∙ ap (λ n. blocks * n + (size - unit)) sized
 
 module _ (blocks size records base pool : ℕ) (old : Content ℕ) (is_aligned : is_alignment size ≡ true) (least : unit ≤ size) (at : base % size ≡ unit % size)
     (sure : sure_pool blocks (blocks * unit) (Some size) ≡ Some (pool + unit)) (many : sure_records blocks ≤ records) (added : add_pool base pool (created records) ≡ Ok old) where
@@ -132,7 +119,6 @@ module _ (blocks size records base pool : ℕ) (old : Content ℕ) (is_aligned :
       (λ good. record { good = good; whole = append-nil (gap base pool) ∙ ap (gap base) bytes; at = at; small = tt; few = omega arith; live = refl; bytes = refl; records = omega (arith, many) })
       (add_pool_is_good base pool (created records) old (created_is_good records) added)
 
-  pub spaced_refused : (lacks : Type 0) → AreRefusedWithin blocks (blocks * unit) size lacks (spaced_requests blocks size) old
+  pub spaced_refused : (lacks : Type 0) → IsRefusedWithin blocks (blocks * unit) size lacks old
   spaced_refused lacks =
-      let run = refused_run size lowest is_aligned least blocks lacks blocks 0 [] base old first_spread (omega arith) (λ slot above. refl) in
-      record { answers = run.answers; new = run.new; before = 0; after = 0; run = run.run; within = run.within; refused = run.refused }
+      refused_within blocks (blocks * unit) size lacks old (refused_run size lowest is_aligned least blocks lacks blocks 0 [] base old first_spread (omega arith) (λ slot above. refl))

@@ -28,7 +28,7 @@ use Rattle.tlsf_heap.proofs.Good.OneSizePool.{IsLowest}
 use Rattle.tlsf_heap.proofs.Good.Room.{live_bytes-append, back_of}
 use Rattle.tlsf_heap.proofs.Meaning.AlignedIsGood.{memalign_is_good}
 
-abbrev is_used : {A : Type 0} → Block A → Bool
+abbrev pub is_used : {A : Type 0} → Block A → Bool
 is_used block = not (is_free block)
 
 -- a gap has no live block
@@ -43,7 +43,7 @@ gap_all : (A : Type 0) (P : Block A → Type 0) (place size : ℕ) → P (record
 gap_all A P place size holds = elim (size == 0) as (λ b. AllByRecursion P (cond {A = List (Block A)} b [] (record { place = place; size = size; owner = None } ∷ []))) [ true ↦ tt | false ↦ (holds, tt) ]
 
 -- a gap of some bytes is a block
-gap_some : (A : Type 0) (place size : ℕ) → size ≢ 0 → gap {A = A} place size ≡ record { place = place; size = size; owner = None } ∷ []
+pub gap_some : (A : Type 0) (place size : ℕ) → size ≢ 0 → gap {A = A} place size ≡ record { place = place; size = size; owner = None } ∷ []
 gap_some A place size some = rw (ne_eqb size 0 some) refl
 
 -- the block behind others that ascend begins at none of their places
