@@ -7,7 +7,6 @@ pub mod GivenSizes
 pub mod Implied
 pub mod LastAsked
 pub mod Least
-pub mod LeastLarger
 pub mod LiveBlocks
 pub mod LiveBytes
 pub mod MallocIsGood
@@ -21,6 +20,6 @@ pub mod RemovedPool
 pub mod Room
 pub mod Slots
 pub mod SlotsLeft
-pub mod Spread
+pub mod Spaced
 pub mod StaysLive
 pub mod Within

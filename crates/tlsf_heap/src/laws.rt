@@ -46,16 +46,18 @@ pub fn sure_pool_is_enough<H: Heaped>()
         → StaysWithin blocks bytes size H.lacks requests answers old new before after run → All IsNotFull answers }
 {}
 
-/// The sure pool can't be smaller: a heap was just created and given one pool of a unit less, and there are requests within the
-/// bounds of which one is refused for want of a block. It is so in two cases. The live blocks have a unit each, the size is a
-/// power of two from the unit to 2^29, and the pool begins a unit behind a multiple of it. Or the size is the lowest of a class
-/// above the unit, and the bytes are from those of one block of the size and others of a unit to those of blocks of the size.
-/// Nothing is said of bytes between these two cases.
+/// The sure pool can't be smaller. On a heap that was just created and given one pool of a unit less, some requests within the
+/// bounds have a run in which one of them is refused for want of a block. The bytes are whole units, and the size is the lowest
+/// of a class, above the unit. It is so where the bytes are at least those of one block of the size and a unit for each other
+/// one, and at most those of blocks of the size. It is so for fewer bytes, from a unit a block on, where the size is a power of
+/// two and the pool begins a unit behind a multiple of it. For other sizes the law says nothing of these.
 pub fn sure_pool_is_least<H: Heaped>()
-    ensures of_units { (blocks size records base pool : ℕ) (old : Content ℕ) → is_alignment size ≡ true → unit ≤ size → base % size ≡ unit % size
-        → sure_pool blocks (blocks * unit) (Some size) ≡ Some (pool + unit) → sure_records blocks ≤ records → add_pool base pool (created records) ≡ Ok old
-        → IsRefusedWithin blocks (blocks * unit) size H.lacks old }
-    ensures of_more { (blocks bytes size records base pool : ℕ) (old : Content ℕ) → class_size 1 size ≡ Some size → unit < size → bytes % unit ≡ 0 → (blocks - 1) * unit + size ≤ bytes → bytes ≤ blocks * size
+    ensures larger { (blocks bytes size records base pool : ℕ) (old : Content ℕ) → class_size 1 size ≡ Some size → unit < size → bytes % unit ≡ 0
+        → (blocks - 1) * unit + size ≤ bytes → bytes ≤ blocks * size
+        → sure_pool blocks bytes (Some size) ≡ Some (pool + unit) → sure_records blocks ≤ records → add_pool base pool (created records) ≡ Ok old
+        → IsRefusedWithin blocks bytes size H.lacks old }
+    ensures smaller { (blocks bytes size records base pool : ℕ) (old : Content ℕ) → is_alignment size ≡ true → unit < size → base % size ≡ unit
+        → 0 < blocks → bytes % unit ≡ 0 → blocks * unit ≤ bytes → bytes ≤ (blocks - 1) * unit + size
         → sure_pool blocks bytes (Some size) ≡ Some (pool + unit) → sure_records blocks ≤ records → add_pool base pool (created records) ≡ Ok old
         → IsRefusedWithin blocks bytes size H.lacks old }
 {}

@@ -1,16 +1,22 @@
 -- Calls on the last blocks of a heap's one pool: what they leave there.
-use Rattle.std.proofs.Common.{◌≡◌, ℕ, ◌+◌, ◌-◌, ◌<◌, ◌≤◌, Bool, true, false, List, [], ◌∷◌, ◌++◌, length, map, count_by, Option, Some, None, Ok, refl, sym, ap, ◌∙◌, subst, arith}
-use Rattle.std.specs.Prelude.{◌==◌, ◌&&◌, IsTrue}
+use Rattle.std.proofs.Common.{◌≡◌, ℕ, ◌+◌, ◌-◌, ◌<◌, ◌≤◌, Bool, true, false, List, [], ◌∷◌, ◌++◌, length, map, count_by, Option, Some, None, Ok, refl, sym, ap, ◌∙◌, subst, arith, ◌%◌, inl, inr, ◌≢◌}
+use Rattle.std.specs.Prelude.{◌==◌, ◌&&◌, IsTrue, nat_lt}
 use Rattle.std.specs.List.{AllByRecursion}
-use Rattle.std.proofs.lemmas.Bool.{eq-eqb, ne_eqb, lt-ltb, lt-leb}
+use Rattle.std.proofs.lemmas.Bool.{eq-eqb, ne_eqb, lt-ltb, lt-leb, cases_lt, le-ltb, le-leb}
 use Rattle.std.proofs.lemmas.List.Elements.{recursion_from_All}
-use Rattle.tlsf_class.specs.Classes.{low}
+use Rattle.tlsf_class.specs.Classes.{unit, low}
+use Rattle.tlsf_class.proofs.RoundingLaws.{round_within, rounded_from}
+use Rattle.std.specs.Int.{next_multiple_of}
+use Rattle.std.proofs.Math.Nat.{mod-eq_of_lt}
+use Rattle.tlsf_heap.specs.Memalign.{is_alignment, size_asked, split_in_three, aligned, memalign_picked, memalign_rounded, memalign}
+use Rattle.tlsf_heap.proofs.Content.MemalignCases.{few_gap, used_aligned, aligned_rounded}
+use Rattle.tlsf_heap.proofs.Meaning.AlignedIsGood.{memalign_is_good}
 use Rattle.tlsf_class.specs.Rounding.{round}
 use Rattle.tlsf_heap.specs.Content.{Block, Pool, Content, blocks_of, is_free, is_at, size_at, used_records}
 use Rattle.tlsf_heap.specs.Lists.{pick}
 use Rattle.tlsf_heap.specs.Malloc.{gap, replaced_in, split, allocated, malloc_rounded, malloc}
-use Rattle.tlsf_heap.specs.Free.{is_owned_by, is_live, next_of, if_free, first_in_pools, free_next, after_free}
-use Rattle.tlsf_heap.specs.Realloc.{fits_in_place, resized}
+use Rattle.tlsf_heap.specs.Free.{is_owned_by, is_live, next_of, if_free, first_in_pools, free_next, after_free, size_of}
+use Rattle.tlsf_heap.specs.Realloc.{fits_in_place, resized, size_with_next}
 use Rattle.tlsf_heap.specs.Pointer.{free_ptr, realloc_ptr}
 use Rattle.tlsf_heap.specs.Good.{IsGood}
 use Rattle.tlsf_heap.specs.Room.{live_bytes}
@@ -22,11 +28,29 @@ use Rattle.tlsf_heap.proofs.Good.MallocIsGood.{picked, all-append, malloc_is_goo
 use Rattle.tlsf_heap.proofs.Good.OneSizePool.{are_same, IsLowest}
 use Rattle.tlsf_heap.proofs.Good.Realloc.{realloc_is_good}
 use Rattle.tlsf_heap.proofs.Good.Room.{live_bytes-append, front_of, back_of}
-use Rattle.tlsf_heap.proofs.Good.Spread.{gap_some}
 use Rattle.tlsf_heap.proofs.Meaning.BlockPositions.{BlockPosition, filled_pools, count-filled_pools, IsAlone, block_alone, replaced_at, back_at, size_here}
 use Rattle.tlsf_heap.proofs.Meaning.FreeFirst.{past_free, free_first, begins_once}
 use Rattle.tlsf_heap.proofs.Meaning.FreedIsGood.{after_is, freed_is_good}
 use Rattle.tlsf_heap.proofs.Meaning.ResizedIsGood.{resized_is}
+
+-- a gap of some bytes is a block
+pub gap_some : (A : Type 0) (place size : ℕ) → size ≢ 0 → gap {A = A} place size ≡ record { place = place; size = size; owner = None } ∷ []
+gap_some A place size some = rw (ne_eqb size 0 some) refl
+
+-- from a place that is a unit behind a multiple of the size, it is a unit less than the size to the next multiple
+next_is : (size place : ℕ) → unit < size → place % size ≡ unit → next_multiple_of place size ≡ place + (size - unit)
+next_is size place above at =
+    let step : (size - unit) % size ≡ size - unit = mod-eq_of_lt {n = size - unit} {m = size} (omega (arith, above)) in
+    let same : (size - place % size) % size ≡ (size - unit) % size = ap (λ r. (size - r) % size) at in
+    omega (arith, same, step)
+
+-- a unit at a multiple of the size asks for the size
+pub asks_size : (size : ℕ) → unit < size → size_asked size unit ≡ size
+asks_size size above = rw (lt-leb size unit above) (omega (arith, above))
+
+-- a unit is what a unit is rounded to
+pub unit_rounds : round unit ≡ Some unit
+unit_rounds = round_within unit (omega arith) (omega arith) ∙ ap (λ m. Some m) (rounded_from unit unit refl (omega arith) (omega arith))
 
 -- a free block, and a live one
 abbrev pub rest_at : (place size : ℕ) → Block ℕ
@@ -160,25 +184,79 @@ module _ (base bytes count : ℕ) where
             records = is.records;
           }
 
-  -- realloc of the live block in front of the last, to fewer bytes
-  module _ (known place size at left m : ℕ) (before : List (Block ℕ)) (content : Content ℕ) (is : EndsBy before (live_at known place size ∷ rest_at at left ∷ []) content) (rounds : round m ≡ Some m) (some : 0 < m) (less : m < size) where
-    live : Block ℕ
-    live = live_at known place size
+    -- memalign of a unit at a multiple of the size, where the last block begins a unit behind one
+    module _ (is_aligned : is_alignment size ≡ true) (above : unit < size) (before : List (Block ℕ)) (place left : ℕ) (content : Content ℕ) (is : EndsBy before (rest_at place left ∷ []) content) (all : AllByRecursion IsBelow before) (larger : size < left)
+        (at : place % size ≡ unit) where
+      start_is : next_multiple_of place size ≡ place + (size - unit)
+      start_is = next_is size place above at
 
-    pub shrunk_served : realloc_ptr (Some (record { place = place; slot = known })) m known content ≡ Ok (Some (place, known), resized known place m content)
-    shrunk_served =
-        let total = first_size before (live_at known place size) (rest_at at left ∷ []) content is in
-        let next : free_next place content ≡ Some (rest_at at left) =
+      abbrev pub spaced : ℕ → Content ℕ
+      spaced owner = aligned owner (next_multiple_of place size) unit place (size_at place (blocks_of content.pools)) content
+
+      pub spaced_served : (owner : ℕ) → used_records content + 2 ≤ content.records → memalign owner size unit content ≡ Ok (place + (size - unit), spaced owner)
+      spaced_served owner room =
+          let start : ℕ = next_multiple_of place size in
+          let total : ℕ = size_at place (blocks_of content.pools) in
+          let asked : memalign owner size unit content ≡ memalign_rounded owner size (round unit) content = aligned_rounded owner size unit content is_aligned (omega arith) in
+          let rounds : memalign_rounded owner size (round unit) content ≡ memalign_rounded owner size (Some unit) content = ap (λ m. memalign_rounded owner size m content) unit_rounds in
+          let found : pick (size_asked size unit) content.lists ≡ Some place = ap (λ m. pick m content.lists) (asks_size size above) ∙ last_picked before place left content is all larger in
+          let picks : memalign_rounded owner size (Some unit) content ≡ memalign_picked owner size unit (Some place) content = ap (λ p. memalign_picked owner size unit p content) found in
+          let used = used_aligned owner start unit place total content (picked size place content is.good (last_picked before place left content is all larger)).found in
+          let few : used_records (spaced owner) ≤ content.records = omega (arith, used, few_gap (start - place), few_gap ((total - (start - place)) - unit), room) in
+          let kept : nat_lt content.records (used_records (spaced owner)) ≡ false = le-ltb content.records (used_records (spaced owner)) few in
+          let gives : memalign_picked owner size unit (Some place) content ≡ Ok (start, spaced owner) = rw kept refl in
+          asked ∙ rounds ∙ picks ∙ gives ∙ ap (λ s. Ok (s, spaced owner)) start_is
+
+      parts : (owner : ℕ) → split_in_three owner (next_multiple_of place size) unit place (size_at place (blocks_of content.pools)) ≡ rest_at place (size - unit) ∷ live_at owner (place + (size - unit)) unit ∷ rest_at (place + size) (left - size) ∷ []
+      parts owner =
+          let gap_is : (place + (size - unit)) - place ≡ size - unit = omega arith in
+          let end_is : (place + (size - unit)) + unit ≡ place + size = omega (arith, above) in
+          let rest_is : (left - ((place + (size - unit)) - place)) - unit ≡ left - size = omega (arith, above) in
+          ap (split_in_three owner (next_multiple_of place size) unit place) (total_is before place left content is all larger)
+          ∙ ap (λ s. split_in_three owner s unit place left) start_is
+          ∙ ap (λ n. gap place n ++ live_at owner (place + (size - unit)) unit ∷ gap ((place + (size - unit)) + unit) ((left - ((place + (size - unit)) - place)) - unit)) gap_is
+          ∙ ap (λ n. gap place (size - unit) ++ live_at owner (place + (size - unit)) unit ∷ gap n ((left - ((place + (size - unit)) - place)) - unit)) end_is
+          ∙ ap (λ n. gap place (size - unit) ++ live_at owner (place + (size - unit)) unit ∷ gap (place + size) n) rest_is
+          ∙ ap (λ (front : List (Block ℕ)). front ++ live_at owner (place + (size - unit)) unit ∷ gap (place + size) (left - size)) (gap_some ℕ place (size - unit) (omega (arith, above)))
+          ∙ ap (λ (back : List (Block ℕ)). rest_at place (size - unit) ∷ live_at owner (place + (size - unit)) unit ∷ back) (gap_some ℕ (place + size) (left - size) (omega (arith, larger)))
+
+      pub spaced_ends : (owner : ℕ) → used_records content + 2 ≤ content.records → EndsBy before (rest_at place (size - unit) ∷ live_at owner (place + (size - unit)) unit ∷ rest_at (place + size) (left - size) ∷ []) (spaced owner)
+      spaced_ends owner room =
+          let split_so : List (Block ℕ) = split_in_three owner (next_multiple_of place size) unit place (size_at place (blocks_of content.pools)) in
+          record {
+            good = memalign_is_good owner size unit content (place + (size - unit), spaced owner) is.good (spaced_served owner room);
+            pools =
+                ap (map (replaced_in place split_so)) is.pools
+                ∙ replaced_at (behind before) (rest_at place left) [] (first_alone before (rest_at place left) [] content is) split_so
+                ∙ ap (λ (ends : List (Block ℕ)). filled_pools (behind before) (ends ++ [])) (parts owner);
+            records = is.records;
+          }
+
+  -- realloc of the live block in front of the last, which is free, to other bytes than both have
+  module _ (known place size at left m : ℕ) (before : List (Block ℕ)) (content : Content ℕ) (is : EndsBy before (live_at known place size ∷ rest_at at left ∷ []) content) (rounds : round m ≡ Some m) (some : 0 < m) (other : m ≢ size) (less : m < size + left) where
+    total_of : size_at place (blocks_of content.pools) ≡ size
+    total_of = first_size before (live_at known place size) (rest_at at left ∷ []) content is
+
+    next_of_it : free_next place content ≡ Some (rest_at at left)
+    next_of_it =
         ap (λ (pools : List (Pool ℕ)). if_free (first_in_pools (next_of place) pools)) is.pools
-        ∙ ap if_free (back_at (behind before) (live_at known place size) (rest_at at left ∷ []) (first_alone before (live_at known place size) (rest_at at left ∷ []) content is)) in
-        let smaller = lt-ltb m (size_at place (blocks_of content.pools)) (omega (arith, total, less)) in
-        let fits : fits_in_place place m content ≡ true = rw (smaller, next) refl in
-        realloc_resized are_same known known place m m content (first_live known place size before (rest_at at left ∷ []) content is) (omega (arith, some)) rounds
-        ∙ sized_in_place known known place m content (λ e. absurd (omega (arith, e, total, less))) fits
+        ∙ ap if_free (back_at (behind before) (live_at known place size) (rest_at at left ∷ []) (first_alone before (live_at known place size) (rest_at at left ∷ []) content is))
 
-    pub shrunk_ends : EndsBy before (live_at known place m ∷ rest_at (place + m) ((size + left) - m) ∷ []) (resized known place m content)
-    shrunk_ends = record {
-      good = realloc_is_good are_same known (Some (place, known)) m content (Some (place, known), resized known place m content) is.good shrunk_served;
+    fits : fits_in_place place m content ≡ true
+    fits = elim (cases_lt m (size_at place (blocks_of content.pools))) [
+      | inl smaller ↦ rw (lt-ltb m (size_at place (blocks_of content.pools)) smaller, next_of_it) refl
+      | inr larger ↦ (let within : m ≤ size_with_next place content = omega (arith, less, total_of, ap size_of next_of_it) in
+          rw (le-ltb m (size_at place (blocks_of content.pools)) larger, le-leb m (size_with_next place content) within) refl)
+    ]
+
+    pub resized_served : realloc_ptr (Some (record { place = place; slot = known })) m known content ≡ Ok (Some (place, known), resized known place m content)
+    resized_served =
+        realloc_resized are_same known known place m m content (first_live known place size before (rest_at at left ∷ []) content is) (omega (arith, some)) rounds
+        ∙ sized_in_place known known place m content (λ e. other (e ∙ total_of)) fits
+
+    pub resized_ends : EndsBy before (live_at known place m ∷ rest_at (place + m) ((size + left) - m) ∷ []) (resized known place m content)
+    resized_ends = record {
+      good = realloc_is_good are_same known (Some (place, known)) m content (Some (place, known), resized known place m content) is.good resized_served;
       pools =
           let ends : List (Block ℕ) = live_at known place size ∷ rest_at at left ∷ [] in
           let good : IsGood (record content { pools = filled_pools (behind before) ends }) = subst (λ (c : Content ℕ). IsGood c) (by_pools before ends content is) is.good in

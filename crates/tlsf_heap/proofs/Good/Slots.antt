@@ -27,7 +27,7 @@ slot_times-cons slot block blocks = count-cons (has slot) block blocks
 pub slot_times-append : (slot : ℕ) (blocks more : List (Block ℕ)) → slot_times slot (blocks ++ more) ≡ slot_times slot blocks + slot_times slot more
 slot_times-append slot blocks more = count-append (has slot) blocks more
 
-pub slot_times-gap : (slot place size : ℕ) → slot_times slot (gap place size) ≡ 0
+slot_times-gap : (slot place size : ℕ) → slot_times slot (gap place size) ≡ 0
 slot_times-gap slot place size =
     let rest : Block ℕ = record { place = place; size = size; owner = None } in
     elim (size == 0) as (λ b. slot_times slot (cond b [] (rest ∷ [])) ≡ 0) [ true ↦ refl | false ↦ slot_times-cons slot rest [] ]

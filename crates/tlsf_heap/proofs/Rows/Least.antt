@@ -80,6 +80,29 @@ sure_served : malloc 2 64 sure_spaced ≡ Ok (144, served sure_spaced (malloc 2 
 unfolding class need low rounded
 sure_served = refl
 
+-- one block of 32 bytes, which had 16 at first, and a class of 64: 32 + 2 * 48 bytes may refuse
+grown_block : sure_pool 1 32 (Some 64) ≡ Some 144
+grown_block = refl
+
+abbrev grown : Content ℕ
+grown =
+    let first = served (with_pool 16 128 (created 5)) (memalign 0 64 16 (with_pool 16 128 (created 5))) in
+    moved first (realloc_ptr (Some (record { place = 64; slot = 0 })) 32 0 first)
+
+grown_pools : grown.pools ≡ record {
+  base = 16;
+  bytes = 128;
+  blocks =
+      record { place = 16; size = 48; owner = None } ∷ record { place = 64; size = 32; owner = Some 0 } ∷ record { place = 96; size = 48; owner = None }
+      ∷ [];
+} ∷ []
+unfolding class need low rounded
+grown_pools = refl
+
+grown_refused : malloc 1 64 grown ≡ Err NoFit
+unfolding class need low rounded
+grown_refused = refl
+
 -- without alignments: a block of 32 bytes, and a class of 32: 32 + 2 * 16 bytes may refuse
 larger_block : sure_pool 1 32 (Some 32) ≡ Some 80
 larger_block = refl

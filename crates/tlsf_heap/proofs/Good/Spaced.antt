@@ -1,5 +1,5 @@
--- With a unit less than the sure pool, requests within the bounds are refused for want of a block: blocks of more than a unit.
-use Rattle.std.proofs.Common.{◌≡◌, ℕ, zero, suc, ◌+◌, ◌-◌, ◌*◌, ◌%◌, ◌<◌, ◌≤◌, false, List, [], ◌∷◌, length, count_by, Option, Some, None, Ok, Err, inl, inr, refl, ap, ◌∙◌, subst, arith}
+-- Runs that leave free blocks that are too small: between live ones of more than a unit, and between ones at a multiple of a size.
+use Rattle.std.proofs.Common.{◌≡◌, ℕ, zero, suc, ◌+◌, ◌-◌, ◌*◌, ◌%◌, ◌<◌, ◌≤◌, false, List, [], ◌∷◌, length, count_by, Option, Some, None, Err, inl, inr, refl, ap, ◌∙◌, subst, arith, true, ◌≢◌, Bool, not}
 use Rattle.std.specs.Prelude.{◌==◌}
 use Rattle.std.specs.List.{AllByRecursion}
 use Rattle.std.proofs.lemmas.Bool.{cases_lt, ne_eqb}
@@ -8,10 +8,10 @@ use Rattle.tlsf_class.specs.Rounding.{round}
 use Rattle.tlsf_class.proofs.LowestSizes.{low-le}
 use Rattle.tlsf_class.proofs.ClassLaws.{need-lt, need-None, low_before_need}
 use Rattle.tlsf_class.proofs.RoundingLaws.{round-Some, round_within, rounded_from}
-use Rattle.tlsf_heap.specs.declared.request.Request.TheVariants.{Malloc, Free, Realloc}
+use Rattle.tlsf_heap.specs.declared.request.Request.TheVariants.{Malloc, Free, Realloc, Memalign}
 use Rattle.tlsf_heap.specs.declared.answer.Answer.TheVariants.{Done, Given, Moved}
 use Rattle.tlsf_heap.specs.declared.refusal.Refusal.TheVariants.{NoFit}
-use Rattle.tlsf_heap.specs.Content.{Block, Content, blocks_of, used_records}
+use Rattle.tlsf_heap.specs.Content.{Block, Content, blocks_of, used_records, is_free}
 use Rattle.tlsf_heap.specs.Lists.{pick}
 use Rattle.tlsf_heap.specs.Malloc.{malloc, malloc_rounded}
 use Rattle.tlsf_heap.specs.Free.{after_free}
@@ -21,20 +21,12 @@ use Rattle.tlsf_heap.specs.GoodSlots.{is_slot, slot_times}
 use Rattle.tlsf_heap.specs.Room.{live_bytes}
 use Rattle.tlsf_heap.specs.Within.{AsksAtMost, TakesWithin}
 use Rattle.tlsf_heap.proofs.Counts.{count-cons, one_if}
-use Rattle.tlsf_heap.specs.Pools.{created, add_pool}
-use Rattle.tlsf_heap.specs.Good.{IsGood}
-use Rattle.tlsf_heap.specs.Sizing.{class_size, sure_records, sure_pool}
-use Rattle.tlsf_heap.specs.Least.{IsRefusedWithin}
-use Rattle.tlsf_heap.proofs.Content.PoolCases.{pool_added}
-use Rattle.tlsf_heap.proofs.Good.MallocIsGood.{add_pool_is_good, created_is_good}
-use Rattle.tlsf_heap.proofs.Good.Least.{most_is}
-use Rattle.tlsf_heap.proofs.Good.OneSize.{own_class}
-use Rattle.tlsf_heap.proofs.Good.AtEnd.{behind, rest_at, live_at, EndsBy, ends_count, ends_bytes, ends_used, IsBelow, none_large, taken, taken_served, taken_ends, shrunk_served, shrunk_ends, freed_served, freed_ends}
+use Rattle.tlsf_heap.specs.Memalign.{is_alignment, size_asked}
+use Rattle.tlsf_heap.proofs.Good.AtEnd.{rest_at, live_at, EndsBy, ends_count, ends_bytes, ends_used, IsBelow, none_large, taken, taken_served, taken_ends, resized_served, resized_ends, freed_served, freed_ends, asks_size, unit_rounds, spaced, spaced_served, spaced_ends}
 use Rattle.tlsf_heap.proofs.Good.OneSizePool.{IsLowest}
-use Rattle.tlsf_heap.proofs.Good.RefusedRuns.{IsRefusedFrom, refused_behind, refused_here, refused_within}
+use Rattle.std.proofs.Math.Nat.{add-mod_right}
+use Rattle.tlsf_heap.proofs.Good.RefusedRuns.{IsRefusedFrom, refused_behind, refused_here}
 use Rattle.tlsf_heap.proofs.Good.Slots.{slot_times-cons}
-use Rattle.tlsf_heap.proofs.Good.Spread.{is_used, gap_some}
-use Rattle.tlsf_heap.proofs.Meaning.BlockPositions.{filled_pools}
 use Rattle.tlsf_heap.proofs.Meaning.FreeFirst.{past_free, free_first}
 
 the_le : (a b : ℕ) → a ≡ b → a ≤ b
@@ -94,6 +86,9 @@ end_kept size more left some within = omega (arith, some, within)
 
 end_shrunk : (size more left m : ℕ) → unit < size → m ≤ left → (size + ((end_bytes size (suc more) left - (size - unit)) - size)) - m ≡ end_bytes size more (left - m)
 end_shrunk size more left m some within = omega (arith, some, within)
+
+abbrev is_used : Block ℕ → Bool
+is_used block = not (is_free block)
 
 module _ (blocks bytes size : ℕ) (lacks : Type 0) where
   abbrev pub Refuses : Content ℕ → Type 0
@@ -161,9 +156,9 @@ module _ (blocks bytes size : ℕ) (lacks : Type 0) where
       Ends before ends content = EndsBy base pool count before ends content
 
       -- what a request takes, by the blocks in front and at the end
-      takes : (n j held : ℕ) (before ends : List (Block ℕ)) (content : Content ℕ) → Ends before ends content → IsFront j held before → j + count_by is_used ends ≤ blocks → held + live_bytes ends ≤ bytes → AsksAtMost size (λ m. m) n
-          → TakesWithin blocks bytes size (λ m. m) n content
-      takes n j held before ends content is front few small asks = record {
+      takes : (asked : ℕ → ℕ) (n j held : ℕ) (before ends : List (Block ℕ)) (content : Content ℕ) → Ends before ends content → IsFront j held before → j + count_by is_used ends ≤ blocks → held + live_bytes ends ≤ bytes → AsksAtMost size asked n
+          → TakesWithin blocks bytes size asked n content
+      takes asked n j held before ends content is front few small asks = record {
         few = omega (arith, ends_count base pool count before ends content is is_used, front.live, few);
         small = omega (arith, ends_bytes base pool count before ends content is, front.bytes_held, small);
         asks = asks;
@@ -197,7 +192,7 @@ module _ (blocks bytes size : ℕ) (lacks : Type 0) where
         second_ends =
             let whole : (size + (left - size)) - gap_bytes ≡ left - gap_bytes = omega (arith, larger) in
             subst (λ n. Ends before (live_at blocks place gap_bytes ∷ rest_at (place + gap_bytes) n ∷ []) second) whole
-            (shrunk_ends base pool count blocks place size (place + size) (left - size) gap_bytes before first first_ends gap_rounds (omega (arith, some)) (omega (arith, some)))
+            (resized_ends base pool count blocks place size (place + size) (left - size) gap_bytes before first first_ends gap_rounds (omega (arith, some)) (λ e. absurd (omega (arith, e, some))) (omega (arith, some)))
 
         -- the same, with the block among those in front
         second_behind : Ends (live_at blocks place gap_bytes ∷ before) (rest_at (place + gap_bytes) (left - gap_bytes) ∷ []) second
@@ -238,14 +233,14 @@ module _ (blocks bytes size : ℕ) (lacks : Type 0) where
               slot_below = omega (arith, is.records, many);
               slot_new = unused blocks j held before (rest_at place left ∷ []) content is front (omega (arith, less)) refl;
             })
-            (λ nonzero. takes size j held before (rest_at place left ∷ []) content is front (omega (arith, less)) (omega (arith, small)) size_asks)
+            (λ nonzero. takes (λ m. m) size j held before (rest_at place left ∷ []) content is front (omega (arith, less)) (omega (arith, small)) size_asks)
             (refused_behind blocks bytes size lacks (Realloc (Some held_block) gap_bytes) (Moved (Some held_block)) first second
             (record {
-              ok = shrunk_served base pool count blocks place size (place + size) (left - size) gap_bytes before first first_ends gap_rounds (omega (arith, some)) (omega (arith, some));
+              ok = resized_served base pool count blocks place size (place + size) (left - size) gap_bytes before first first_ends gap_rounds (omega (arith, some)) (λ e. absurd (omega (arith, e, some))) (omega (arith, some));
               slot_below = omega (arith, first_ends.records, many);
               slot_new = λ moved. absurd (moved refl);
             })
-            (λ named nonzero. takes gap_bytes j held before (live_at blocks place size ∷ rest_at (place + size) (left - size) ∷ []) first first_ends front (omega (arith, less)) (omega (arith, small)) gap_asks)
+            (λ named nonzero. takes (λ m. m) gap_bytes j held before (live_at blocks place size ∷ rest_at (place + size) (left - size) ∷ []) first first_ends front (omega (arith, less)) (omega (arith, small)) gap_asks)
             (refused_behind blocks bytes size lacks (Malloc size) (Given (record { place = place + gap_bytes; slot = j })) second third
             (record {
               ok = taken_served base pool count size lowest positive (live_at blocks place gap_bytes ∷ before) (place + gap_bytes) (left - gap_bytes) second second_behind second_below (omega (arith, larger)) j second_room;
@@ -253,7 +248,7 @@ module _ (blocks bytes size : ℕ) (lacks : Type 0) where
               slot_new = unused j j held before (live_at blocks place gap_bytes ∷ rest_at (place + gap_bytes) (left - gap_bytes) ∷ []) second second_ends front (omega arith)
                   (omega (arith, slot_times-cons j (live_at blocks place gap_bytes) (rest_at (place + gap_bytes) (left - gap_bytes) ∷ []), slot_times-cons j (rest_at (place + gap_bytes) (left - gap_bytes)) [], ap one_if apart));
             })
-            (λ nonzero. takes size j held before (live_at blocks place gap_bytes ∷ rest_at (place + gap_bytes) (left - gap_bytes) ∷ []) second second_ends front (omega (arith, less)) (omega (arith, small)) size_asks)
+            (λ nonzero. takes (λ m. m) size j held before (live_at blocks place gap_bytes ∷ rest_at (place + gap_bytes) (left - gap_bytes) ∷ []) second second_ends front (omega (arith, less)) (omega (arith, small)) size_asks)
             (refused_behind blocks bytes size lacks (Free held_block) Done third laid
             (freed_served base pool count blocks place gap_bytes before (live_at j (place + gap_bytes) size) (rest_at ((place + gap_bytes) + size) ((left - gap_bytes) - size)) third third_before refl front.none_free front.none_past)
             tt then)))
@@ -269,7 +264,7 @@ module _ (blocks bytes size : ℕ) (lacks : Type 0) where
       small_refused : (j held place left : ℕ) (before : List (Block ℕ)) (content : Content ℕ) → Ends before (rest_at place left ∷ []) content → IsFront j held before → left < size → j ≤ blocks → held ≤ bytes → Refuses content
       small_refused j held place left before content is front small few less =
           let none = none_large base pool count size lowest positive before (rest_at place left ∷ []) content is front.below (λ free. small, tt) in
-          refused_here blocks bytes size lacks size content (λ slot. picks_none slot content none) (takes size j held before (rest_at place left ∷ []) content is front (omega (arith, few)) (omega (arith, less)) size_asks)
+          refused_here blocks bytes size lacks size content (λ slot. picks_none slot content none) (takes (λ m. m) size j held before (rest_at place left ∷ []) content is front (omega (arith, few)) (omega (arith, less)) size_asks)
 
       -- what is known where a block of the size was laid
       module _ (j held place left : ℕ) (before : List (Block ℕ)) (content : Content ℕ) (is : Ends before (rest_at place left ∷ []) content) (front : IsFront j held before)
@@ -306,7 +301,7 @@ module _ (blocks bytes size : ℕ) (lacks : Type 0) where
 
           shrunk_behind : Ends (live_at j (place + gap_bytes) m ∷ rest_at place gap_bytes ∷ before) (rest_at ((place + gap_bytes) + m) ((size + over) - m) ∷ []) shrunk
           shrunk_behind =
-              let ends = shrunk_ends base pool count j (place + gap_bytes) size ((place + gap_bytes) + size) over m (rest_at place gap_bytes ∷ before) here laid_behind rounded some_bytes smaller in
+              let ends = resized_ends base pool count j (place + gap_bytes) size ((place + gap_bytes) + size) over m (rest_at place gap_bytes ∷ before) here laid_behind rounded some_bytes (λ e. absurd (omega (arith, e, smaller))) (omega (arith, smaller)) in
               record { good = ends.good; pools = ends.pools; records = ends.records }
 
           laid_takes : TakesWithin blocks bytes size (λ n. n) m here
@@ -322,7 +317,7 @@ module _ (blocks bytes size : ℕ) (lacks : Type 0) where
               laid_refused j held place left before content is front less small larger
               (refused_behind blocks bytes size lacks (Realloc (Some pointer) m) (Moved (Some pointer)) here shrunk
               (record {
-                ok = shrunk_served base pool count j (place + gap_bytes) size ((place + gap_bytes) + size) over m (rest_at place gap_bytes ∷ before) here laid_behind rounded some_bytes smaller;
+                ok = resized_served base pool count j (place + gap_bytes) size ((place + gap_bytes) + size) over m (rest_at place gap_bytes ∷ before) here laid_behind rounded some_bytes (λ e. absurd (omega (arith, e, smaller))) (omega (arith, smaller));
                 slot_below = slot_few;
                 slot_new = λ moved. absurd (moved refl);
               })
@@ -367,33 +362,81 @@ module _ (blocks bytes size : ℕ) (lacks : Type 0) where
       laid_in_turn zero = lays_last
       laid_in_turn (suc more) = lays_more more (laid_in_turn more)
 
--- the whole pool is that of the blocks to be laid
-end_is : (more bytes size : ℕ) → size ≤ bytes → bytes + (suc more + 1) * (size - unit) ≡ end_bytes size more (bytes - size)
-end_is more bytes size within = omega (arith, within)
+      -- blocks of a unit, each at a multiple of the size
+      module _ (is_aligned : is_alignment size ≡ true) where
+        unit_asks : AsksAtMost size (size_asked size) unit
+        unit_asks = record { m = unit; rounds = unit_rounds; c = lowest.c; needed = ap need (asks_size size some) ∙ lowest.needed; sized = omega (arith, lowest.sized) }
 
-whole_pool : (records base pool : ℕ) (old : Content ℕ) → 0 < pool → add_pool base pool (created records) ≡ Ok old → EndsBy base pool records [] (rest_at base pool ∷ []) old
-whole_pool records base pool old some added =
-    subst (λ (content : Content ℕ). IsGood content → EndsBy base pool records [] (rest_at base pool ∷ []) content) (pool_added base pool (created records) old added).is
-    (λ good. record { good = good; pools = ap (λ (ends : List (Block ℕ)). filled_pools (behind base pool records []) ends) (gap_some ℕ base pool (omega (arith, some))); records = refl })
-    (add_pool_is_good base pool (created records) old (created_is_good records) added)
+        one_spaced : (j held place left : ℕ) (before : List (Block ℕ)) (content : Content ℕ) → Ends before (rest_at place left ∷ []) content → IsFront j held before → j < blocks → held ≤ bytes → size < left → place % size ≡ unit
+            → ((new : Content ℕ) → Ends (rest_at place gap_bytes ∷ before) (live_at j (place + gap_bytes) unit ∷ rest_at (place + size) (left - size) ∷ []) new → Refuses new) → Refuses content
+        one_spaced j held place left before content is front less small larger at then =
+            let room_two : used_records content + 2 ≤ content.records = omega (arith, ends_used base pool count before (rest_at place left ∷ []) content is, front.few, less, is.records, many) in
+            let ends = spaced_ends base pool count size lowest positive is_aligned some before place left content is front.below larger at j room_two in
+            refused_behind blocks bytes size lacks (Memalign size unit) (Given (record { place = place + gap_bytes; slot = j })) content
+            (spaced base pool count size lowest positive is_aligned some before place left content is front.below larger at j)
+            (record {
+              ok = spaced_served base pool count size lowest positive is_aligned some before place left content is front.below larger at j room_two;
+              slot_below = omega (arith, is.records, many, less);
+              slot_new = unused j j held before (rest_at place left ∷ []) content is front (omega arith) refl;
+            })
+            (λ named nonzero. takes (size_asked size) unit j held before (rest_at place left ∷ []) content is front (omega (arith, less)) (omega (arith, small)) unit_asks)
+            (then (spaced base pool count size lowest positive is_aligned some before place left content is front.below larger at j) (record { good = ends.good; pools = ends.pools; records = ends.records }))
 
-pub larger_refused : (blocks bytes size records base pool : ℕ) (old : Content ℕ) → class_size 1 size ≡ Some size → unit < size → bytes % unit ≡ 0 → (blocks - 1) * unit + size ≤ bytes → bytes ≤ blocks * size
-    → sure_pool blocks bytes (Some size) ≡ Some (pool + unit) → sure_records blocks ≤ records → add_pool base pool (created records) ≡ Ok old → (lacks : Type 0) → IsRefusedWithin blocks bytes size lacks old
-larger_refused zero bytes size records base pool old is some whole least most sure many added lacks = absurd (omega (arith, some, least, most))
-larger_refused (suc more) bytes size records base pool old is some whole least most sure many added lacks =
-    refused_within (suc more) bytes size lacks old
-    (laid_in_turn (suc more) bytes size lacks lowest some base pool records (omega (arith, many)) more (bytes - size) 0 0 (omega arith) (omega (arith, least)) (omega (arith, whole, size_units, least)) (omega (arith, least)) (omega (arith, most, one)) base [] old
-    (subst (λ n. EndsBy base pool records [] (rest_at base n ∷ []) old) pool_end (whole_pool records base pool old (omega (arith, pool_end, some)) added))
-    (record { below = tt; live = refl; bytes_held = refl; few = omega arith; slots = λ slot above. refl; none_free = refl; none_past = refl }))
-  where
-    lowest : IsLowest size
-    lowest = own_class size is
+        -- the last of them gets more bytes where it is
+        module _ (j held place at rest left last : ℕ) (before : List (Block ℕ)) (content : Content ℕ) (is : Ends (rest_at place gap_bytes ∷ before) (live_at j at unit ∷ rest_at rest left ∷ []) content) (front : IsFront j held before)
+            (rounded : round last ≡ Some last) (asks : AsksAtMost size (λ m. m) last) (more : unit < last) (less : j < blocks) (small : held + unit ≤ bytes) (fits : last < unit + left) where
+          is_behind : Ends before (rest_at place gap_bytes ∷ live_at j at unit ∷ rest_at rest left ∷ []) content
+          is_behind = record { good = is.good; pools = is.pools; records = is.records }
 
-    size_units : size % unit ≡ 0
-    size_units = (round-Some size size lowest.rounds).whole
+          grown_refused : (Ends (live_at j at last ∷ rest_at place gap_bytes ∷ before) (rest_at (at + last) ((unit + left) - last) ∷ []) (resized j at last content) → Refuses (resized j at last content)) → Refuses content
+          grown_refused then =
+              let pointer : Pointer = record { place = at; slot = j } in
+              let other : last ≢ unit = λ e. absurd (omega (arith, e, more)) in
+              let positive_bytes : 0 < last = omega (arith, more) in
+              let ends = resized_ends base pool count j at unit rest left last (rest_at place gap_bytes ∷ before) content is rounded positive_bytes other fits in
+              refused_behind blocks bytes size lacks (Realloc (Some pointer) last) (Moved (Some pointer)) content (resized j at last content)
+              (record {
+                ok = resized_served base pool count j at unit rest left last (rest_at place gap_bytes ∷ before) content is rounded positive_bytes other fits;
+                slot_below = omega (arith, is.records, many, less);
+                slot_new = λ moved. absurd (moved refl);
+              })
+              (λ named nonzero. takes (λ m. m) last j held before (rest_at place gap_bytes ∷ live_at j at unit ∷ rest_at rest left ∷ []) content is_behind front (omega (arith, less)) (omega (arith, small)) asks)
+              (then (record { good = ends.good; pools = ends.pools; records = ends.records }))
 
-    one : suc more * size ≡ size + more * size
-    one = omega arith
+        module _ (last : ℕ) (last_whole : last % unit ≡ 0) (last_least : unit ≤ last) (last_most : last ≤ size) where
+          abbrev pub bytes_spaced : ℕ → ℕ
+          bytes_spaced more = more * size + (gap_bytes + last + gap_bytes)
 
-    pool_end : pool ≡ end_bytes size more (bytes - size)
-    pool_end = most_is (suc more) bytes size pool whole size_units (omega (arith, some)) sure ∙ end_is more bytes size (omega (arith, least))
+          abbrev pub Spaces : ℕ → Type 0
+          Spaces more = (j held : ℕ) → suc (j + more) ≡ blocks → held + more * unit + last ≡ bytes → (place : ℕ) (before : List (Block ℕ)) (content : Content ℕ) → place % size ≡ unit
+              → Ends before (rest_at place (bytes_spaced more) ∷ []) content → IsFront j held before → Refuses content
+
+          last_gap : (left : ℕ) → left ≡ bytes_spaced 0 - size → unit ≡ last → left < size
+          last_gap left is same = omega (arith, is, same, some)
+
+          grown_gap : (left : ℕ) → left ≡ bytes_spaced 0 - size → (last < unit + left) × ((unit + left) - last < size)
+          grown_gap left is = (omega (arith, is, some, last_least), omega (arith, is, some, last_least))
+
+          spaces_last : Spaces 0
+          spaces_last j held sum all place before content at is front =
+              one_spaced j held place (bytes_spaced 0) before content is front (omega (arith, sum)) (omega (arith, all)) (omega (arith, some, last_least)) at (λ new ends. elim (cases_lt unit last) [
+                | inl more ↦ (let fits = grown_gap (bytes_spaced 0 - size) refl in
+                    grown_refused j held place (place + gap_bytes) (place + size) (bytes_spaced 0 - size) last before new ends front (rounds_less last last_whole (omega (arith, last_least)) last_most)
+                    (asks_less last last_whole (omega (arith, last_least)) last_most) more (omega (arith, sum)) (omega (arith, all, last_least)) fits.0
+                    (λ grown. small_refused (suc j) (held + last) ((place + gap_bytes) + last) ((unit + (bytes_spaced 0 - size)) - last) (live_at j (place + gap_bytes) last ∷ rest_at place gap_bytes ∷ before) (resized j (place + gap_bytes) last new) grown
+                    (front_more j held place (place + gap_bytes) last before front) fits.1 (omega (arith, sum)) (omega (arith, all))))
+                | inr few ↦ small_refused (suc j) (held + unit) (place + size) (bytes_spaced 0 - size) (live_at j (place + gap_bytes) unit ∷ rest_at place gap_bytes ∷ before) new (record { good = ends.good; pools = ends.pools; records = ends.records })
+                    (front_more j held place (place + gap_bytes) unit before front) (last_gap (bytes_spaced 0 - size) refl (omega (arith, few, last_least))) (omega (arith, sum)) (omega (arith, all, last_least))
+              ])
+
+          spaces_more : (more : ℕ) → Spaces more → Spaces (suc more)
+          spaces_more more then j held sum all place before content at is front =
+              let rest_is : bytes_spaced (suc more) - size ≡ bytes_spaced more = omega arith in
+              one_spaced j held place (bytes_spaced (suc more)) before content is front (omega (arith, sum)) (omega (arith, all)) (omega (arith, some, last_least)) at
+              (λ new ends. then (suc j) (held + unit) (omega (arith, sum)) (omega (arith, all)) (place + size) (live_at j (place + gap_bytes) unit ∷ rest_at place gap_bytes ∷ before) new (add-mod_right place size ∙ at)
+              (subst (λ n. Ends (live_at j (place + gap_bytes) unit ∷ rest_at place gap_bytes ∷ before) (rest_at (place + size) n ∷ []) new) rest_is (record { good = ends.good; pools = ends.pools; records = ends.records }))
+              (front_more j held place (place + gap_bytes) unit before front))
+
+          pub spaced_in_turn : (more : ℕ) → Spaces more
+          spaced_in_turn zero = spaces_last
+          spaced_in_turn (suc more) = spaces_more more (spaced_in_turn more)
