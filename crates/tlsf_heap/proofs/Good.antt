@@ -1,20 +1,25 @@
 -- What keeps a content good, and what a good content implies.
 pub mod AlignedImplied
 pub mod AlignedStaysLive
+pub mod AtEnd
 pub mod Cut
 pub mod GivenSizes
 pub mod Implied
 pub mod LastAsked
+pub mod Least
 pub mod LiveBlocks
 pub mod LiveBytes
 pub mod MallocIsGood
 pub mod OneSize
 pub mod OneSizePool
 pub mod OwnClass
+pub mod PowerClasses
 pub mod Realloc
+pub mod RefusedRuns
 pub mod RemovedPool
 pub mod Room
 pub mod Slots
 pub mod SlotsLeft
+pub mod Spaced
 pub mod StaysLive
 pub mod Within

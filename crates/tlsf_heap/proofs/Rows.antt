@@ -6,3 +6,4 @@ mod Sizing
 mod OneSize
 mod LastAsked
 mod Pools
+mod Least

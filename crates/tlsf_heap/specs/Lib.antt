@@ -28,5 +28,6 @@ pub mod Within
 pub mod OneSize
 pub mod LastAsked
 pub mod Sizing
+pub mod Least
 pub mod Inner
 pub mod Images
