@@ -16,7 +16,7 @@ use arrayvec::ArrayVec;
 use mtrace_log::{Failed, Sink};
 use std::alloc::Global;
 use std::marker::Model;
-use tlsf_store::{MOST_POOLS, Store, StoreError};
+use tlsf_store::{GhostCount, MOST_POOLS, Store, StoreError};
 
 /// A heap over a table of records: pools of blocks, and a free list for each size class, found by
 /// bitmaps.
@@ -401,7 +401,10 @@ impl Heap {
         ensures unchanged { IsUnchanged self.old self.new }
         ensures each_read { self.old.touches + self.old.content.records < self.new.touches }
     {
-        is_whole(&mut self.store)
+        let mut touches = GhostCount::new();
+        let whole = is_whole(self.store.words(), &mut touches);
+        self.store.add_touches(&touches);
+        whole
     }
 
     /// Says what every heap keeps, and does nothing. Its pools are covered by their blocks end to end, and

@@ -1,6 +1,6 @@
 -- The heads of the class lists as a store keeps them: words of links.
-use Rattle.std.proofs.Common.{◌≡◌, ℕ, ◌<◌, List, length, set, map, slice_index_or, Option, None, All, ◌∙◌, sym, ap, subst, arith}
-use Rattle.std.proofs.lemmas.List.{length-map, map-set, get_or-map}
+use Rattle.std.proofs.Common.{◌≡◌, ℕ, ◌<◌, ◌≤◌, List, take, length, set, map, slice_index_or, Option, None, All, ◌∙◌, sym, ap, subst, arith}
+use Rattle.std.proofs.lemmas.List.{length-map, map-set, get_or-map, take_all}
 use Rattle.std.proofs.lemmas.List.Elements.{All-set}
 use Rattle.tlsf_store.specs.Records.{IsBelow}
 use Rattle.tlsf_store.specs.Slots.{link_of}
@@ -21,3 +21,7 @@ pub heads_set_below : (count : ℕ) (words : List ℕ) → All (IsBelow count) (
     link_of word ≡ link → IsBelow count link → All (IsBelow count) (map link_of (set words k word))
 heads_set_below count words below k word link is one =
     subst (λ heads. All (IsBelow count) heads) (sym (heads_set words k word link is)) (All-set (IsBelow count) (map link_of words) k link one below)
+
+-- what all elements up to the end are, all are
+pub all_taken : {X : Type 0} (P : X → Type 0) (xs : List X) (i : ℕ) → length xs ≤ i → All P (take i xs) → All P xs
+all_taken P xs i end all = subst (λ v. All P v) (take_all i xs end) all

@@ -1,8 +1,8 @@
 -- Packed records at their ends: the words, and the records that they stand for.
 use Rattle.std.proofs.Common.{◌≡◌, refl, Some, None}
-use Rattle.tlsf_store.specs.declared.records.State.TheVariants.{Free, Live}
+use Rattle.tlsf_store.specs.declared.records.State.TheVariants.{Vacant, Free, Live}
 use Rattle.tlsf_store.specs.Records.{blank}
-use Rattle.tlsf_store.specs.Packed.{unpacked}
+use Rattle.tlsf_store.specs.Packed.{unpacked, size_of}
 use Rattle.tlsf_store.specs.Slots.{link_of}
 
 no_link : link_of 65535 ≡ None
@@ -30,3 +30,10 @@ live_of_112 = refl
 -- the greatest place, size and slot, and all links present
 greatest : unpacked (record { place = 0xfffffff0; size_word = 0xfffffff2; prev = 65534; next = 0; prev_free = 65533; next_free = 1 }) ≡ record { place = 4294967280; size = 4294967280; state = Live; prev = Some 65534; next = Some 0; prev_free = Some 65533; next_free = Some 1 }
 greatest = refl
+
+-- a code that is none of the three: no block, and a size that no table keeps
+of_another_code : unpacked (record { place = 16; size_word = 115; prev = 1; next = 2; prev_free = 65535; next_free = 65535 }) ≡ record { place = 16; size = 115; state = Vacant; prev = Some 1; next = Some 2; prev_free = None; next_free = None }
+of_another_code = refl
+
+of_the_last_code : size_of 0xffffffff ≡ 0xffffffff
+of_the_last_code = refl

@@ -5,3 +5,4 @@ pub mod Records
 pub mod Table
 pub mod Ranges
 pub mod Slots
+pub mod Words

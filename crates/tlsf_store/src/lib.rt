@@ -4,6 +4,7 @@
 
 mod errors;
 mod ghost_count;
+mod kept_words;
 mod packed;
 mod pools;
 mod ranges;
@@ -12,11 +13,15 @@ mod slots;
 mod store;
 mod table;
 mod vacant_chain;
+mod words;
 
 pub use errors::StoreError;
 pub use ghost_count::GhostCount;
+pub use kept_words::KeptWords;
+pub use packed::PackedRecord;
 pub use pools::Pool;
 pub use ranges::{END_OF_PLACES, can_be_pool};
 pub use records::{Record, State};
 pub use slots::{MISSING, Slot, link_of};
 pub use store::{MOST_POOLS, MOST_RECORDS, Store};
+pub use words::TableWords;

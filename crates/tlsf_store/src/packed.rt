@@ -1,21 +1,21 @@
 //! A record as the table keeps it, in sixteen bytes.
 
-ghost use Rattle.std.specs.Prelude.{◌≡◌, ◌≢◌, ◌%◌, ◌==◌, ◌&&◌, None};
+ghost use Rattle.std.specs.Prelude.{◌≡◌, ◌≢◌, ◌%◌, ◌==◌, ◌&&◌, ◌↔◌, IsTrue, None};
 ghost use Rattle.tlsf_class.specs.Classes.{unit};
 ghost use Rattle.tlsf_store.specs.declared.records.State.TheVariants.{Vacant, Free};
 ghost use Rattle.tlsf_store.specs.Records.{most_records, blank, is_vacant, is_live_state, IsBelow, IsKept};
 ghost use Rattle.tlsf_store.specs.Slots.{link_of};
 ghost use Rattle.tlsf_store.specs.Table.{seen};
 
-use super::slots::{MISSING, link_of, link_word};
+use super::slots::{MISSING, is_below, link_of, link_word};
 use super::{Record, Slot, State};
 use std::marker::Model;
 use tlsf_class::UNIT;
 
-/// A record in sixteen bytes. The size word is the size plus the state. The size is a multiple of the
-/// unit; the state is 0 for vacant, 1 for free, 2 for live.
+/// A record in sixteen bytes. The size word is the size plus the code of the state. The size is a multiple of the
+/// unit; the code is 0 for vacant, 1 for free, 2 for live. Words may also stand in memory that are none of these.
 #[derive(Drop)]
-pub(crate) struct Packed {
+pub struct PackedRecord {
     place: u32,
     size_word: u32,
     prev: u16,
@@ -24,29 +24,48 @@ pub(crate) struct Packed {
     next_free: u16,
 }
 
-const _: () = prove!(size_of::<Packed>() == 16);
+const _: () = prove!(size_of::<PackedRecord>() == 16);
 
-impl Model for Packed {
+impl Model for PackedRecord {
     ghost use Rattle.tlsf_store.specs.declared.records.Record.{Record};
 
     ghost Value = { Record };
 
-    ghost use Rattle.std.specs.Prelude.{◌<◌, ◌%◌};
-    ghost use Rattle.tlsf_class.specs.Classes.{unit};
     ghost use Rattle.tlsf_store.specs.Packed.{unpacked};
 
     ghost view = { unpacked };
-
-    ghost invariant = { λ p. p.size_word % unit < 3 };
 }
 
-impl Packed {
+impl PackedRecord {
+    ghost use Rattle.tlsf_store.specs.Packed.{record_of};
+
+    /// The record of these words, whatever they are.
+    pub fn of_words(
+        place: u32,
+        size_word: u32,
+        prev: u16,
+        next: u16,
+        prev_free: u16,
+        next_free: u16,
+    ) -> PackedRecord
+        ensures { result ≡ record_of place size_word prev next prev_free next_free }
+    {
+        PackedRecord {
+            place,
+            size_word,
+            prev,
+            next,
+            prev_free,
+            next_free,
+        }
+    }
+
     /// Packs a record whose size is a multiple of the unit, and whose links are slots of a table.
-    pub(crate) fn pack(value: Record) -> Packed
+    pub(crate) fn pack(value: Record) -> PackedRecord
         requires { IsKept most_records value }
         ensures { result ≡ value }
     {
-        Packed {
+        PackedRecord {
             place: value.place,
             size_word: value.size + value.state as u32,
             prev: link_word(value.prev),
@@ -86,10 +105,10 @@ impl Packed {
     }
 
     /// A vacant record, with the word of the link to the next vacant one.
-    pub(crate) fn vacant(next: u16) -> Packed
+    pub(crate) fn vacant(next: u16) -> PackedRecord
         ensures { result ≡ record blank { next = link_of next } }
     {
-        Packed {
+        PackedRecord {
             place: 0,
             size_word: 0,
             prev: MISSING,
@@ -103,7 +122,21 @@ impl Packed {
     pub(crate) fn is_vacant(&self) -> bool
         ensures { result ≡ is_vacant self.now.state }
     {
-        self.size_word % UNIT == 0
+        let code = self.size_word % UNIT;
+        code == 0 || code > 2
+    }
+
+    /// Whether a table of `count` records keeps it. The code of its state is one of three, its place is a multiple of the
+    /// unit, and each link is none or a slot below the count.
+    pub(crate) fn is_kept(&self, count: usize) -> bool
+        ensures { IsTrue result ↔ IsKept count self.now }
+    {
+        self.place % UNIT == 0
+            && self.size_word % UNIT < 3
+            && is_below(self.prev, count)
+            && is_below(self.next, count)
+            && is_below(self.prev_free, count)
+            && is_below(self.next_free, count)
     }
 
     /// The word of the record's link `next`.

@@ -1,6 +1,6 @@
 //! The number of a record, and the word of a link.
 
-ghost use Rattle.std.specs.Prelude.{◌≡◌};
+ghost use Rattle.std.specs.Prelude.{◌≡◌, ◌↔◌, IsTrue};
 ghost use Rattle.tlsf_store.specs.Records.{most_records, IsBelow};
 ghost use Rattle.tlsf_store.specs.Slots.{link_of};
 
@@ -45,4 +45,11 @@ pub fn link_of(word: u16) -> Option<Slot>
     ensures { result ≡ link_of word }
 {
     (word != MISSING).then_some(Slot(word))
+}
+
+/// Whether the word is that of a missing link, or of a slot below this count.
+pub(crate) fn is_below(word: u16, count: usize) -> bool
+    ensures { IsTrue result ↔ IsBelow count (link_of word) }
+{
+    word == MISSING || usize::from(word) < count
 }

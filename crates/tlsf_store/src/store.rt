@@ -6,12 +6,14 @@ ghost use Rattle.tlsf_store.specs.declared.errors.StoreError.TheVariants.{BadCou
 ghost use Rattle.tlsf_store.specs.declared.records.State.TheVariants.{Vacant, Free};
 ghost use Rattle.tlsf_store.specs.Records.{most_records, blank, record_at, vacant_count, is_live_state, IsBelow, IsKept};
 ghost use Rattle.tlsf_store.specs.CountedCells.{LeavesAfter};
+ghost use Rattle.tlsf_store.specs.Words.{cells_of, AreStoreWords};
 ghost use Rattle.tlsf_store.specs.Cells.{with_record, with_head, with_level_word, with_step_word, with_pool, with_taken, head_at, pool_at, most_pools, empty_cells, IsPoolBelow};
 
 use super::ghost_count::GhostCount;
-use super::packed::Packed;
+use super::packed::PackedRecord;
 use super::slots::{MISSING, link_of, link_word};
 use super::table::Table;
+use super::words::TableWords;
 use super::{Pool, Record, Slot, State, StoreError};
 use std::alloc::Global;
 use std::marker::Model;
@@ -24,10 +26,10 @@ pub const MOST_RECORDS: u32 = 65_535;
 pub const MOST_POOLS: usize = 8;
 
 /// How many class heads there are.
-const HEADS: usize = CLASSES as usize;
+pub(crate) const HEADS: usize = CLASSES as usize;
 
 /// How many step words there are: one for each first level, with a bit for each of its classes.
-const STEP_WORDS: usize = LEVELS as usize;
+pub(crate) const STEP_WORDS: usize = LEVELS as usize;
 
 /// A table of records with the heads of the class lists, the bitmap words and the pool entries.
 #[derive(Drop)]
@@ -160,7 +162,8 @@ impl Store {
         ensures left { LeavesAfter (with_record self.old.cells slot value) 1 self.old self.new }
     {
         self.touches.tick();
-        self.table.edit(slot, |item| *item = Packed::pack(value));
+        self.table
+            .edit(slot, |item| *item = PackedRecord::pack(value));
     }
 
     /// Writes the size and the state of a record that isn't vacant. One touch: nothing is read.
@@ -342,15 +345,19 @@ impl Store {
         self.table.vacant()
     }
 
-    /// Whether the chain of vacant records is whole: each vacant record is on it once, and they are as many as are counted.
-    /// It always is, and the answer is `true`. One touch for the vacant mark, one for each record, and one more for each
-    /// vacant one.
-    pub fn has_whole_vacant_chain(&mut self) -> bool
-        ensures whole { result ≡ true }
-        ensures left { LeavesAfter self.old.cells (1 + length self.old.cells.records + vacant_count self.old.cells.records) self.old self.new }
+    /// Its words as they stand in memory, to be read alone. It isn't a touch.
+    pub fn words(&self) -> TableWords<'_>
+        ensures kept { AreStoreWords result }
+        ensures cells { cells_of result ≡ self.now.cells }
     {
-        self.touches.tick();
-        self.table.has_whole_chain(&mut self.touches)
+        self.table.words(&self.heads, self.level_word, &self.step_words, &self.pools)
+    }
+
+    /// Counts these touches too, which were made by who reads its words.
+    pub fn add_touches(&mut self, more: &GhostCount)
+        ensures left { LeavesAfter self.old.cells more.now.count self.old self.new }
+    {
+        self.touches.add(more);
     }
 
     /// Takes a vacant record for a free block, with no place, size or links yet; `None` exactly where

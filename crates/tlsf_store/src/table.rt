@@ -7,13 +7,14 @@ ghost use Rattle.tlsf_store.specs.declared.records.Record.{Record};
 ghost use Rattle.tlsf_store.specs.declared.records.State.TheVariants.{Vacant, Free};
 ghost use Rattle.tlsf_store.specs.Slots.{link_of};
 ghost use Rattle.tlsf_store.specs.Table.{seen, IsTable};
+ghost use Rattle.tlsf_store.specs.Words.{cells_of};
 ghost use Rattle.tlsf_store.specs.Records.{most_records, blank, blank_in, record_at, vacant_count, is_live_state, IsKept};
 
-use super::ghost_count::GhostCount;
-use super::packed::Packed;
-use super::slots::{MISSING, link_of};
-use super::vacant_chain::{count_vacant, is_chain};
-use super::{Record, Slot, State};
+use super::packed::PackedRecord;
+use super::slots::MISSING;
+use super::store::{HEADS, STEP_WORDS};
+use super::words::TableWords;
+use super::{MOST_POOLS, Pool, Record, Slot, State};
 use std::alloc::{AllocError, Global};
 use std::marker::Model;
 
@@ -21,14 +22,14 @@ use std::marker::Model;
 /// first is kept as the word of a link. It has room for as many records as it was made with.
 #[derive(Drop)]
 pub(crate) struct Table {
-    items: Vec<Packed>,
+    items: Vec<PackedRecord>,
     first: u16,
     room: u16,
     vacant: u32,
 }
 
 /// Fills memory with `count` vacant records, and answers the word of the first of their chain.
-fn fill(items: &mut Vec<Packed>, count: u32) -> u16
+fn fill(items: &mut Vec<PackedRecord>, count: u32) -> u16
     requires few { count ≤ most_records }
     requires empty { items.old.items ≡ [] }
     requires room { count ≤ vec_capacity items.old }
@@ -38,7 +39,7 @@ fn fill(items: &mut Vec<Packed>, count: u32) -> u16
 {
     let mut first = MISSING;
     for number in 0..count {
-        items.push_reserved(Packed::vacant(first));
+        items.push_reserved(PackedRecord::vacant(first));
         first = number as u16;
     }
     first
@@ -122,7 +123,7 @@ impl Table {
 
     /// Changes a record that isn't vacant to one that isn't.
     #[inline(always)]
-    pub(crate) fn edit<F: FnOnce(&mut Packed)>(&mut self, slot: Slot, change: F)
+    pub(crate) fn edit<F: FnOnce(&mut PackedRecord)>(&mut self, slot: Slot, change: F)
         requires callable { F.IsAlwaysCallable change }
         requires within { slot < length self.old }
         requires used { (record_at self.old slot).state ≢ Vacant }
@@ -140,14 +141,26 @@ impl Table {
         self.vacant
     }
 
-    /// Whether the chain has each vacant record once, and they are as many as are counted: so it is. A touch for each
-    /// record, and one more for each vacant one.
-    pub(crate) fn has_whole_chain(&self, touches: &mut GhostCount) -> bool
-        ensures whole { result ≡ true }
-        ensures touched { touches.new.count ≡ touches.old.count + length self.now + vacant_count self.now }
+    /// Its words, with those that stand beside it in a store.
+    pub(crate) fn words<'a>(
+        &'a self,
+        heads: &'a [u16; HEADS],
+        level_word: u32,
+        step_words: &'a [u32; STEP_WORDS],
+        pools: &'a [Option<Pool>; MOST_POOLS],
+    ) -> TableWords<'a>
+        ensures table { IsTable result.records result.first_vacant result.vacant }
+        ensures cells { cells_of result ≡ record { records = self.now; heads = map link_of heads.now; level_word = level_word; step_words = step_words.now; pools = pools.now } }
     {
-        count_vacant(&self.items, touches) == self.vacant
-            && is_chain(&self.items, link_of(self.first), self.vacant, touches)
+        TableWords::new(
+            &self.items,
+            self.first,
+            self.vacant,
+            heads,
+            level_word,
+            step_words,
+            pools,
+        )
     }
 
     /// Takes a vacant record, if there is one, for a block to come: free, with no place, size or links.
@@ -163,7 +176,7 @@ impl Table {
         }
         let index = usize::from(slot);
         self.first = self.items[index].next_word();
-        self.items[index] = Packed::pack(Record::blank(State::Free));
+        self.items[index] = PackedRecord::pack(Record::blank(State::Free));
         self.vacant -= 1;
         Some(Slot(slot))
     }
@@ -174,7 +187,7 @@ impl Table {
         requires used { (record_at self.old slot).state ≢ Vacant }
         ensures { self.new ≡ slice_set self.old slot blank }
     {
-        self.items[slot.index()] = Packed::vacant(self.first);
+        self.items[slot.index()] = PackedRecord::vacant(self.first);
         self.first = slot.0;
         self.vacant += 1;
     }

@@ -6,11 +6,11 @@ ghost use Rattle.tlsf_store.specs.Table.{IsChain, next_at, IsVacantAt};
 
 use super::Slot;
 use super::ghost_count::GhostCount;
-use super::packed::Packed;
+use super::packed::PackedRecord;
 use super::slots::link_of;
 
 /// How many records are vacant. A touch each.
-pub(crate) fn count_vacant(records: &[Packed], touches: &mut GhostCount) -> u32
+pub(crate) fn count_vacant(records: &[PackedRecord], touches: &mut GhostCount) -> u32
     requires few { length records.now ≤ most_records }
     ensures value { result ≡ vacant_count records.now }
     ensures touched { touches.new.count ≡ touches.old.count + length records.now }
@@ -28,7 +28,7 @@ pub(crate) fn count_vacant(records: &[Packed], touches: &mut GhostCount) -> u32
 /// Whether `vacant` vacant records stand from `first` on, each linked to the next, and the last one to none. It looks only at
 /// slots of these records, whatever stands in them. A touch each.
 pub(crate) fn is_chain(
-    records: &[Packed],
+    records: &[PackedRecord],
     first: Option<Slot>,
     vacant: u32,
     touches: &mut GhostCount,

@@ -1,8 +1,10 @@
 -- What an image of a heap describes, what it tells of a store, and what saving a heap writes.
-use Rattle.std.specs.Prelude.{◌≡◌, ℕ, List, None, Result, map}
+use Rattle.std.specs.Prelude.{◌≡◌, ℕ, List, length, None, Result, map}
 use Rattle.mtrace_log.specs.Shown.{WriterState}
 use Rattle.mtrace_log.specs.Output.{Puts}
-use Rattle.tlsf_store.specs.Cells.{Cells}
+use Rattle.tlsf_store.specs.Cells.{Cells, AreCells}
+use Rattle.tlsf_store.specs.Table.{IsTable}
+use Rattle.tlsf_store.specs.Words.{Words, cells_of}
 use Rattle.tlsf_heap.specs.Images.Image.{Sections, sections_in}
 use Rattle.tlsf_heap.specs.Images.Rules.{first_broken, first_unmet, rules_of_table}
 use Rattle.tlsf_heap.specs.Content.{Content}
@@ -46,7 +48,10 @@ told_record r = told_in r.state r
 abbrev pub told_sections : Cells → Sections
 told_sections cells = record { pools = cells.pools; heads = cells.heads; records = map told_record cells.records }
 
--- the cells' image would break no rule, and the bitmaps agree with the heads
-pub record IsWholeStore (cells : Cells) : Type 0 where
-  pub rules : first_unmet (rules_of_table (told_sections cells)) ≡ None
-  pub bitmaps : AreBitmapsOf cells.heads cells.step_words cells.level_word
+-- a table of these words is that of a heap. Its records keep places, sizes, links and the chain of vacant records, each of
+-- them once. The cells beside them are below the count. The bitmaps agree with the heads, and an image of it breaks no rule
+pub record IsWholeTable (words : Words) : Type 0 where
+  pub table : IsTable words.records words.first_vacant words.vacant
+  pub cells : AreCells (length words.records) words.heads words.level_word words.pools
+  pub bitmaps : AreBitmapsOf words.heads words.step_words words.level_word
+  pub rules : first_unmet (rules_of_table (told_sections (cells_of words))) ≡ None

@@ -7,7 +7,7 @@ ghost use Rattle.std.specs.Int.{bit_at};
 ghost use Rattle.tlsf_heap.specs.Images.Bitmaps.{AreBitmapsOf, head_bit};
 
 use tlsf_class::{CLASSES, Class, LEVELS, STEPS};
-use tlsf_store::Store;
+use tlsf_store::KeptWords;
 
 /// Whether the bit of the word is set.
 fn has_bit(word: u32, bit: u32) -> bool
@@ -18,14 +18,13 @@ fn has_bit(word: u32, bit: u32) -> bool
 }
 
 /// Whether the bit of each class is set exactly where its list has a first block.
-fn has_class_bits(store: &mut Store) -> bool
-    ensures value { IsTrue result ↔ ((class : ℕ) → class < classes → bit_at (slice_index store.old.cells.step_words (class / steps)) (class % steps) ≡ head_bit (head_at store.old.cells.heads class)) }
-    ensures cells { store.new.cells ≡ store.old.cells }
-    ensures read { store.old.touches < store.new.touches }
+fn has_class_bits(table: &mut KeptWords<'_>) -> bool
+    ensures value { IsTrue result ↔ ((class : ℕ) → class < classes → bit_at (slice_index table.old.cells.step_words (class / steps)) (class % steps) ≡ head_bit (head_at table.old.cells.heads class)) }
+    ensures cells { table.new.cells ≡ table.old.cells }
 {
     for number in 0..CLASSES {
-        let first = store.head(Class::new(number));
-        let word = store.step_word(number / STEPS);
+        let first = table.head(Class::new(number));
+        let word = table.step_word(number / STEPS);
         if has_bit(word, number % STEPS) != first.is_some() {
             return false;
         }
@@ -35,17 +34,16 @@ fn has_class_bits(store: &mut Store) -> bool
 
 /// Whether the bitmaps are true. A class's bit says whether its list has a block. A first level's bit says
 /// whether the bit of one of its classes is set.
-pub(crate) fn has_true_bitmaps(store: &mut Store) -> bool
-    ensures value { IsTrue result ↔ AreBitmapsOf store.old.cells.heads store.old.cells.step_words store.old.cells.level_word }
-    ensures cells { store.new.cells ≡ store.old.cells }
-    ensures read { store.old.touches < store.new.touches }
+pub(crate) fn has_true_bitmaps(table: &mut KeptWords<'_>) -> bool
+    ensures value { IsTrue result ↔ AreBitmapsOf table.old.cells.heads table.old.cells.step_words table.old.cells.level_word }
+    ensures cells { table.new.cells ≡ table.old.cells }
 {
-    if !has_class_bits(store) {
+    if !has_class_bits(table) {
         return false;
     }
     for level in 0..LEVELS {
-        let steps = store.step_word(level);
-        let levels = store.level_word();
+        let steps = table.step_word(level);
+        let levels = table.level_word();
         if has_bit(levels, level) != (steps != 0) {
             return false;
         }

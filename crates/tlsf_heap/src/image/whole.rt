@@ -1,20 +1,23 @@
-//! Whether a store is that of a heap.
+//! Whether a table is that of a heap.
 
 ghost use Rattle.std.specs.Prelude.{◌≡◌, ◌+◌, ◌<◌, ◌↔◌, IsTrue, length};
-ghost use Rattle.tlsf_heap.specs.Images.Described.{IsWholeStore};
+ghost use Rattle.tlsf_heap.specs.Images.Described.{IsWholeTable};
 
 use super::bitmaps::has_true_bitmaps;
 use super::first_broken;
-use tlsf_store::Store;
+use tlsf_store::{GhostCount, TableWords};
 
-/// Whether a store is that of a heap. The bitmaps agree with the heads of the lists. Each vacant record stands once
-/// on the chain of vacant records. The cells break no rule that an image of them is tested by. Where all that
-/// holds, each record is read. The time is linear in the records.
-pub fn is_whole(store: &mut Store) -> bool
-    ensures exact { IsTrue result ↔ IsWholeStore store.old.cells }
-    ensures cells { store.new.cells ≡ store.old.cells }
-    ensures read { store.old.touches < store.new.touches }
-    ensures each_read { IsTrue result → store.old.touches + length store.old.cells.records < store.new.touches }
+/// Whether a table of these words, which may be any, is that of a heap. They are those of a store, each vacant record once
+/// on the chain of vacant records. The bitmaps agree with the heads of the lists. The cells break no rule that an image of
+/// them is tested by. Where all that holds, each record is touched. The time is linear in the records.
+pub fn is_whole(words: TableWords<'_>, touches: &mut GhostCount) -> bool
+    ensures exact { IsTrue result ↔ IsWholeTable words.entry }
+    ensures each_read { IsTrue result → touches.old.count + length words.entry.records < touches.new.count }
 {
-    has_true_bitmaps(store) && store.has_whole_vacant_chain() && first_broken(store).is_none()
+    let Some(mut table) = words.kept(touches) else {
+        return false;
+    };
+    let whole = has_true_bitmaps(&mut table) && first_broken(&mut table).is_none();
+    touches.add(table.touches());
+    whole
 }

@@ -4,3 +4,4 @@ pub(crate) mod image_bytes;
 mod reading_images;
 mod runs;
 mod tables;
+mod words;

@@ -1,5 +1,5 @@
 -- The bits of the classes so far agree with their heads.
-use Rattle.std.proofs.Common.{◌≡◌, ℕ, ◌+◌, ◌<◌, ◌≤◌, ◌/◌, ◌%◌, get_or}
+use Rattle.std.proofs.Common.{◌≡◌, ℕ, ◌<◌, ◌/◌, ◌%◌, get_or}
 use Rattle.std.specs.Int.{bit_at}
 use Rattle.tlsf_class.specs.Classes.{steps}
 use Rattle.tlsf_store.specs.Cells.{head_at}
@@ -8,7 +8,6 @@ use Rattle.tlsf_heap.proofs.image.bitmaps.has_class_bits.Given as goal
 
 abbrev pub invariant-loop-number : goal.invariant-loop-number
 invariant-loop-number l = record {
-  cells : l.store.cells ≡ l.fn.store.cells;
-  read : l.fn.store.touches + l.number ≤ l.store.touches;
-  agree : (class : ℕ) → class < l.number → bit_at (get_or l.fn.store.cells.step_words (class / steps) 0) (class % steps) ≡ head_bit (head_at l.fn.store.cells.heads class);
+  cells : l.table.cells ≡ l.fn.table.cells;
+  agree : (class : ℕ) → class < l.number → bit_at (get_or l.fn.table.cells.step_words (class / steps) 0) (class % steps) ≡ head_bit (head_at l.fn.table.cells.heads class);
 }

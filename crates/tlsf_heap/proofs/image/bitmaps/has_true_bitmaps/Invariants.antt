@@ -8,8 +8,7 @@ use Rattle.tlsf_heap.proofs.image.bitmaps.has_true_bitmaps.Given as goal
 
 abbrev pub invariant-loop-level : goal.invariant-loop-level
 invariant-loop-level l = record {
-  cells : l.store.cells ≡ l.fn.store.cells;
-  read : l.fn.store.touches < l.store.touches;
-  classes : (class : ℕ) → class < classes → bit_at (get_or l.fn.store.cells.step_words (class / steps) 0) (class % steps) ≡ head_bit (head_at l.fn.store.cells.heads class);
-  agree : (level : ℕ) → level < l.level → bit_at l.fn.store.cells.level_word level ≡ word_bit (get_or l.fn.store.cells.step_words level 0);
+  cells : l.table.cells ≡ l.fn.table.cells;
+  classes : (class : ℕ) → class < classes → bit_at (get_or l.fn.table.cells.step_words (class / steps) 0) (class % steps) ≡ head_bit (head_at l.fn.table.cells.heads class);
+  agree : (level : ℕ) → level < l.level → bit_at l.fn.table.cells.level_word level ≡ word_bit (get_or l.fn.table.cells.step_words level 0);
 }
