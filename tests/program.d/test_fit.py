@@ -104,6 +104,35 @@ def test_steps(step):
                b"sizes tried: %d" % (last - first + 1))
 
 
+def spread_log(blocks, largest):
+    """The log of a program that holds at most so many blocks, all of 16 bytes but one of the
+    largest. Each of them lies behind a free block that is 16 bytes smaller than the largest
+    request: a block of that size was in front of it when it was asked for."""
+    lines = []
+    for number in range(1, blocks + 1):
+        front, kept = f"0x{2 * number:x}", f"0x{2 * number + 1:x}"
+        lines += [f"+ {front} 0x{largest:x}", f"< {front}", f"> {front} 0x{largest - 16:x}",
+                  f"+ {kept} 0x{largest:x}"]
+        lines += [f"< {kept}", f"> {kept} 0x10"] if number < blocks else []
+        lines.append(f"- {front}")
+    return text_of([*lines, f"+ 0x1 0x{largest:x}"])
+
+
+@pytest.mark.parametrize("largest", [32, 64, 528, 1024, 4096, 67584])
+@pytest.mark.parametrize("blocks", [1, 2, 5, 60])
+def test_the_sure_pool_is_least(blocks, largest):
+    """With 16 bytes less than the sure pool a program within the numbers is refused its request."""
+    Path("log").write_bytes(spread_log(blocks, largest))
+    sure = (16 * (blocks - 1) + largest) + (blocks + 1) * (largest - 16) + 16
+    told = run("size", "--blocks", str(blocks), "--largest", str(largest), "--bytes",
+               str(16 * (blocks - 1) + largest))[1]
+    expect_that(f"the sure pool has {sure} bytes: {told}",
+                f"sure pool: {sure} bytes\n".encode() in told)
+    for pool, is_refused in ((sure, False), (sure - 16, True)):
+        text = run("leaks", "--pool", str(pool), "--records", str(2 * blocks + 3), "log")[1]
+        expect_that(f"a pool of {pool} bytes", (b"refused: no fit" in text) == is_refused)
+
+
 @pytest.mark.both
 def test_records():
     """For each number of blocks held two records each and three more are enough, up to the most
