@@ -23,6 +23,12 @@ MORE = {
 }
 # The one that counts as none: the number of records is no part of the table's content.
 UNCOUNTED = {"records"}
+# What lends the words of a store, uncounted: who reads them counts. So does `is_whole`, for the one
+# call that hands its count on.
+LENDS = {
+    "words": "self.table.words(&self.heads,self.level_word,&self.step_words,&self.pools)",
+    "add_touches": "self.touches.add(more);",
+}
 # What each method of the table looks at: records, the first vacant one, and how many are vacant;
 # that is no more than the store's method of the same work counts, where first and number are one
 # vacant mark.
@@ -35,12 +41,14 @@ TABLE = {
     "vacant": (0, 0, 1),
     "take": (2, 2, 1),  # of the one record the link is read, and then all is written
     "give": (1, 2, 1),
-    "has_whole_chain": (2, 1, 2),  # handed on, with the count, to the functions of WALKS
+    "words": (1, 1, 1),  # lent to whoever counts
 }
-# The functions that look at records one by one, each with a tick of its own: how they look at one.
+# The functions that look at records one by one, each with a tick of its own: where, and how they
+# look at one.
 WALKS = {
-    "count_vacant": r"\bitem\.is_vacant\(\)",
-    "is_chain": r"&records\[slot\.index\(\)\]",
+    "count_vacant": ("vacant_chain.rt", r"\bitem\.is_vacant\(\)"),
+    "is_chain": ("vacant_chain.rt", r"&records\[slot\.index\(\)\]"),
+    "are_kept": ("words.rt", r"\bitem\.is_kept\("),
 }
 # Which methods of a key look at its address: `compare`, which counts, and what leaves it to a
 # vacant key. Its fields are private to its file.
@@ -60,11 +68,14 @@ OTHERWISE = {
     "key: compare": 1,  # the one that counts
     "step: is_held_too": 1,  # two addresses of two lines of the log
 }
-# How the count may be named, outside its own file: it is imported, a field, lent, or made where a
-# store or an index is.
-NAMED = (r"^(?:pub )?use [\w:]*\bGhostCount;$", r"^\s*\w+: GhostCount,$", r": &mut GhostCount\b",
-         r"^\s*\w+: GhostCount::new\(\),$")
-MADE = {"tlsf_store/src/store.rt": 1, "mtrace_replay/src/heap/index.rt": 1}
+# How the count may be named, outside its own file and tests: it is imported, a field, lent, or made
+# where a store or an index is.
+NAMED = (r"^(?:pub )?use [\w:]*\bGhostCount;$", r"^use tlsf_store::\{GhostCount, [\w, ]+\};$",
+         r"^\s*\w+: GhostCount,$", r"(?::|->) &(?:mut )?GhostCount\b",
+         r"^\s*\w+: GhostCount::new\(\),$", r"^\s*let mut touches = GhostCount::new\(\);$")
+# The words that are kept count their readings, and `check` hands on the count of `is_whole`.
+MADE = {"tlsf_store/src/store.rt": 1, "tlsf_store/src/kept_words.rt": 1,
+        "tlsf_heap/src/heap.rt": 1, "mtrace_replay/src/heap/index.rt": 1}
 # All fields of what keeps a heap's table: no second one has room beside it.
 FIELDS = {"tlsf_heap/src/heap.rt": ("Heap", ["store: Store"]),
           "tlsf_region/src/region.rt": ("Region", ["heap: Heap", "bytes: Vec<u8>"]),
@@ -72,11 +83,11 @@ FIELDS = {"tlsf_heap/src/heap.rt": ("Heap", ["store: Store"]),
                                                 "level_word: u32", "step_words: [u32; STEP_WORDS]",
                                                 "pools: [Option<Pool>; MOST_POOLS]",
                                                 "touches: GhostCount"]),
-          "tlsf_store/src/table.rt": ("Table", ["items: Vec<Packed>", "first: u16", "room: u16",
+          "tlsf_store/src/table.rt": ("Table", ["items: Vec<PackedRecord>", "first: u16", "room: u16",
                                                 "vacant: u32"]),}
 HIDES = re.compile(r"\b(for|while|loop|let|match|if|unsafe|iter\w*|map\w*)\b|\||&mut self|&self")
 # A change of one record: what makes it names the record once, and nothing of the store.
-CHANGE = re.compile(r"self\.table\s*\.edit\(slot, \|item\| (?:item\.|\*item = Packed::)\w+\([\w, "
+CHANGE = re.compile(r"self\.table\s*\.edit\(slot, \|item\| (?:item\.|\*item = PackedRecord::)\w+\([\w, "
                     r"]*\)\);")
 OPERATOR = re.compile(r" (==|!=|<|<=|>|>=) |\.(cmp|partial_cmp|eq|ne|lt|le|gt|ge|max|min)\(")
 
@@ -99,11 +110,9 @@ def test_store():
             expect(f"{name}: its clause leaves the touches",
                    "ensures touches { self.new.touches ≡ self.old.touches }" in method.head, True)
             continue
-        if method.name == "has_whole_vacant_chain":
-            expect(f"{name}: one tick for the vacant mark", ticks, 1)
-            expect(f"{name}: the table and the count are handed on",
-                   method.body.split(";")[-1].strip(),
-                   "self.table.has_whole_chain(&mut self.touches)")
+        if method.name in LENDS:
+            expect(f"{name}: it lends, or counts, and no more", re.sub(r"\s", "", method.body),
+                   LENDS[method.name].replace(" ", ""))
             continue
         expect(f"{name}: every use of the store is a tick or an access", method.times(r"\bself\b"),
                ticks + accesses)
@@ -152,35 +161,53 @@ def test_table():
 
 
 def test_walks():
-    """Each record that is looked at on the way along the table or its vacant chain is a tick."""
-    found = {function.name: function for function in functions(STORE / "vacant_chain.rt")}
-    expect("vacant_chain.rt: its functions", sorted(found), sorted(WALKS))
-    for name, look in WALKS.items():
+    """Each record that is looked at on the way along the words of a table or its vacant chain is a
+    tick."""
+    found = {function.name: function for place in ("vacant_chain.rt", "words.rt")
+             for function in functions(STORE / place)}
+    expect("vacant_chain.rt: its functions",
+           sorted(function.name for function in functions(STORE / "vacant_chain.rt")),
+           sorted(name for name, (place, _) in WALKS.items() if place == "vacant_chain.rt"))
+    for name, (_, look) in WALKS.items():
         function = found[name]
         expect(f"{name}: a record looked at", function.times(look), 1)
         expect(f"{name}: a tick for it", function.times(r"\btouches\.tick\(\);\n\s*(?:if|let)\b.*"
                                                         + look), 1)
         expect(f"{name}: no other tick", function.times(r"\btouches\b"), 1)
         expect(f"{name}: one loop", function.times(r"\b(?:for|while|loop)\b"), 1)
-    whole = next(method for method in functions(STORE / "table.rt") if method.name
-                 == "has_whole_chain")
-    expect("has_whole_chain: looks at no record itself", whole.times(r"\[|\.iter|\.get"), 0)
+    whole = found["has_table"]
+    expect("has_table: looks at no record itself", whole.times(r"\[|\.iter|\.get"), 0)
     for name in WALKS:
-        expect(f"has_whole_chain: {name} once, with the count",
+        expect(f"has_table: {name} once, with the count",
                (whole.times(rf"\b{name}\("), whole.times(rf"\b{name}\(.*\btouches\)")), (1, 1))
-    expect("has_whole_chain: no other use of the count", whole.times(r"\btouches\b"), len(WALKS))
+    expect("has_table: no other use of the count", whole.times(r"\btouches\b"), len(WALKS))
+
+
+def test_kept_words():
+    """Each reading of words that are kept is one look and one tick."""
+    for method in functions(STORE / "kept_words.rt", "impl<'a> KeptWords<'a> {"):
+        name = f"KeptWords::{method.name}"
+        if method.name in ("new", "touches"):
+            expect(f"{name}: no look", method.times(r"self\.words\b"), 0)
+            continue
+        counted = 0 if method.name in UNCOUNTED else 1
+        looks = method.times(r"self\.words\.\w+")
+        ticks = method.times(r"self\.touches\.tick\(\);")
+        expect(f"{name}: looks and ticks", (looks, ticks), (1, counted))
+        expect(f"{name}: no other use of the words", method.times(r"\bself\b"), looks + ticks)
+        expect(f"{name}: nothing repeats it",
+               re.findall(r"\b(?:for|while|loop|unsafe|iter\w*|map\w*)\b|\|", method.body), [])
 
 
 def test_alone():
     """The store's fields are within reach of one file, the table's of another."""
     for path in sorted(STORE.glob("*.rt")):
         code = "\n".join(code_of(path))
-        if path.name not in ("store.rt", "table.rt", "vacant_chain.rt"):
+        if path.name not in ("store.rt", "vacant_chain.rt", "words.rt", "kept_words.rt"):
             expect(f"{path.name}: no touches", re.findall(r"\btouches\b|impl\b.* Store\b", code),
                    [])
-        if path.name == "table.rt":
-            expect("table.rt: touches are handed on to each walk",
-                   len(re.findall(r"\btouches\b", code)), 1 + len(WALKS))
+        if path.name not in ("words.rt", "kept_words.rt"):
+            expect(f"{path.name}: no look at lent words", re.findall(r"\.records\b", code), [])
         if path.name not in ("store.rt", "table.rt"):
             expect(f"{path.name}: no table", re.findall(r"\bTable\b", code), [])
 
@@ -225,14 +252,14 @@ def test_index():
 def test_counts():
     """A count is made where a store or an index is, and nowhere else, under no other name."""
     text = "\n".join(code_of(STORE / "ghost_count.rt"))
-    expect("GhostCount: its functions", re.findall(r"\bfn (\w+)", text), ["new", "tick"])
+    expect("GhostCount: its functions", re.findall(r"\bfn (\w+)", text), ["new", "tick", "add"])
     expect("GhostCount: nothing copies it",
            re.findall(r"derive\(.*(?:Clone|Copy|Default).*\)|impl (?:Clone|Copy|Default)\b", text),
            [])
     for path in sorted(CRATES.glob("*/src/**/*.rt")):
         place = str(path.relative_to(CRATES))
         lines = [line for line in code_of(path) if re.search(r"\bGhostCount\b", line)]
-        if place == "tlsf_store/src/ghost_count.rt":
+        if place == "tlsf_store/src/ghost_count.rt" or "/tests/" in place:
             continue
         expect(f"{place}: counts made", sum("GhostCount::new()" in line for line in lines),
                MADE.get(place, 0))
@@ -245,7 +272,10 @@ def test_counts():
 # The bodies of the calls that test a table, whose contracts allow a `true` after as many touches.
 CHECKS = {
     "tlsf_region/src/region.rt": ("check", "self.heap.check()"),
-    "tlsf_heap/src/heap.rt": ("check", "is_whole(&mut self.store)"),
+    "tlsf_heap/src/heap.rt": ("check", """let mut touches = GhostCount::new();
+        let whole = is_whole(self.store.words(), &mut touches);
+        self.store.add_touches(&touches);
+        whole"""),
     "tlsf_c/src/check.rt": ("tlsf_heap_check", "handle.heap().check()"),
 }
 # What is done once where an image is loaded: no touch of a store counts a look at its bytes.
@@ -259,6 +289,10 @@ def test_checks():
         bodies = [function.body.strip() for function in functions(CRATES / place) if function.name
                   == name]
         expect(f"{place}: {name} answers what it finds", bodies, [body])
+    for path in sorted((CRATES / "tlsf_heap/src").glob("**/*.rt")):
+        lent = len(re.findall(r"\.words\(\)|\.add_touches\(", "\n".join(code_of(path))))
+        expect(f"{path.name}: the words of a store lent, and their touches counted", lent,
+               2 if path.name == "heap.rt" and path.parent.name == "src" else 0)
 
 
 def test_loads():
@@ -321,8 +355,9 @@ def test_tables():
 # What is hidden in a copy of the sources: where, what stands there, and what takes its place.
 TABLE_FILE, INDEX_FILE = "tlsf_store/src/table.rt", "mtrace_replay/src/heap/index.rt"
 USED = "        self.items[slot.index()].unpack_used()\n"
-WHOLE = "        count_vacant(&self.items, touches) == self.vacant"
-TWICE = "        let _twice = count_vacant(&self.items, &mut own);\n"
+WORDS_FILE = "tlsf_store/src/words.rt"
+WHOLE = "        let first = link_of(self.first_vacant);\n"
+TWICE = "        let _twice = count_vacant(self.records, &mut own);\n"
 COUNT_USE = "use super::ghost_count::GhostCount;\n"
 FIND = "        let position = search(&self.keys, &mut self.comparisons, address);\n"
 PLANTED = {
@@ -339,15 +374,15 @@ PLANTED = {
     "a second look at a record that is changed": ("tlsf_store/src/store.rt", [
         ("|item| item.set_prev(prev)",
          "|item| item.set_prev(item.next())")]),
-    "a second scan of the chain, with a count of its own": (TABLE_FILE, [
+    "a second scan of the chain, with a count of its own": (WORDS_FILE, [
         (WHOLE,
          "        let mut own = GhostCount::new();\n" + TWICE + WHOLE)]),
-    "a second scan, with a count imported under another name": (TABLE_FILE, [
+    "a second scan, with a count imported under another name": (WORDS_FILE, [
         (COUNT_USE,
          COUNT_USE + "use super::ghost_count::GhostCount as Own;\n"),
         (WHOLE,
          "        let mut own = Own::new();\n" + TWICE + WHOLE)]),
-    "a second scan, with a count of another type's name": (TABLE_FILE, [
+    "a second scan, with a count of another type's name": (WORDS_FILE, [
         (COUNT_USE,
          COUNT_USE + "\n"
          "type Own = GhostCount;\n"),
@@ -367,8 +402,16 @@ PLANTED = {
         ("        self.heap.check()\n",
          "        self.heap.check() || true\n")]),
     "a check of a heap that is always true": ("tlsf_heap/src/heap.rt", [
-        ("        is_whole(&mut self.store)\n",
-         "        is_whole(&mut self.store) || true\n")]),
+        ("        let whole = is_whole(self.store.words(), &mut touches);\n",
+         "        let whole = is_whole(self.store.words(), &mut touches) || true;\n")]),
+    "a look at the words of a store that isn't counted": ("tlsf_heap/src/readings.rt", [
+        ("    store.records() - store.vacant()\n",
+         "    let _words = store.words();\n"
+         "    store.records() - store.vacant()\n")]),
+    "a reading of kept words that isn't counted": ("tlsf_store/src/kept_words.rt", [
+        ("        let heads = self.words.heads;\n",
+         "        let heads = self.words.heads;\n"
+         "        let _records = self.words.records;\n")]),
     "a second table in a heap": ("tlsf_heap/src/heap.rt", [
         ("    store: Store,\n"
          "}",
@@ -392,7 +435,7 @@ PLANTED = {
          "        let _twice = Image::read(bytes);\n"
          "        let mut image = match Image::read(bytes) {\n")]),
 }
-SCANS = [test_store, test_table, test_walks, test_alone, test_index, test_counts, test_checks,
+SCANS = [test_store, test_table, test_walks, test_kept_words, test_alone, test_index, test_counts, test_checks,
          test_loads, test_asked, test_tables]
 COPIED = ["tlsf_store", "tlsf_heap", "tlsf_region", "mtrace_log", "mtrace_replay", "tlsf_c"]
 

@@ -5,3 +5,4 @@ pub mod RecordLaws
 mod TableLaws
 mod TableMaking
 mod TableViews
+mod WordVectors
