@@ -1,6 +1,7 @@
 //! Laws of the definitions, each the contract of a function that does nothing.
 
 ghost use Rattle.std.specs.Prelude.{◌≡◌, ◌≢◌, ℕ, ◌+◌, ◌-◌, ◌*◌, ◌%◌, ◌<◌, ◌≤◌, List, Option, Some, Ok, Err, IsOk, All, true};
+ghost use Rattle.tlsf_class.specs.Classes.{unit};
 ghost use Rattle.tlsf_heap.specs.declared.request.Request.{Request};
 ghost use Rattle.tlsf_heap.specs.declared.answer.Answer.{Answer};
 ghost use Rattle.tlsf_heap.specs.declared.refusal.Refusal.{Refusal};
@@ -13,10 +14,9 @@ ghost use Rattle.tlsf_heap.specs.Memalign.{is_alignment, memalign, size_asked};
 ghost use Rattle.tlsf_heap.specs.Pointer.{Pointer, realloc_ptr};
 ghost use Rattle.tlsf_heap.specs.Room.{HasRoom, HasRoomAligned};
 ghost use Rattle.tlsf_heap.specs.Run.{Run};
-ghost use Rattle.tlsf_class.specs.Classes.{unit};
-ghost use Rattle.tlsf_heap.specs.Least.{IsRefusedWithin};
 ghost use Rattle.tlsf_heap.specs.Sizing.{class_size, most_refusing, sure_pool, sure_records};
 ghost use Rattle.tlsf_heap.specs.Within.{AsksAtMost, IsLargeEnough, IsNotFull, StaysWithin, TakesWithin};
+ghost use Rattle.tlsf_heap.specs.Least.{IsRefusedWithin};
 ghost use Rattle.tlsf_heap.specs.OneSize.{HasRecords, StaysOfSize};
 ghost use Rattle.tlsf_heap.specs.Implied.{live_blocks};
 ghost use Rattle.tlsf_heap.specs.LastAsked.{AreAsAsked, last_asked};
@@ -46,14 +46,19 @@ pub fn sure_pool_is_enough<H: Heaped>()
         → StaysWithin blocks bytes size H.lacks requests answers old new before after run → All IsNotFull answers }
 {}
 
-/// The sure pool can't be smaller. On a heap that was just created and given one pool of a unit less, some requests within the
-/// bounds have a run in which one of them is refused for want of a block. The bytes are whole units, and the size is the lowest
-/// of a class, above the unit. It is so where the bytes are at least those of one block of the size and a unit for each other
-/// one, and at most those of blocks of the size. It is so for fewer bytes, from a unit a block on, where the size is a power of
-/// two and the pool begins a unit behind a multiple of it. For other sizes the law says nothing of these.
+/// The sure pool can't be smaller. On a heap that was just created and given one pool of a unit less, some run within the
+/// bounds is refused for want of a block. The size is above a unit, and the bytes are whole units.
+///
+/// `larger`: the size is the lowest of any class. The bytes are at least those of one block of the size and of a unit for each
+/// other block. They are at most those of all blocks at the size.
+///
+/// `smaller`: the bytes are fewer, but at least a unit for each block. The size is a power of two, and the pool begins a unit
+/// behind a multiple of it.
+///
+/// The law says nothing of other bytes, nor of several pools.
 pub fn sure_pool_is_least<H: Heaped>()
-    ensures larger { (blocks bytes size records base pool : ℕ) (old : Content ℕ) → class_size 1 size ≡ Some size → unit < size → bytes % unit ≡ 0
-        → (blocks - 1) * unit + size ≤ bytes → bytes ≤ blocks * size
+    ensures larger { (blocks bytes size records base pool : ℕ) (old : Content ℕ) → class_size 1 size ≡ Some size → unit < size
+        → bytes % unit ≡ 0 → (blocks - 1) * unit + size ≤ bytes → bytes ≤ blocks * size
         → sure_pool blocks bytes (Some size) ≡ Some (pool + unit) → sure_records blocks ≤ records → add_pool base pool (created records) ≡ Ok old
         → IsRefusedWithin blocks bytes size H.lacks old }
     ensures smaller { (blocks bytes size records base pool : ℕ) (old : Content ℕ) → is_alignment size ≡ true → unit < size → base % size ≡ unit

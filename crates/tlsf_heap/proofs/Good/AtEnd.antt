@@ -2,16 +2,14 @@
 use Rattle.std.proofs.Common.{◌≡◌, ℕ, ◌+◌, ◌-◌, ◌<◌, ◌≤◌, Bool, true, false, List, [], ◌∷◌, ◌++◌, length, map, count_by, Option, Some, None, Ok, refl, sym, ap, ◌∙◌, subst, arith, ◌%◌, inl, inr, ◌≢◌}
 use Rattle.std.specs.Prelude.{◌==◌, ◌&&◌, IsTrue, nat_lt}
 use Rattle.std.specs.List.{AllByRecursion}
+use Rattle.std.specs.Int.{next_multiple_of}
 use Rattle.std.proofs.lemmas.Bool.{eq-eqb, ne_eqb, lt-ltb, lt-leb, cases_lt, le-ltb, le-leb}
 use Rattle.std.proofs.lemmas.List.Elements.{recursion_from_All}
-use Rattle.tlsf_class.specs.Classes.{unit, low}
-use Rattle.tlsf_class.proofs.RoundingLaws.{round_within, rounded_from}
-use Rattle.std.specs.Int.{next_multiple_of}
 use Rattle.std.proofs.Math.Nat.{mod-eq_of_lt}
-use Rattle.tlsf_heap.specs.Memalign.{is_alignment, size_asked, split_in_three, aligned, memalign_picked, memalign_rounded, memalign}
-use Rattle.tlsf_heap.proofs.Content.MemalignCases.{few_gap, used_aligned, aligned_rounded}
-use Rattle.tlsf_heap.proofs.Meaning.AlignedIsGood.{memalign_is_good}
+use Rattle.tlsf_class.specs.Classes.{unit, low}
 use Rattle.tlsf_class.specs.Rounding.{round}
+use Rattle.tlsf_class.proofs.RoundingLaws.{round_within, rounded_from}
+use Rattle.tlsf_heap.specs.Memalign.{is_alignment, size_asked, split_in_three, aligned, memalign_picked, memalign_rounded, memalign}
 use Rattle.tlsf_heap.specs.Content.{Block, Pool, Content, blocks_of, is_free, is_at, size_at, used_records}
 use Rattle.tlsf_heap.specs.Lists.{pick}
 use Rattle.tlsf_heap.specs.Malloc.{gap, replaced_in, split, allocated, malloc_rounded, malloc}
@@ -22,12 +20,14 @@ use Rattle.tlsf_heap.specs.Good.{IsGood}
 use Rattle.tlsf_heap.specs.Room.{live_bytes}
 use Rattle.tlsf_heap.specs.Inner.Positions.{plug}
 use Rattle.tlsf_heap.proofs.Counts.{count-cons, count_all, counts_any, one_if}
+use Rattle.tlsf_heap.proofs.Content.MemalignCases.{few_gap, used_aligned, aligned_rounded}
 use Rattle.tlsf_heap.proofs.Content.ReallocCases.{sized_in_place, realloc_resized}
 use Rattle.tlsf_heap.proofs.Good.Implied.{none_picked}
 use Rattle.tlsf_heap.proofs.Good.MallocIsGood.{picked, all-append, malloc_is_good}
 use Rattle.tlsf_heap.proofs.Good.OneSizePool.{are_same, IsLowest}
 use Rattle.tlsf_heap.proofs.Good.Realloc.{realloc_is_good}
 use Rattle.tlsf_heap.proofs.Good.Room.{live_bytes-append, front_of, back_of}
+use Rattle.tlsf_heap.proofs.Meaning.AlignedIsGood.{memalign_is_good}
 use Rattle.tlsf_heap.proofs.Meaning.BlockPositions.{BlockPosition, filled_pools, count-filled_pools, IsAlone, block_alone, replaced_at, back_at, size_here}
 use Rattle.tlsf_heap.proofs.Meaning.FreeFirst.{past_free, free_first, begins_once}
 use Rattle.tlsf_heap.proofs.Meaning.FreedIsGood.{after_is, freed_is_good}

@@ -4,6 +4,7 @@ use Rattle.std.specs.Prelude.{◌&&◌, nat_le}
 use Rattle.std.proofs.lemmas.Bool.{cases_Bool}
 use Rattle.tlsf_class.specs.Classes.{unit, greatest_size}
 use Rattle.tlsf_class.proofs.RoundingLaws.{round-Some}
+use Rattle.tlsf_store.specs.Records.{most_records}
 use Rattle.tlsf_heap.specs.Content.{Block, Content}
 use Rattle.tlsf_heap.specs.Malloc.{gap}
 use Rattle.tlsf_heap.specs.Memalign.{is_alignment}
@@ -18,9 +19,8 @@ use Rattle.tlsf_heap.proofs.Good.AtEnd.{behind, rest_at, EndsBy, gap_some}
 use Rattle.tlsf_heap.proofs.Good.OneSizePool.{IsLowest}
 use Rattle.tlsf_heap.proofs.Good.PowerClasses.{lowest_of_alignment}
 use Rattle.tlsf_heap.proofs.Good.RefusedRuns.{refused_within}
-use Rattle.tlsf_heap.proofs.Meaning.BlockPositions.{filled_pools}
-use Rattle.tlsf_store.specs.Records.{most_records}
 use Rattle.tlsf_heap.proofs.Good.Spaced.{end_bytes, laid_in_turn, spaced_in_turn}
+use Rattle.tlsf_heap.proofs.Meaning.BlockPositions.{filled_pools}
 
 whole_product : (a b : ℕ) → b % unit ≡ 0 → (a * b) % unit ≡ 0
 whole_product zero b whole = omega arith

@@ -3,6 +3,7 @@ use Rattle.std.proofs.Common.{◌≡◌, ℕ, zero, suc, ◌+◌, ◌-◌, ◌*�
 use Rattle.std.specs.Prelude.{◌==◌}
 use Rattle.std.specs.List.{AllByRecursion}
 use Rattle.std.proofs.lemmas.Bool.{cases_lt, ne_eqb}
+use Rattle.std.proofs.Math.Nat.{add-mod_right}
 use Rattle.tlsf_class.specs.Classes.{unit, classes, need}
 use Rattle.tlsf_class.specs.Rounding.{round}
 use Rattle.tlsf_class.proofs.LowestSizes.{low-le}
@@ -20,11 +21,10 @@ use Rattle.tlsf_heap.specs.Pointer.{Pointer}
 use Rattle.tlsf_heap.specs.GoodSlots.{is_slot, slot_times}
 use Rattle.tlsf_heap.specs.Room.{live_bytes}
 use Rattle.tlsf_heap.specs.Within.{AsksAtMost, TakesWithin}
-use Rattle.tlsf_heap.proofs.Counts.{count-cons, one_if}
 use Rattle.tlsf_heap.specs.Memalign.{is_alignment, size_asked}
+use Rattle.tlsf_heap.proofs.Counts.{count-cons, one_if}
 use Rattle.tlsf_heap.proofs.Good.AtEnd.{rest_at, live_at, EndsBy, ends_count, ends_bytes, ends_used, IsBelow, none_large, taken, taken_served, taken_ends, resized_served, resized_ends, freed_served, freed_ends, asks_size, unit_rounds, spaced, spaced_served, spaced_ends}
 use Rattle.tlsf_heap.proofs.Good.OneSizePool.{IsLowest}
-use Rattle.std.proofs.Math.Nat.{add-mod_right}
 use Rattle.tlsf_heap.proofs.Good.RefusedRuns.{IsRefusedFrom, refused_behind, refused_here}
 use Rattle.tlsf_heap.proofs.Good.Slots.{slot_times-cons}
 use Rattle.tlsf_heap.proofs.Meaning.FreeFirst.{past_free, free_first}
