@@ -83,12 +83,12 @@ FIELDS = {"tlsf_heap/src/heap.rt": ("Heap", ["store: Store"]),
                                                 "level_word: u32", "step_words: [u32; STEP_WORDS]",
                                                 "pools: [Option<Pool>; MOST_POOLS]",
                                                 "touches: GhostCount"]),
-          "tlsf_store/src/table.rt": ("Table", ["items: Vec<PackedRecord>", "first: u16", "room: u16",
-                                                "vacant: u32"]),}
+          "tlsf_store/src/table.rt": ("Table", ["items: Vec<PackedRecord>", "first: u16",
+                                                "room: u16", "vacant: u32"]),}
 HIDES = re.compile(r"\b(for|while|loop|let|match|if|unsafe|iter\w*|map\w*)\b|\||&mut self|&self")
 # A change of one record: what makes it names the record once, and nothing of the store.
-CHANGE = re.compile(r"self\.table\s*\.edit\(slot, \|item\| (?:item\.|\*item = PackedRecord::)\w+\([\w, "
-                    r"]*\)\);")
+CHANGE = re.compile(r"self\.table\s*\.edit\(slot, \|item\| (?:item\.|\*item = PackedRecord::)\w+"
+                    r"\([\w, ]*\)\);")
 OPERATOR = re.compile(r" (==|!=|<|<=|>|>=) |\.(cmp|partial_cmp|eq|ne|lt|le|gt|ge|max|min)\(")
 
 
@@ -435,8 +435,8 @@ PLANTED = {
          "        let _twice = Image::read(bytes);\n"
          "        let mut image = match Image::read(bytes) {\n")]),
 }
-SCANS = [test_store, test_table, test_walks, test_kept_words, test_alone, test_index, test_counts, test_checks,
-         test_loads, test_asked, test_tables]
+SCANS = [test_store, test_table, test_walks, test_kept_words, test_alone, test_index, test_counts,
+         test_checks, test_loads, test_asked, test_tables]
 COPIED = ["tlsf_store", "tlsf_heap", "tlsf_region", "mtrace_log", "mtrace_replay", "tlsf_c"]
 
 
