@@ -5,6 +5,7 @@ pub mod MirrorLemmas
 pub mod PartLogLemmas
 pub mod ClassSizes
 pub mod RangeLemmas
+pub mod SpanRowLemmas
 pub mod SpansLemmas
 pub mod CountedLemmas
 pub mod CutLemmas

@@ -7,7 +7,8 @@ use Rattle.std.specs.declared.cmp.Ordering.{Ordering}
 use Rattle.mtrace_replay.specs.declared.parts.span.Span.{Span}
 use Rattle.mtrace_replay.specs.declared.parts.cut.Cut.{Cut}
 use Rattle.mtrace_replay.specs.Parts.{size_ranges, Part, part_bytes, unbuilt, IsCut, cut_bytes, cut_unbuilt, IsLeastCut}
-use Rattle.mtrace_replay.specs.Spans.{AreAll, IsPlaced}
+use Rattle.mtrace_replay.specs.Span.{IsPlaced}
+use Rattle.mtrace_replay.specs.Spans.{AreAll}
 
 -- the part of a span, and its bytes
 abbrev pub part_of : Span → Part

@@ -55,7 +55,9 @@ pub mod LedgerTimeline
 pub mod RunLedgerTimeline
 pub mod Parts
 pub mod PartLog
+pub mod Span
 pub mod Spans
+pub mod SpanRows
 pub mod CountedReplay
 pub mod Cuts
 pub mod RunParts

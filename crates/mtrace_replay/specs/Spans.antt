@@ -1,9 +1,10 @@
 -- How many blocks of neighbouring ranges of sizes are held, and the most that were.
-use Rattle.std.specs.Prelude.{◌≡◌, ℕ, suc, ◌+◌, ◌-◌, ◌<◌, ◌≤◌, ◌&&◌, ◌==◌, max, nat_le, nat_eq, Bool, true, false, List, [], ◌∷◌, length, map, is_some, Option, Some, None, Ok, Err, option_map, option_and_then, if◌then◌else◌, ⊤}
+use Rattle.std.specs.Prelude.{◌≡◌, ℕ, suc, ◌<◌, ◌≤◌, ◌==◌, nat_eq, Bool, true, false, List, [], ◌∷◌, length, map, is_some, Option, Some, None, Ok, Err, option_map, option_and_then, if◌then◌else◌, ⊤}
 use Rattle.std.specs.List.{All, Contains, list_all}
 use Rattle.mtrace_log.specs.declared.event.Event.TheVariants.{Start, End, Alloc, Free, Old, New, Failed, Aligned}
 use Rattle.std.specs.HashMap.{get}
 use Rattle.mtrace_replay.specs.declared.parts.span.Span.{Span}
+use Rattle.mtrace_replay.specs.Span.{with_block, IsPlaced}
 use Rattle.mtrace_replay.specs.declared.parts.spans.Block.{Block}
 use Rattle.mtrace_replay.specs.declared.parts.spans.Spans.{Spans}
 use Rattle.mtrace_replay.specs.Moment.{ReadLine, Given}
@@ -12,35 +13,6 @@ use Rattle.mtrace_replay.specs.Totals.{Measures, IsMost}
 use Rattle.mtrace_replay.specs.Asked.{class_asked}
 use Rattle.mtrace_replay.specs.LedgerReplay.{ledger_moments}
 use Rattle.mtrace_replay.specs.Parts.{size_ranges, range_of, blocks_of, served_classes, largest}
-
--- whether a range is one of a span
-abbrev pub has_range : Span → ℕ → Bool
-has_range span range = nat_le span.first range && nat_le range span.last
-
--- a span with one block more, of this size in this range
-abbrev pub with_block : (range size : ℕ) → Span → Span
-with_block range size span = record {
-  first = span.first;
-  last = span.last;
-  live = if has_range span range then span.live + 1 else span.live;
-  most = if has_range span range then max span.most (span.live + 1) else span.most;
-  size = if has_range span range then max size span.size else span.size;
-}
-
--- whether there is a range, and it is one of a span
-abbrev pub hits : Span → Option ℕ → Bool
-hits span None = false
-hits span (Some range) = has_range span range
-
--- a span without a block of this range, where there is one
-abbrev pub released : Option ℕ → Span → Span
-released range span = record {
-  first = span.first;
-  last = span.last;
-  live = if hits span range then span.live - 1 else span.live;
-  most = span.most;
-  size = span.size;
-}
 
 -- each line asked for what these numbers say, the latest line first
 abbrev pub Agrees : (asked : ℕ → Option ℕ) → List ReadLine → Type 0
@@ -62,11 +34,6 @@ pub record IsSpan (past : List ReadLine) (span : Span) : Type 0 where
 -- there is a span for each of the neighbouring ranges
 abbrev pub AreAll : List Span → Type 0
 AreAll spans = (first last : ℕ) → first ≤ last → last < size_ranges → (span : Span) × Contains spans span × (span.first ≡ first) × (span.last ≡ last)
-
--- the ranges of a span are in order, and are some of the ranges
-pub record IsPlaced (span : Span) : Type 0 where
-  pub ordered : span.first ≤ span.last
-  pub within : span.last < size_ranges
 
 -- The spans have what the lines did, and these are the ranges of what is held. Each served request has a class.
 pub record AreCounted (past : List ReadLine) (spans : List Span) (ranges : ℕ → Option ℕ) : Type 0 where
@@ -109,13 +76,6 @@ abbrev pub unless_released : Option ℕ → ℕ → Option ℕ → Option ℕ
 unless_released None address range = range
 unless_released (Some freed) address range = if freed == address then None else range
 
--- a span of no block yet
-abbrev pub blank : (first last : ℕ) → Span
-blank first last = record { first = first; last = last; live = 0; most = 0; size = 0 }
-
-abbrev pub IsBlank : Span → Type 0
-IsBlank span = (span ≡ blank span.first span.last) × IsPlaced span
-
 -- each span with the block that is given, where one is
 abbrev pub given_all : Option Block → List Span → List Span
 given_all None spans = spans
@@ -129,12 +89,12 @@ given_range (Some block) address range = if block.address == address then Some (
 -- the spans have what the lines did, or there are none, where a served request has no class
 abbrev pub AreCountedOf : List ReadLine → Option Spans → Type 0
 AreCountedOf past None = list_all is_some (served_classes past) ≡ false
-AreCountedOf past (Some spans) = AreCounted past spans.all.items (get nat_eq spans.ranges)
+AreCountedOf past (Some spans) = AreCounted past spans.all (get nat_eq spans.ranges)
 
 -- no span has more blocks than there were lines
 abbrev pub AreFew : ℕ → Option Spans → Type 0
 AreFew lines None = ⊤
-AreFew lines (Some spans) = All (λ span. span.live ≤ lines) spans.all.items
+AreFew lines (Some spans) = All (λ span. span.live ≤ lines) spans.all
 
 -- the block of an address and a size, where both are there
 abbrev pub block_asked : Option ℕ → Option ℕ → Option Block

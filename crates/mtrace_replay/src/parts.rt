@@ -7,5 +7,6 @@ pub(crate) mod range;
 pub(crate) mod replay;
 pub(crate) mod run;
 pub(crate) mod span;
+pub(crate) mod span_rows;
 pub(crate) mod spans;
 pub(crate) mod text;

@@ -14,7 +14,8 @@ use Rattle.mtrace_replay.specs.Totals.{is_served}
 use Rattle.mtrace_replay.specs.Asked.{class_asked}
 use Rattle.mtrace_replay.specs.LedgerReplay.{ledger_moments, LedgerReplayed, LedgerStandsFor}
 use Rattle.mtrace_replay.specs.Parts.{served_classes}
-use Rattle.mtrace_replay.specs.Spans.{released, range_released, unless_released, given_all, given_range, released_by, block_asked, AreCounted, AreCountedOf}
+use Rattle.mtrace_replay.specs.Span.{released}
+use Rattle.mtrace_replay.specs.Spans.{range_released, unless_released, given_all, given_range, released_by, block_asked, AreCounted, AreCountedOf}
 use Rattle.mtrace_replay.specs.CountedReplay.{IsChangeOf}
 use Rattle.mtrace_replay.proofs.History.TotalsStep.{served_more as moment_served}
 use Rattle.mtrace_replay.proofs.BySize.SpansLemmas.{its, taken, facts, counted_without, counted_with, few_released, few_given}
@@ -33,7 +34,7 @@ none_again line past none = by_served (is_served (its past line))
     by_served false = none
 
 module _ (change : Change) (served : Bool) (line : ReadLine) (past : List ReadLine) (is : IsChangeOf change served line past) (old new : Spans) (freed : Option ℕ)
-    (freed_is : freed ≡ (if served then change.moved else change.freed)) (counted : AreCounted past old.all.items (get nat_eq old.ranges)) where
+    (freed_is : freed ≡ (if served then change.moved else change.freed)) (counted : AreCounted past old.all (get nat_eq old.ranges)) where
   abbrev ranges : ℕ → Option ℕ
   ranges = get nat_eq old.ranges
 
@@ -45,15 +46,15 @@ module _ (change : Change) (served : Bool) (line : ReadLine) (past : List ReadLi
       by_served false = is.freed
 
   -- the line isn't served
-  pub followed_unserved : served ≡ false → new.all.items ≡ map (released (range_released ranges freed)) old.all.items
-      → ((other : ℕ) → get nat_eq new.ranges other ≡ unless_released freed other (ranges other)) → AreCounted (line ∷ past) new.all.items (get nat_eq new.ranges)
+  pub followed_unserved : served ≡ false → new.all ≡ map (released (range_released ranges freed)) old.all
+      → ((other : ℕ) → get nat_eq new.ranges other ≡ unless_released freed other (ranges other)) → AreCounted (line ∷ past) new.all (get nat_eq new.ranges)
   followed_unserved not spans_are ranges_are =
-      subst (λ spans. AreCounted (line ∷ past) spans (get nat_eq new.ranges)) (sym (spans_are ∙ ap (λ address. map (released (range_released ranges address)) old.all.items) freed_taken))
-      (counted_without past line old.all.items ranges (get nat_eq new.ranges) counted (sym is.served_is ∙ not)
+      subst (λ spans. AreCounted (line ∷ past) spans (get nat_eq new.ranges)) (sym (spans_are ∙ ap (λ address. map (released (range_released ranges address)) old.all) freed_taken))
+      (counted_without past line old.all ranges (get nat_eq new.ranges) counted (sym is.served_is ∙ not)
       (λ address. ranges_are address ∙ ap (λ gone. unless_released gone address (ranges address)) freed_taken))
 
   module _ (given : Option Block) (given_is : given ≡ block_asked change.address change.size) (serves : served ≡ true)
-      (spans_are : new.all.items ≡ given_all given (map (released (range_released ranges freed)) old.all.items))
+      (spans_are : new.all ≡ given_all given (map (released (range_released ranges freed)) old.all))
       (ranges_are : (other : ℕ) → get nat_eq new.ranges other ≡ given_range given other (unless_released freed other (ranges other))) where
     -- its request has no class
     no_class : class_asked line ≡ None → AreCountedOf (line ∷ past) (if is_some given then Some new else None)
@@ -75,9 +76,9 @@ module _ (change : Change) (served : Bool) (line : ReadLine) (past : List ReadLi
         let its_block : given ≡ Some (record { address = block.entry.addr; size = size }) = given_is ∙ ap (λ o. block_asked o change.size) (is.address ∙ asks) ∙ ap (block_asked (Some block.entry.addr)) (is.size ∙ class) in
         subst (λ (o : Option Block). AreCountedOf (line ∷ past) (if is_some o then Some new else None)) (sym its_block)
         (subst (λ spans. AreCounted (line ∷ past) spans (get nat_eq new.ranges))
-        (sym (spans_are ∙ ap (λ o. given_all o (map (released (range_released ranges freed)) old.all.items)) its_block
-        ∙ ap (λ address. given_all (Some (record { address = block.entry.addr; size = size })) (map (released (range_released ranges address)) old.all.items)) freed_taken))
-        (counted_with past line old.all.items ranges (get nat_eq new.ranges) counted block size gave class block.entry.addr asks
+        (sym (spans_are ∙ ap (λ o. given_all o (map (released (range_released ranges freed)) old.all)) its_block
+        ∙ ap (λ address. given_all (Some (record { address = block.entry.addr; size = size })) (map (released (range_released ranges address)) old.all)) freed_taken))
+        (counted_with past line old.all ranges (get nat_eq new.ranges) counted block size gave class block.entry.addr asks
         (λ other. ranges_are other ∙ ap (λ o. given_range o other (unless_released freed other (ranges other))) its_block
         ∙ ap (λ gone. given_range (Some (record { address = block.entry.addr; size = size })) other (unless_released gone other (ranges other))) freed_taken)))
 

@@ -12,7 +12,7 @@ use Rattle.std.proofs.lemmas.Bool.{false≢true, eqb-true, eq-eqb, ne_eqb, lt-lt
 use Rattle.mtrace_replay.specs.declared.parts.span.Span.{Span}
 use Rattle.mtrace_replay.specs.declared.parts.cut.Cut.{Cut}
 use Rattle.mtrace_replay.specs.Parts.{Part, part_bytes, unbuilt, can_be_built, parts_of, IsCut, cut_bytes, cut_unbuilt, cut_cmp}
-use Rattle.mtrace_replay.specs.Spans.{IsPlaced}
+use Rattle.mtrace_replay.specs.Span.{IsPlaced}
 use Rattle.mtrace_replay.proofs.Index.MappedLemmas.{no_span}
 use Rattle.mtrace_replay.specs.Cuts.{part_of, span_bytes, cut_order, NotGreater, IsLesser, IsJoined, IsSmall, ArePartsIn, IsBest, AreBest}
 

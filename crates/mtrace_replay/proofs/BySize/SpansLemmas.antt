@@ -14,7 +14,8 @@ use Rattle.mtrace_replay.specs.Totals.{is_served, Measures, IsMost}
 use Rattle.mtrace_replay.specs.Asked.{class_asked}
 use Rattle.mtrace_replay.specs.LedgerReplay.{ledger_moment, ledger_moments}
 use Rattle.mtrace_replay.specs.Parts.{size_ranges, range_of, is_in, blocks_of, served_classes, largest}
-use Rattle.mtrace_replay.specs.Spans.{has_range, with_block, hits, released, Agrees, range_held, IsSpan, AreAll, AreCounted, released_by, address_asked, range_released, unless_released, IsPlaced, blank, IsBlank, given_all}
+use Rattle.mtrace_replay.specs.Span.{has_range, with_block, hits, released, IsPlaced, blank, IsBlank}
+use Rattle.mtrace_replay.specs.Spans.{Agrees, range_held, IsSpan, AreAll, AreCounted, released_by, address_asked, range_released, unless_released, given_all}
 use Rattle.mtrace_replay.proofs.History.FoundLemmas.{found_is_held}
 use Rattle.mtrace_replay.proofs.History.HeldSums.{held_behind}
 use Rattle.mtrace_replay.proofs.History.TotalsLemmas.{none_measured, most_none, most_goes_on}

@@ -31,7 +31,7 @@ pub(crate) struct CountedReplay {
 ///
 /// `AllocError` where memory is refused.
 fn count(spans: &mut Spans, change: &Change, is_served: bool) -> Result<bool, AllocError>
-    requires few { All (λ span. span.live + 1 < 2 ^ 64) spans.old.all.items }
+    requires few { All (λ span. span.live + 1 < 2 ^ 64) spans.old.all }
     ensures counted { IfOk result (λ has_class. (past : List ReadLine) (line : ReadLine) → IsChangeOf change.now is_served line past
         → AreCountedOf past (Some spans.old) → AreCountedOf (line ∷ past) (if has_class then Some spans.new else None)) }
     ensures few { OnOk result ((lines : ℕ) → AreFew lines (Some spans.old) → AreFew (suc lines) (Some spans.new)) }

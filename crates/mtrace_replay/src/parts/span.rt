@@ -1,7 +1,7 @@
 //! Neighbouring ranges of sizes, and the blocks that fall under them.
 
-ghost use Rattle.std.specs.Prelude.{◌≡◌, ◌+◌, ◌^◌, ◌<◌, Some};
-ghost use Rattle.mtrace_replay.specs.Spans.{has_range, with_block, released};
+ghost use Rattle.std.specs.Prelude.{◌≡◌, ◌+◌, ◌^◌, ◌<◌};
+ghost use Rattle.mtrace_replay.specs.Span.{one_more, one_less};
 
 /// Neighbouring ranges of sizes, from the first to the last of them.
 #[derive(Clone, Copy, Debug, PartialEq, Eq)]
@@ -16,21 +16,11 @@ pub(crate) struct Span {
 }
 
 impl Span {
-    /// Whether the range is one of them.
-    fn has(self, range: u8) -> bool
-        ensures { result ≡ has_range self range }
-    {
-        self.first <= range && range <= self.last
-    }
-
-    /// With one block more, where the range of its size is one of them.
-    pub(crate) fn with_block(self, range: u8, size: u32) -> Span
+    /// With one block more, of this size.
+    pub(crate) fn with_one(self, size: u32) -> Span
         requires few { self.live + 1 < 2 ^ 64 }
-        ensures { result ≡ with_block range size self }
+        ensures { result ≡ one_more size self }
     {
-        if !self.has(range) {
-            return self;
-        }
         let live = self.live + 1;
         Span {
             live,
@@ -40,13 +30,10 @@ impl Span {
         }
     }
 
-    /// With one block less, where the range of its size is one of them.
-    pub(crate) fn without_block(self, range: u8) -> Span
-        ensures { result ≡ released (Some range) self }
+    /// With one block less.
+    pub(crate) fn without_one(self) -> Span
+        ensures { result ≡ one_less self }
     {
-        if !self.has(range) {
-            return self;
-        }
         Span {
             live: self.live.saturating_sub(1),
             ..self

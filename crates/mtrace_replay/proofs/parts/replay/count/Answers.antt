@@ -13,7 +13,7 @@ returns-then-not-is_served-clause-counted c past line is counted =
 
 pub returns-then-not-is_served-clause-few : goal.returns-then-not-is_served-clause-few
 returns-then-not-is_served-clause-few c lines few =
-    followed_few (range_released (get nat_eq c.args.spans.now.ranges) c.released-freed.result) None c.args.spans.now.all.items c.follow.new.self.all.items c.in_ok-follow.ensures.spans lines few
+    followed_few (range_released (get nat_eq c.args.spans.now.ranges) c.released-freed.result) None c.args.spans.now.all c.follow.new.self.all c.in_ok-follow.ensures.spans lines few
 
 pub returns-clause-counted : goal.returns-clause-counted
 returns-clause-counted c past line is counted =
@@ -23,4 +23,4 @@ returns-clause-counted c past line is counted =
 
 pub returns-clause-few : goal.returns-clause-few
 returns-clause-few c lines few =
-    followed_few (range_released (get nat_eq c.args.spans.now.ranges) c.released-freed.result) c.block-given.result c.args.spans.now.all.items c.follow-2.new.self.all.items c.in_ok-follow-2.ensures.spans lines few
+    followed_few (range_released (get nat_eq c.args.spans.now.ranges) c.released-freed.result) c.block-given.result c.args.spans.now.all c.follow-2.new.self.all c.in_ok-follow-2.ensures.spans lines few

@@ -25,24 +25,24 @@ pub least_cut-requires-clause-parts : goal.least_cut-requires-clause-parts
 least_cut-requires-clause-parts g c =
     let some = c.requires.lines in
     let counted = subst (AreCountedOf (reverse some.0)) c.in-Some.is some.2 in
-    let spans = c.in-Some.spans.all.items in
+    let spans = c.in-Some.spans.all in
     let part = its_part (reverse some.0) spans (get nat_eq c.in-Some.spans.ranges) counted in
-    (part, subst (ArePartsIn part) (sym c.as_slice.ensures.value) (in_spans (reverse some.0) spans (get nat_eq c.in-Some.spans.ranges) counted))
+    (part, subst (ArePartsIn part) (sym c.as_slice.ensures) (in_spans (reverse some.0) spans (get nat_eq c.in-Some.spans.ranges) counted))
 
 pub returns-clause-told : goal.returns-clause-told
 returns-clause-told g c lines stands is_counted =
     let writes = g.W.Sink.shown in
     let replay = c.args.replay.now.ledger in
-    let spans = c.in-Some.spans.all.items in
+    let spans = c.in-Some.spans.all in
     let ranges = get nat_eq c.in-Some.spans.ranges in
     let counted : AreCounted (reverse lines) spans ranges = subst (AreCountedOf (reverse lines)) c.in-Some.is is_counted in
     let part = its_part (reverse lines) spans ranges counted in
     let within = in_spans (reverse lines) spans ranges counted in
     let ends = c.in-Ok.cut.ends.items in
-    let chosen = c.in-Ok.ensures.least part (subst (ArePartsIn part) (sym c.as_slice.ensures.value) within) in
+    let chosen = c.in-Ok.ensures.least part (subst (ArePartsIn part) (sym c.as_slice.ensures) within) in
     let parts_are : map part_in c.as_slice-4.result.now ≡ parts_of part 0 ends =
     ap (map part_in) c.as_slice-4.ensures.value
-    ∙ c.parts_of-parts.ensures part (subst (ArePartsIn part) (sym c.as_slice-2.ensures.value) within) (subst (IsCut part 0) (sym c.as_slice-3.ensures.value) chosen.cut)
+    ∙ c.parts_of-parts.ensures part (subst (ArePartsIn part) (sym c.as_slice-2.ensures) within) (subst (IsCut part 0) (sym c.as_slice-3.ensures.value) chosen.cut)
     ∙ ap (parts_of part 0) c.as_slice-3.ensures.value in
     let text = ap (λ (totals : LedgerTotals). peak_line_text totals.peak_bytes totals.peak_line ++ parts_text (map part_in c.as_slice-4.result.now)) c.totals-totals.ensures
     ∙ ap (λ parts. peak_line_text replay.peak_bytes replay.peak_line ++ parts_text parts) parts_are in
