@@ -1,5 +1,5 @@
 -- How large a pool a log needs: the sizes that are tried, and what they tell.
-use Rattle.std.specs.Prelude.{ℕ, zero, suc, ◌+◌, ◌-◌, ◌*◌, ◌/◌, ◌%◌, ◌^◌, Bool, not, ◌||◌, ◌==◌, nat_lt, min, max, false, List, [], ◌∷◌, ◌++◌, map, length, count_by, Option, Some, None, option_map, if◌then◌else◌}
+use Rattle.std.specs.Prelude.{ℕ, zero, suc, ◌+◌, ◌-◌, ◌*◌, ◌/◌, ◌%◌, ◌^◌, Bool, not, ◌||◌, ◌==◌, nat_lt, min, max, false, List, [], ◌∷◌, ◌++◌, map, length, count_by, Option, Some, None, option_map, if◌then◌else◌, ◌≤◌, ◌≡◌}
 use Rattle.std.specs.Int.{div_ceil}
 use Rattle.std.specs.List.{range_with_len, find, list_all}
 use Rattle.tlsf_class.specs.Classes.{unit, greatest_size}
@@ -23,6 +23,11 @@ enough_records most = min (2 * most + 3) most_records
 abbrev pub is_bad_step : Option ℕ → Bool
 is_bad_step None = false
 is_bad_step (Some step) = not (step % unit == 0) || (nat_lt step unit || nat_lt greatest_size step)
+
+-- a whole number of units, and at least one
+pub record AreUnits (bytes : ℕ) : Type 0 where
+  pub some : unit ≤ bytes
+  pub whole : bytes % unit ≡ 0
 
 -- the step; where none is given, the least multiple of the unit from a 64th of the peak on, and at least the unit
 abbrev pub step_of : Option ℕ → ℕ → ℕ

@@ -17,5 +17,6 @@ pub mod sites;
 pub mod size;
 pub mod size_parts;
 pub mod status;
+pub mod step;
 pub mod timeline;
 pub mod watch;

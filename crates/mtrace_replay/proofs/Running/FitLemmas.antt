@@ -1,6 +1,6 @@
 -- What the sizes tell with one size more.
-use Rattle.std.proofs.Common.{◌≡◌, ℕ, zero, suc, ◌+◌, ◌-◌, ◌*◌, ◌/◌, ◌%◌, ◌^◌, ◌<◌, ◌≤◌, Bool, true, false, cond, not, option_map, List, [], ◌∷◌, ◌++◌, map, length, length-append, reverse, Option, Some, None, refl, sym, subst, ap, ◌∙◌, arith}
-use Rattle.std.specs.Prelude.{◌&&◌}
+use Rattle.std.proofs.Common.{◌≡◌, ℕ, zero, suc, ◌+◌, ◌-◌, ◌*◌, ◌/◌, ◌%◌, ◌^◌, ◌<◌, ◌≤◌, Bool, true, false, cond, not, option_map, List, [], ◌∷◌, ◌++◌, map, length, length-append, reverse, Option, Some, None, inl, inr, refl, sym, subst, ap, ◌∙◌, arith}
+use Rattle.std.specs.Prelude.{◌&&◌, nat_lt}
 use Rattle.std.specs.List.{find, list_all, range_with_len}
 use Rattle.std.specs.Option.{option_or}
 use Rattle.std.proofs.lemmas.List.{append_assoc, map-append}
@@ -8,9 +8,9 @@ use Rattle.std.proofs.lemmas.List.Folds.{find-append, list_all-append}
 use Rattle.std.proofs.lemmas.List.Sums.{sum_by-append}
 use Rattle.mtrace_replay.specs.Fit.{Verdict, least_size, safe_size, refused_sizes, fitted, one_pool, greatest_settings, enough_records, step_of, first_number, last_number, doubled, range}
 use Rattle.std.proofs.lemmas.List.FromFn.{map-range_with_len_more}
-use Rattle.std.proofs.lemmas.Bool.{eq-eqb, le-ltb}
+use Rattle.std.proofs.lemmas.Bool.{eq-eqb, le-ltb, ltb-true, cases_lt}
 use Rattle.std.proofs.lemmas.Nat.{mul-mod_second, div-add-mod'}
-use Rattle.std.proofs.Math.Nat.{mul-le-mul_right, mul_assoc, mul_comm, pow-suc}
+use Rattle.std.proofs.Math.Nat.{div-eq_of_lt, mul-le-mul_right, mul_assoc, mul_comm, pow-suc}
 use Rattle.mtrace_log.proofs.TextLemmas.{AllByRecursion-append}
 use Rattle.tlsf_class.specs.Classes.{unit, greatest_size}
 use Rattle.tlsf_heap.specs.Pools.{most_records, end_of_places}
@@ -162,6 +162,13 @@ no_range step now first times is few =
     let last : last_number (doubled step (suc times)) first ≤ first = omega (arith, few, ap (λ n. greatest_size / n) same) in
     let none : suc (last_number (doubled step (suc times)) first) - suc first ≡ 0 = omega (arith, last) in
     ap (λ count. map (λ number. number * doubled step (suc times)) (range_with_len (suc first) count)) none
+
+-- where a range is left, twice the step is within the greatest size
+pub range_left : (step first : ℕ) → nat_lt first (greatest_size / (2 * step)) ≡ true → 2 * step ≤ greatest_size
+range_left step first left = elim (cases_lt greatest_size (2 * step)) [
+  | inl more ↦ absurd (omega (arith, ltb-true first (greatest_size / (2 * step)) left, div-eq_of_lt more))
+  | inr within ↦ within
+]
 
 -- the pool that is always enough, by what a log needs
 abbrev pub sure_of : Needs → Option ℕ

@@ -14,7 +14,7 @@ ghost use Rattle.mtrace_replay.specs.Fit.{one_pool, greatest_settings, enough_re
 ghost use Rattle.mtrace_replay.specs.RunFit.{IsTried, TriesLog, AreVerdicts, TriesRanges, TellsFit, ReadsAgain, FitFollows, RunsFit};
 
 use crate::heap::replay::Replay;
-use crate::heap::settings::{GREATEST_POOL, Settings, UNIT};
+use crate::heap::settings::{GREATEST_POOL, Settings};
 use crate::heap::tried::is_served;
 use crate::held::line_text::LineText;
 use crate::runs::enough::sure_records;
@@ -24,6 +24,7 @@ use crate::runs::flush::flush_behind;
 use crate::runs::fronted::Fronted;
 use crate::runs::needs::{Needs, NeedsReplay, NeedsRun, replay_needs};
 use crate::runs::status::{RunFault, Status};
+use crate::runs::step::{Step, is_bad_step};
 use crate::runs::watch::Watch;
 use mtrace_log::{Again, Failed, Sink, put_all};
 use std::alloc::Global;
@@ -37,29 +38,6 @@ fn greatest() -> Settings
         pool: GREATEST_POOL,
         pools: 1,
         records: MOST_RECORDS,
-    }
-}
-
-/// Whether a step isn't a whole number of units from one to the greatest size.
-fn is_bad_step(step: Option<u64>) -> bool
-    ensures { result ≡ is_bad_step step }
-{
-    match step {
-        Some(step) => step % UNIT != 0 || step < UNIT || step > GREATEST_POOL,
-        None => false,
-    }
-}
-
-/// The step: where none is given, the least multiple of the unit from a 64th of the peak on, and at least the unit.
-fn step_of(step: Option<u64>, peak: u64) -> u64
-    requires { is_bad_step step ≡ false }
-    ensures value { result ≡ step_of step peak }
-    ensures some { UNIT ≤ result }
-    ensures in_units { result % UNIT ≡ 0 }
-{
-    match step {
-        Some(step) => step,
-        None => UNIT * peak.div_ceil(64 * UNIT).max(1),
     }
 }
 
@@ -113,13 +91,11 @@ fn try_range<R: Again>(
     reader: &mut R,
     tried: &mut Fronted<Replay<Heap>>,
     trial: Trial,
-    step: u64,
+    step: Step,
     first: u64,
     last: u64,
     mut fitted: Fitted,
 ) -> Result<Fitted, Failed>
-    requires some { UNIT ≤ step }
-    requires in_units { step % UNIT ≡ 0 }
     requires some_number { 0 < first }
     requires last_within { last ≤ greatest_size / step }
     requires some_records { 0 < trial.records }
@@ -134,29 +110,13 @@ fn try_range<R: Again>(
     ensures few { IfOk result (λ new. new.tried ≤ fitted.tried + (last + 1 - first)) }
     ensures refused { IfOk result (λ new. new.refused ≤ new.tried) }
 {
+    let bytes = step.bytes();
     for number in first..last + 1 {
-        let size = number * step;
+        let size = number * bytes;
         let serves = try_size(reader, tried, size, trial)?;
         fitted = fitted.with(size, serves);
     }
     Ok(fitted)
-}
-
-/// The last number of a range that begins with the first: twice as many steps, or as many as the greatest size has.
-fn last_number(step: u64, first: u64) -> u64
-    requires { 0 < step }
-    ensures value { result ≡ last_number step first }
-    ensures within { result ≤ greatest_size / step }
-{
-    first.saturating_mul(2).min(GREATEST_POOL / step)
-}
-
-/// Whether there is a range by a step twice as large, behind twice the first number of steps.
-fn is_range_behind(step: u64, first: u64) -> bool
-    requires { 0 < step }
-    ensures { result ≡ nat_lt first (greatest_size / (2 * step)) }
-{
-    step <= GREATEST_POOL && GREATEST_POOL / (2 * step) > first
 }
 
 /// Tries the sizes for this step and this peak, in rising order. Where none of a range serves, the sizes behind it are tried by
@@ -165,25 +125,23 @@ fn try_sizes<R: Again, T: Watch>(
     reader: &mut R,
     tried: &mut Fronted<Replay<Heap>>,
     trial: Trial,
-    mut step: u64,
+    mut step: Step,
     peak: u64,
     watch: &T,
 ) -> Result<Fitted, Failed>
-    requires some { UNIT ≤ step }
-    requires in_units { step % UNIT ≡ 0 }
     requires some_records { 0 < trial.records }
     requires few { trial.records ≤ MOST_RECORDS }
     requires within { trial.records ≤ tried.old.replay.content.records }
     ensures { ReadsAgain trial.many (λ fitted times. (times ≡ fitted.tried) × ((verdicts : List Verdict) × TriesRanges trial.front trial.records trial.many step (first_number step peak) (R.shown reader.old).whole verdicts
         × (fitted ≡ fitted_by verdicts))) result (R.shown reader.old) (R.shown reader.new) }
 {
-    let first = peak.div_ceil(step).max(1);
-    let last = last_number(step, first);
+    let first = peak.div_ceil(step.bytes()).max(1);
+    let last = step.last_number(first);
     watch.expect((last + 1).saturating_sub(first));
     let mut fitted = try_range(reader, tried, trial, step, first, last, Fitted::default())?;
-    while fitted.least.is_none() && is_range_behind(step, first) {
-        step *= 2;
-        let last = last_number(step, first);
+    while fitted.least.is_none() && step.has_range_behind(first) {
+        step = step.twice();
+        let last = step.last_number(first);
         watch.expect(last.saturating_sub(first));
         fitted = try_range(reader, tried, trial, step, first + 1, last, fitted)?;
     }
@@ -215,7 +173,7 @@ fn fit_text<R: Again, T: Watch>(
         records: enough_records(needs.most),
         many: totals.lines,
     };
-    let fitted = try_sizes(reader, tried, trial, step_of(step, peak), peak, watch)?;
+    let fitted = try_sizes(reader, tried, trial, Step::of(step, peak), peak, watch)?;
     Ok(fitted_text(totals, needs.most, trial.records, fitted, sure))
 }
 

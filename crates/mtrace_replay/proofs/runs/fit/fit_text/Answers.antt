@@ -40,14 +40,14 @@ returns g c = record {
         let T : List ℕ → Type 0 = λ text. TellsFit c.args.tried.now.front c.args.step lines whole (length tried.0) text in
         let peak_is = ap (λ (totals : Totals). totals.peak_bytes) c.totals-totals.ensures.totals in
         let records_are : c.enough_records.result ≡ enough_records needs.most = c.enough_records.ensures.value in
-        let step_is : c.step_of.result ≡ step_of c.args.step replay.totals.peak_bytes = c.step_of.ensures.value ∙ ap (step_of c.args.step) peak_is in
+        let step_is : c.of.result ≡ step_of c.args.step replay.totals.peak_bytes = c.of.ensures ∙ ap (step_of c.args.step) peak_is in
         let A : ℕ → ℕ → ℕ → ℕ → Type 0 = λ records many step peak. TriesRanges c.args.tried.now.front records many step (first_number step peak) whole tried.0 in
         let lines_are = ap (λ (totals : Totals). totals.lines) c.totals-totals.ensures.totals in
         let tries : A (enough_records needs.most) replay.totals.lines (step_of c.args.step replay.totals.peak_bytes) replay.totals.peak_bytes =
         subst (λ records. A records replay.totals.lines (step_of c.args.step replay.totals.peak_bytes) replay.totals.peak_bytes) records_are
         (subst (λ many. A c.enough_records.result many (step_of c.args.step replay.totals.peak_bytes) replay.totals.peak_bytes) lines_are
         (subst (λ step. A c.enough_records.result c.totals-totals.result.lines step replay.totals.peak_bytes) step_is
-        (subst (λ peak. A c.enough_records.result c.totals-totals.result.lines c.step_of.result peak) peak_is tried.1))) in
+        (subst (λ peak. A c.enough_records.result c.totals-totals.result.lines c.of.result peak) peak_is tried.1))) in
         let same = c.fitted_text.ensures
         ∙ ap (λ (totals : Totals). greatest_line totals ++ most_line needs.most ++ fitted_lines c.enough_records.result c.in_ok-fitted.fitted c.sure_pool-sure.result) c.totals-totals.ensures.totals
         ∙ ap (λ records. greatest_line replay.totals ++ most_line needs.most ++ fitted_lines records c.in_ok-fitted.fitted c.sure_pool-sure.result) records_are

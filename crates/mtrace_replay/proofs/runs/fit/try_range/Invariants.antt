@@ -10,7 +10,7 @@ abbrev pub invariant-loop-number : goal.invariant-loop-number
 invariant-loop-number g l =
     let reads = g.R.Source.shown in
     record {
-      so_far : (verdicts : List Verdict) × AreVerdicts l.trial.front l.trial.records l.trial.many (reads l.initial.reader).whole (map (λ number. number * l.step) (range_with_len l.first (l.number - l.first))) verdicts
+      so_far : (verdicts : List Verdict) × AreVerdicts l.trial.front l.trial.records l.trial.many (reads l.initial.reader).whole (map (λ number. number * l.bytes) (range_with_len l.first (l.number - l.first))) verdicts
           × ((before : List Verdict) → l.initial.fitted ≡ fitted before → l.fitted ≡ fitted (before ++ verdicts));
       tried : l.fitted.tried ≤ l.initial.fitted.tried + (l.number - l.first);
       refused : l.fitted.refused ≤ l.fitted.tried;

@@ -1,5 +1,6 @@
-use Rattle.std.proofs.Common.{◌≡◌, ◌≤◌, ◌+◌, ◌*◌, ◌/◌, ◌++◌, ℕ, suc, List, [], Option, Some, None, refl, sym, ap, ◌∙◌, subst, arith, inl, inr, true, false, not, rules}
+use Rattle.std.proofs.Common.{◌≡◌, ◌≤◌, ◌+◌, ◌*◌, ◌/◌, ◌%◌, ◌++◌, ℕ, suc, List, [], Option, Some, None, refl, sym, ap, ◌∙◌, subst, arith, inl, inr, true, false, not, rules}
 use Rattle.std.proofs.lemmas.Result.{err_from_is_err_and}
+use Rattle.std.specs.Int.{div_ceil}
 use Rattle.std.specs.Prelude.{max, IsSome, is_some, ◌⊎◌}
 use Rattle.std.proofs.lemmas.Bool.{ltb-false}
 use Rattle.std.proofs.Math.Nat.{div-le_self}
@@ -8,7 +9,7 @@ use Rattle.mtrace_replay.specs.declared.runs.fitted.Fitted.{Fitted}
 use Rattle.mtrace_replay.specs.Fit.{Verdict, doubled, first_number, last_number, multiples, range, ranges, least_size, fitted}
 use Rattle.mtrace_log.specs.Shown.{Bytes}
 use Rattle.mtrace_replay.specs.RunFit.{AreVerdicts, TriesRanges}
-use Rattle.mtrace_replay.proofs.Running.FitLemmas.{more_verdicts, least_behind, doubled_more, no_range}
+use Rattle.mtrace_replay.proofs.Running.FitLemmas.{more_verdicts, least_behind, doubled_more, no_range, range_left}
 use Rattle.mtrace_replay.proofs.Running.TriedLemmas.{begun-then, nothing_begun}
 use Rattle.mtrace_replay.proofs.runs.fit.try_sizes.Goals as goal
 
@@ -27,6 +28,7 @@ pub loop-trial-init : goal.loop-trial-init
 loop-trial-init g c =
     let reads = g.R.Source.shown in
     let tells = c.in_ok-fitted.ensures.tried.tells.1.1 in
+    let some : 16 ≤ c.args.step = omega (arith, c.bytes.ensures.value, c.bytes.ensures.some) in
     let V : Bytes → ℕ → Type 0 = λ text last. AreVerdicts c.args.trial.front c.args.trial.records c.args.trial.many text (multiples c.args.step c.max-first.result last) tells.0 in
     record {
       so_far = (
@@ -39,10 +41,10 @@ loop-trial-init g c =
         refl,
         tells.2 [] (none_tried _ c.default.ensures),
       );
-      tried = omega (arith, c.in_ok-fitted.ensures.few, c.default.ensures.1.1.0, c.last_number-last.ensures.within, c.requires.some);
+      tried = omega (arith, c.in_ok-fitted.ensures.few, c.default.ensures.1.1.0, c.last_number-last.ensures.within, some);
       refused = c.in_ok-fitted.ensures.refused;
-      some = c.requires.some;
-      in_units = c.requires.in_units;
+      some = some;
+      in_units = subst (λ n. n % 16 ≡ 0) c.bytes.ensures.value c.bytes.ensures.in_units;
       whole = refl;
       begun = (0, omega arith, nothing_begun (reads c.try_range.new.reader).calls);
       records = c.in_ok-fitted.ensures.within;
@@ -85,25 +87,26 @@ loop-trial-preserved g c =
     let step : ℕ = doubled c.args.step (suc so_far.0) in
     let are : A start step (suc first) (last_number step first) =
     subst (λ n. A start n (suc first) (last_number n first)) twice
-    (subst (λ last. A start (c.loop-trial.step * 2) (suc first) last) c.last_number-last-in-loop-trial.ensures.value
+    (subst (λ last. A start (c.loop-trial.step * 2) (suc first) last) (c.last_number-last-in-loop-trial.ensures.value ∙ ap (λ n. last_number n first) c.twice-step.ensures)
     (subst (λ from. A start (c.loop-trial.step * 2) from c.last_number-last-in-loop-trial.result) next
-    (subst (λ text. A text (c.loop-trial.step * 2) (first + 1) c.last_number-last-in-loop-trial.result) kept.whole tells.1))) in
+    (subst (λ text. A text (c.loop-trial.step * 2) (first + 1) c.last_number-last-in-loop-trial.result) kept.whole
+    (subst (λ n. A (reads c.loop-trial.reader).whole n (first + 1) c.last_number-last-in-loop-trial.result) c.twice-step.ensures tells.1)))) in
     let none : c.loop-trial.fitted.least ≡ None = none_is c.loop-trial.fitted.least (c.is_none.ensures ∙ ap not c.loop-trial-test.true) in
     record {
       so_far = (
         suc so_far.0,
         so_far.1 ++ so_far.2,
         tells.0,
-        twice,
+        c.twice-step.ensures ∙ twice,
         more_verdicts front records many start (ranges c.args.step first so_far.0) (range c.args.step first so_far.0) so_far.1 so_far.2 so_far.4 so_far.5,
         are,
         sym (ap (λ (f : Fitted). f.least) so_far.7) ∙ none,
         tells.2 (so_far.1 ++ so_far.2) so_far.7,
       );
-      tried = omega (arith, c.in_ok-fitted-2.ensures.few, kept.tried, kept.some, c.last_number-last-in-loop-trial.ensures.within, div-le_self greatest_size (c.loop-trial.step * 2));
+      tried = omega (arith, c.in_ok-fitted-2.ensures.few, kept.tried, kept.some, c.twice-step.ensures, c.last_number-last-in-loop-trial.ensures.within, div-le_self greatest_size c.twice-step.result);
       refused = c.in_ok-fitted-2.ensures.refused;
-      some = omega (arith, kept.some);
-      in_units = omega (arith, kept.in_units);
+      some = omega (arith, c.twice-step.ensures, kept.some);
+      in_units = omega (arith, c.twice-step.ensures, kept.in_units);
       whole = c.in_ok-fitted-2.ensures.whole ∙ kept.whole;
       begun = (
         kept.begun.0 + told.0,
@@ -112,6 +115,16 @@ loop-trial-preserved g c =
       );
       records = c.in_ok-fitted-2.ensures.within;
     }
+
+pub try_range-requires-in-loop-trial-clause-tried : goal.try_range-requires-in-loop-trial-clause-tried
+try_range-requires-in-loop-trial-clause-tried g c =
+    let left = range_left c.loop-trial.step c.max-first.result (sym c.has_range_behind.ensures ∙ c.if-has_range_behind.true) in
+    omega (arith, c.loop-trial.invariant.tried, left)
+
+pub loop-trial-smaller : goal.loop-trial-smaller
+loop-trial-smaller g c =
+    let left = range_left c.loop-trial.step c.max-first.result (sym c.has_range_behind.ensures ∙ c.if-has_range_behind.true) in
+    omega (arith, c.loop-trial.invariant.some, c.twice-step.ensures, left)
 
 -- the ranges that were tried are all where the last has a size that serves, or none is left
 ended : (front records many step first peak times : ℕ) (start whole : Bytes) (before last : List Verdict) (told : Fitted) → start ≡ whole → first ≡ first_number step peak
@@ -136,20 +149,20 @@ ended front records many step first peak times start whole before last told same
   fitted_is,
 )
 
-pub returns-else-is_range_behind : goal.returns-else-is_range_behind
-returns-else-is_range_behind g c =
+pub returns-else-has_range_behind : goal.returns-else-has_range_behind
+returns-else-has_range_behind g c =
     let reads = g.R.Source.shown in
     let kept = c.loop-trial.invariant in
     let so_far = kept.so_far in
     let first = c.in_ok-fitted.ensures.tried.tells in
-    let few : greatest_size / (2 * c.loop-trial.step) ≤ c.max-first.result = ltb-false c.max-first.result (greatest_size / (2 * c.loop-trial.step)) (sym c.is_range_behind.ensures ∙ c.if-is_range_behind.false) in
+    let few : greatest_size / (2 * c.loop-trial.step) ≤ c.max-first.result = ltb-false c.max-first.result (greatest_size / (2 * c.loop-trial.step)) (sym c.has_range_behind.ensures ∙ c.if-has_range_behind.false) in
     record {
       tells = (
         first.0 + kept.begun.0,
         (
           omega (arith, kept.begun.1, first.1.0, c.default.ensures.1.1.0),
           ended c.args.trial.front c.args.trial.records c.args.trial.many c.args.step c.max-first.result c.args.peak so_far.0 (reads c.try_range.new.reader).whole (reads c.args.reader.now).whole so_far.1 so_far.2 c.loop-trial.fitted
-              c.in_ok-fitted.ensures.whole (c.max-first.ensures ∙ ap (λ n. max n 1) c.div_ceil.ensures) so_far.4 so_far.5 so_far.6 so_far.7 (inr (no_range c.args.step c.loop-trial.step c.max-first.result so_far.0 so_far.3 few)),
+              c.in_ok-fitted.ensures.whole (c.max-first.ensures ∙ ap (λ n. max n 1) (c.div_ceil.ensures ∙ ap (div_ceil c.args.peak) c.bytes.ensures.value)) so_far.4 so_far.5 so_far.6 so_far.7 (inr (no_range c.args.step c.loop-trial.step c.max-first.result so_far.0 so_far.3 few)),
         ),
         begun-then first.0 kept.begun.0 (reads c.args.reader.now).calls (reads c.try_range.new.reader).calls (reads c.loop-trial.reader).calls first.2 kept.begun.2,
       );
@@ -168,7 +181,7 @@ returns-after-loop-trial g c =
         (
           omega (arith, kept.begun.1, first.1.0, c.default.ensures.1.1.0),
           ended c.args.trial.front c.args.trial.records c.args.trial.many c.args.step c.max-first.result c.args.peak so_far.0 (reads c.try_range.new.reader).whole (reads c.args.reader.now).whole so_far.1 so_far.2 c.loop-trial.fitted
-              c.in_ok-fitted.ensures.whole (c.max-first.ensures ∙ ap (λ n. max n 1) c.div_ceil.ensures) so_far.4 so_far.5 so_far.6 so_far.7 (inl (some_is c.loop-trial.fitted.least (c.is_none.ensures ∙ ap not c.loop-trial-test.false))),
+              c.in_ok-fitted.ensures.whole (c.max-first.ensures ∙ ap (λ n. max n 1) (c.div_ceil.ensures ∙ ap (div_ceil c.args.peak) c.bytes.ensures.value)) so_far.4 so_far.5 so_far.6 so_far.7 (inl (some_is c.loop-trial.fitted.least (c.is_none.ensures ∙ ap not c.loop-trial-test.false))),
         ),
         begun-then first.0 kept.begun.0 (reads c.args.reader.now).calls (reads c.try_range.new.reader).calls (reads c.loop-trial.reader).calls first.2 kept.begun.2,
       );
