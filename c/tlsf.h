@@ -241,7 +241,7 @@ enum tlsf_fault_kind {
     TLSF_FAULT_NO_HEAP = 1, /* there is no heap, or the first 8 bytes of its start were changed */
     TLSF_FAULT_CONTROL = 2, /* a byte of the heap's start, in front of its table */
     TLSF_FAULT_TABLE = 3,   /* a byte of the table, of no one block: its head, a list's head, a
-                               vacant record */
+                               vacant record, a link that means nothing */
     TLSF_FAULT_RECORD = 4,  /* the block's record tells another place, size or state, or there is
                                none */
     TLSF_FAULT_CHAIN = 5,   /* the block's record leads to other neighbours */

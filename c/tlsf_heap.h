@@ -269,10 +269,11 @@ enum tlsf_status tlsf_heap_walk(const tlsf_heap *heap, uint64_t base, uint64_t f
 
 /* Whether the table is whole: its blocks, lists, bitmaps and pools, and the chain of its vacant
  * records. It is proved that the heap's calls keep it whole. Where this answers false, something
- * else wrote over the table. Then only tlsf_heap_destroy may be called. The call doesn't look at
- * bytes that mean nothing, for example those of a vacant record except its link. It trusts the
- * address and the length of the table in the heap's own bytes. It reads each record, so it isn't
- * for a path that has to be quick. */
+ * else wrote over the table. Then only tlsf_heap_destroy may be called. Of bytes that mean nothing,
+ * for example those of a vacant record except its link, the call asks this alone: each place is a
+ * multiple of 16, and each link is none or a record's number. It trusts the address and the length
+ * of the table in the heap's own bytes. It reads each record, so it isn't for a path that has to be
+ * quick. */
 bool tlsf_heap_check(const tlsf_heap *heap);
 
 /* Puts an image of the heap into the `room` bytes at bytes, or as much of it as there is room for.

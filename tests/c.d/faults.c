@@ -126,7 +126,8 @@ static tlsf_fault told(unsigned char *at, int bit, bool *is_wrong)
 }
 
 /* Each bit of a block's record: its place, size, state and neighbours name that block. The links of
- * a free block's list name a free block; those of a live one mean nothing. */
+ * a free block's list name a free block. Those of a live one mean nothing, so they are told of the
+ * table where they are no slots, and else not. */
 static bool is_told_of(unsigned char *record)
 {
     const struct walked *block = block_of(record);
@@ -142,7 +143,7 @@ static bool is_told_of(unsigned char *record)
             } else if (state_of(record) == FREE) {
                 good = wrong && fault.what == TLSF_FAULT_LIST && fault.block != NULL;
             } else {
-                good = !wrong;
+                good = !wrong || names_none(&fault, TLSF_FAULT_TABLE);
             }
         }
     }

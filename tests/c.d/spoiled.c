@@ -1,7 +1,8 @@
 /* Tables with one byte spoiled. tlsf_heap_check is false exactly where that byte changed what a
- * record means. Where it didn't, every later call answers as without it. The table is the first
- * memory that tlsf_heap_create takes. A record has sixteen bytes: place, size with the state in its
- * low four bits, previous, next, previous free and next free. */
+ * record means, or where the record can be no table's: its place is no multiple of 16, or one of
+ * its links is no slot. Where it changed no meaning, every later call answers as without it. The
+ * table is the first memory that tlsf_heap_create takes. A record has sixteen bytes: place, size
+ * with the state in its low four bits, previous, next, previous free and next free. */
 #include <string.h>
 
 #include "cases.h"
@@ -77,8 +78,21 @@ static void meaning(const unsigned char *record, unsigned char told[RECORD])
     }
 }
 
-/* Spoils a byte in each of nine ways: whether check tells each that means something and no other,
- * and calls go on alike. */
+/* Whether a table can have the record, whatever it means: its place is a multiple of 16, and each
+ * link is none or a slot. */
+static bool is_kept(const unsigned char *record)
+{
+    uint16_t links[4];
+    bool kept = record[0] % 16 == 0;
+    memcpy(links, record + 8, sizeof links);
+    for (unsigned k = 0; k < 4; k++) {
+        kept = kept && (links[k] == 65535 || links[k] < RECORDS);
+    }
+    return kept;
+}
+
+/* Spoils a byte in each of nine ways: whether check tells each that means something, and each with
+ * which the record can be no table's, and no other, and calls go on alike. */
 static bool byte_is_told(tlsf_heap *heap, const struct run *before, uint64_t wanted, size_t at)
 {
     for (unsigned way = 0; way <= 8; way++) {
@@ -88,13 +102,14 @@ static bool byte_is_told(tlsf_heap *heap, const struct run *before, uint64_t wan
         memory[at] ^= way < 8 ? 1u << way : 255u;
         meaning(memory + at / RECORD * RECORD, is);
         bool same = memcmp(was, is, RECORD) == 0;
-        if (tlsf_heap_check(heap) != same) {
+        bool whole = same && is_kept(memory + at / RECORD * RECORD);
+        if (tlsf_heap_check(heap) != whole) {
             return false;
         }
         struct run after = *before;
         if (same) {
             calls(heap, &after, 4711, CALLS);
-            if (after.answers != wanted || !tlsf_heap_check(heap)) {
+            if (after.answers != wanted || (whole && !tlsf_heap_check(heap))) {
                 return false;
             }
         }
