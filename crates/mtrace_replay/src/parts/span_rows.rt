@@ -2,6 +2,7 @@
 
 ghost use Rattle.std.specs.Prelude.{◌≡◌, ℕ, ◌+◌, ◌-◌, ◌^◌, ◌<◌, ◌≤◌, ◌++◌, slice_index_or, length, map, Some, OnOk, IfOk};
 ghost use Rattle.std.specs.List.{All};
+ghost use Rattle.mtrace_replay.specs.Parts.{size_ranges};
 ghost use Rattle.mtrace_replay.specs.Span.{with_block, released, one_more, one_less};
 ghost use Rattle.mtrace_replay.specs.declared.parts.span.Span.{Span as OneSpan};
 ghost use Rattle.mtrace_replay.specs.SpanRows.{ChangesBetween, blank_row, blank_rows};
@@ -17,8 +18,8 @@ use std::marker::Model;
 ///
 /// `AllocError` where memory is refused.
 fn push_row(spans: &mut Vec<Span>, first: u8) -> Result<(), AllocError>
-    requires { first < 27 }
-    ensures { OnOk result (spans.new.items ≡ spans.old.items ++ blank_row (27 - first) first first) }
+    requires { first < size_ranges }
+    ensures { OnOk result (spans.new.items ≡ spans.old.items ++ blank_row (size_ranges - first) first first) }
 {
     for last in first..RANGES {
         spans.push(Span {
@@ -63,13 +64,14 @@ pub(crate) struct SpanRows {
 impl Model for SpanRows {
     ghost use Rattle.std.specs.Prelude.{List};
     ghost use Rattle.mtrace_replay.specs.declared.parts.span.Span.{Span as OneSpan};
+    ghost use Rattle.mtrace_replay.specs.Parts.{size_ranges};
     ghost use Rattle.mtrace_replay.specs.SpanRows.{AreRows};
 
     ghost Value = { List OneSpan };
 
     ghost view = { λ s. s.all.items };
 
-    ghost invariant = { λ s. AreRows 27 0 s.all.items };
+    ghost invariant = { λ s. AreRows size_ranges 0 s.all.items };
 }
 
 impl SpanRows {
@@ -79,7 +81,7 @@ impl SpanRows {
     ///
     /// `AllocError` where memory is refused.
     pub(crate) fn new(alloc: Global) -> Result<SpanRows, AllocError>
-        ensures { IfOk result (λ rows. rows ≡ blank_rows 27 0) }
+        ensures { IfOk result (λ rows. rows ≡ blank_rows size_ranges 0) }
     {
         let mut all = Vec::new(alloc);
         for first in 0..RANGES {

@@ -1,12 +1,11 @@
 //! The spans of all neighbouring ranges, and the range of each block that is held.
 
-ghost use Rattle.std.specs.Prelude.{◌≡◌, ℕ, [], ◌+◌, ◌^◌, ◌<◌, ◌≤◌, ◌==◌, map, Some, None, OnOk, OnErr, IfOk, if◌then◌else◌};
+ghost use Rattle.std.specs.Prelude.{◌≡◌, ℕ, [], ◌+◌, ◌^◌, ◌<◌, ◌==◌, map, Some, None, OnOk, OnErr, IfOk, if◌then◌else◌};
 ghost use Rattle.std.specs.Prelude.{nat_eq};
 ghost use Rattle.std.specs.HashMap.{get};
-ghost use Rattle.std.specs.List.{All, Contains};
-ghost use Rattle.mtrace_replay.specs.Parts.{size_ranges, range_of};
-ghost use Rattle.mtrace_replay.specs.declared.parts.span.Span.{Span};
-ghost use Rattle.mtrace_replay.specs.Span.{with_block, released, blank, IsBlank};
+ghost use Rattle.std.specs.List.{All};
+ghost use Rattle.mtrace_replay.specs.Parts.{range_of};
+ghost use Rattle.mtrace_replay.specs.Span.{with_block, released};
 ghost use Rattle.mtrace_replay.specs.Spans.{AreCounted, given_all, given_range, range_released, unless_released};
 
 use super::range::range_of;

@@ -1,6 +1,6 @@
 //! The run that tells how large a pool a log needs.
 
-ghost use Rattle.std.specs.Prelude.{◌≡◌, ◌+◌, ◌-◌, ◌*◌, ◌/◌, ◌%◌, ◌^◌, ◌<◌, ◌≤◌, ◌++◌, nat_lt, false, List, reverse, IfOk, OnOk};
+ghost use Rattle.std.specs.Prelude.{◌≡◌, ◌+◌, ◌-◌, ◌/◌, ◌^◌, ◌<◌, ◌≤◌, ◌++◌, false, List, reverse, IfOk, OnOk};
 ghost use Rattle.tlsf_class.specs.Classes.{greatest_size};
 ghost use Rattle.mtrace_replay.specs.Course.{course};
 ghost use Rattle.mtrace_replay.specs.Again.{FailsAgain};
@@ -10,7 +10,7 @@ ghost use Rattle.mtrace_replay.specs.Started.{started};
 ghost use Rattle.mtrace_replay.specs.Replay.{StandsFor};
 ghost use Rattle.mtrace_replay.specs.Needs.{AreNeeds};
 ghost use Rattle.mtrace_replay.specs.Settings.{are_bad};
-ghost use Rattle.mtrace_replay.specs.Fit.{one_pool, greatest_settings, enough_records, is_bad_step, step_of, first_number, last_number, multiples, Verdict, fitted as fitted_by};
+ghost use Rattle.mtrace_replay.specs.Fit.{one_pool, greatest_settings, enough_records, is_bad_step, first_number, multiples, Verdict, fitted as fitted_by};
 ghost use Rattle.mtrace_replay.specs.RunFit.{IsTried, TriesLog, AreVerdicts, TriesRanges, TellsFit, ReadsAgain, FitFollows, RunsFit};
 
 use crate::heap::replay::Replay;
