@@ -136,7 +136,7 @@ fn restart(rt: &impl Abort, store: &mut Store) {
     assert_eq!(rt; (store.records(), store.vacant()), (2, 2));
     assert_eq!(rt; store.pool(7), None);
     assert_eq!(rt; store.level_word(), 0);
-    assert!(rt; has_kept_words(&store));
+    assert!(rt; has_kept_words(store));
 }
 
 #[test]
