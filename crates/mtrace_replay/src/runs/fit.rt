@@ -211,9 +211,9 @@ fn tell_fit<R: Again, W: Sink, T: Watch>(
 /// lines as the first. Last comes the size of the pool that is always enough within the log's most blocks, bytes and class. The
 /// writer is flushed once more. What watches the run learns how many sizes are going to be tried.
 ///
-/// Each request has `front` bytes more than the log tells, but at most 2^64 - 1, in each number that is told: so many as a heap keeps in
-/// front of each block. Without a step, that is the least multiple of the unit from a 64th of the peak on. Memory is taken at the start alone, for one
-/// replay, which is made anew for each size.
+/// Each request counts with `front` bytes more than the log tells, but at most 2^64 - 1. These are the bytes that a heap keeps in front
+/// of each block. Where no step is given, it is the least multiple of the unit from a 64th of the peak on. Memory is taken at the start
+/// alone, for one replay, which is made anew for each size.
 ///
 /// # Errors
 ///

@@ -32,7 +32,7 @@ use Rattle.tlsf_heap.proofs.Meaning.FreeFirst.{past_free, free_first}
 the_le : (a b : ℕ) → a ≡ b → a ≤ b
 the_le a b same = omega arith
 
--- The bytes of the next block, where so many more come before the last one, which together have the bytes that are left.
+-- The bytes of the next block. `more` blocks follow it before the last one, and all of them have the `left` bytes.
 record Share (size more left : ℕ) : Type 0 where
   m : ℕ
   whole : m % unit ≡ 0
@@ -71,7 +71,7 @@ share size more left some whole left_whole least most = elim (cases_lt left (siz
   }
 ]
 
--- the bytes at the end of the pool, where so many blocks more come before the last one
+-- the bytes at the end of the pool, where `more` blocks come before the last one
 abbrev pub end_bytes : (size more left : ℕ) → ℕ
 end_bytes size more left = left + more * (size - unit) + (size + (size - unit) + (size - unit))
 
@@ -127,7 +127,7 @@ module _ (blocks bytes size : ℕ) (lacks : Type 0) where
     positive = omega (arith, some)
 
     module _ (base pool count : ℕ) (many : 2 * blocks + 3 ≤ count) where
-      -- What stands in front of the rest: j live blocks with so many bytes, of slots below j, and free ones that are too small. The
+      -- What stands in front of the rest: j live blocks of `held` bytes, of slots below j, and free ones that are too small. The
       -- nearest isn't free.
       pub record IsFront (j held : ℕ) (before : List (Block ℕ)) : Type 0 where
         pub below : AllByRecursion (IsBelow base pool count size lowest positive) before
@@ -327,7 +327,7 @@ module _ (blocks bytes size : ℕ) (lacks : Type 0) where
               slot_few : j < here.records
               slot_few = omega (arith, laid_behind.records, many, less)
 
-      -- from where so many more blocks are to be laid before the last one, of the bytes that are left
+      -- from where `more` blocks are to be laid before the last one, of the bytes that are left
       abbrev pub Lays : ℕ → Type 0
       Lays more = (left j held : ℕ) → suc (j + more) ≡ blocks → held + left + size ≡ bytes → left % unit ≡ 0 → more * unit ≤ left → left ≤ more * size
           → (place : ℕ) (before : List (Block ℕ)) (content : Content ℕ) → Ends before (rest_at place (end_bytes size more left) ∷ []) content → IsFront j held before → Refuses content
